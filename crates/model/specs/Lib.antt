@@ -1,0 +1,15 @@
+pub mod Base
+pub mod Flags
+pub mod Representation
+pub mod Sets
+pub mod Refusals
+pub mod Calls
+pub mod StateRules
+pub mod RangedStates
+pub mod Texture
+pub mod RangeCalls
+pub mod Subresources
+pub mod WellFormed
+pub mod Log
+pub mod Samples
+pub mod Edges

@@ -1,0 +1,98 @@
+-- The log (01: the Rust's `temp`), and the calls whole: what is lent is checked first, and the room of the log last.
+use mathlib.Core.Bool.{Bool, not}
+use mathlib.Core.List.{List, [], _∷_, _++_, map}
+use mathlib.Core.Option.{Option, none, some}
+use Prim.Native.Nat.{ℕ, _+_, _-_}
+use lib.Dec.{ltb}
+use lib.ListN.{length, take, drop}
+use Rattle.model.specs.declared.PendingTransition.{PendingTransition}
+use Rattle.model.specs.declared.LogHead.{LogHead}
+use Rattle.model.specs.declared.InvalidUse.{InvalidUse}
+use Rattle.model.specs.declared.Refusal.{Refusal}
+use Rattle.model.specs.declared.Refusal.the-variants.{NotWellFormed, LogTooShort, NoFreeEntry}
+use Rattle.model.specs.declared.Outcome.{Outcome}
+use Rattle.model.specs.declared.Outcome.the-variants.{Done, Refused, Conflict}
+use Rattle.model.specs.Base.{each}
+use Rattle.model.specs.Refusals.{Check, check, firstFailing, trackerIndex}
+use Rattle.model.specs.Calls.{Indexed, Answer, done, refused, inConflict, CallResult, unless}
+use Rattle.model.specs.Texture.{Entry}
+
+-- ---- The answer of a public call
+abbrev pub outcomeOf : Answer InvalidUse → Outcome
+outcomeOf done = Done
+outcomeOf (refused r) = Refused r
+outcomeOf (inConflict c) = Conflict (record { index = trackerIndex (c .index); found = c .what })
+
+-- ---- A log: every entry that was lent, and the head
+pub record Log : Type 0 where
+  pub entries : List PendingTransition
+  pub head : LogHead
+
+-- what a call adds, as entries in their order
+abbrev pub pendingOf : Indexed (List Entry) → List PendingTransition
+pendingOf x =
+    map (λ (e : Entry). record { index = trackerIndex (x .index); selector = e .selector; old = e .move .old; new = e .move .new }) (x .what)
+
+abbrev pub pending : List (Indexed (List Entry)) → List PendingTransition
+pending log = each pendingOf log
+
+-- "calls add after what is written"
+abbrev pub added : List PendingTransition → Log → Log
+added new log =
+    let w = log .head .written in record {
+      entries = take w (log .entries) ++ (new ++ drop (w + length new) (log .entries));
+      head = record { written = w + length new; free = log .head .free - length new };
+    }
+
+-- ---- 4, 5 and 15
+-- "a set is not sound"
+abbrev pub setsCheck : Bool → Check
+setsCheck fits = check (not fits) NotWellFormed
+
+-- "the log's head tells more entries, written and free together, than were lent"
+abbrev pub headCheck : Log → Check
+headCheck log = check (ltb (length (log .entries)) (log .head .written + log .head .free)) LogTooShort
+
+-- "the result needs more entries than are free"
+abbrev pub freeCheck : ℕ → Log → Check
+freeCheck needed log = check (ltb (log .head .free) needed) NoFreeEntry
+
+-- ---- A merge, handed sets of which `fits` says whether all are well formed
+unfoldable pub merging : {X : Type 0} → Bool → X → CallResult InvalidUse (List Entry) X → CallResult InvalidUse (List Entry) X
+unfolding firstFailing
+merging fits was r = unless (firstFailing (setsCheck fits ∷ [])) was r
+
+-- ---- A tracker's call, handed such sets and a log
+pub record Logged (X : Type 0) : Type 0 where
+  pub answer : Answer InvalidUse
+  pub log : Log
+  pub after : X
+
+abbrev pub unlessLogged : {X : Type 0} → Option Refusal → Log → X → Logged X → Logged X
+unlessLogged (some r) log was out = record { answer = refused r; log = log; after = was }
+unlessLogged none log was out = out
+
+-- the call's own refusals stand between 5 and 15
+abbrev pub refusalOf : {C : Type 0} → Answer C → List Check → Option Refusal
+refusalOf done more = firstFailing more
+refusalOf (refused r) more = some r
+refusalOf (inConflict c) more = firstFailing more
+
+abbrev pub orNext : Option Refusal → Option Refusal → Option Refusal
+orNext (some r) next = some r
+orNext none next = next
+
+unfoldable pub logging : {X : Type 0} → Bool → Log → X → CallResult InvalidUse (List Entry) X → Logged X
+unfolding firstFailing
+logging fits log was r =
+    let new = pending (r .log) in
+    unlessLogged (orNext (firstFailing (setsCheck fits ∷ headCheck log ∷ [])) (refusalOf (r .answer) (freeCheck (length new) log ∷ []))) log was
+    (record { answer = r .answer; log = added new log; after = r .after })
+
+-- ---- Emptying: "free gains what was written, written becomes 0, entries stay"
+abbrev pub emptied : Log → Log
+emptied log = record { entries = log .entries; head = record { written = 0; free = log .head .free + log .head .written } }
+
+unfoldable pub emptying : Log → Logged (Unit {0})
+unfolding firstFailing
+emptying log = unlessLogged (firstFailing (headCheck log ∷ [])) log tt (record { answer = done; log = emptied log; after = tt })

@@ -1,0 +1,72 @@
+-- 01, "Strips": the three calls on a lent run of range records, of which the first `told` are in use.
+use mathlib.Core.Bool.{Bool, true, _&&_, _||_, not}
+use mathlib.Core.List.{List, [], _∷_, _++_}
+use mathlib.Core.Option.{Option, none, some}
+use Prim.Native.Nat.{ℕ, _-_}
+use lib.Dec.{leb, ltb}
+use lib.ListN.{length, take, drop, replicate}
+use Rattle.model.specs.declared.Range.{Range}
+use Rattle.model.specs.declared.Refusal.{Refusal}
+use Rattle.model.specs.declared.Refusal.the-variants.{SelectorEmpty, RangesOutOfOrder, NoFreeEntry}
+use Rattle.model.specs.Refusals.{Check, check, firstFailing}
+use Rattle.model.specs.RangedStates.{range, Cut, listOf, isolate, coalesce, iterFilter}
+
+-- no range is empty, out of order or overlaps
+abbrev pub ascends : ℕ → List Range → Bool
+ascends from [] = true
+ascends from (r ∷ s) = leb from (r .start) && ltb (r .start) (r .end) && ascends (r .end) s
+
+-- ---- "Strip calls use only 10, 14 and 15, in the table's order, with any 32-bit ends."
+-- 10: "mips or layers have start not below end"
+abbrev pub indexCheck : ℕ → ℕ → Check
+indexCheck a e = check (not (ltb a e)) SelectorEmpty
+
+-- 14: "its told length passes what was lent, or a range is empty, out of order or overlaps"
+abbrev pub rangesCheck : ℕ → List Range → Check
+rangesCheck told rs = check (ltb (length rs) told || not (ascends 0 (take told rs))) RangesOutOfOrder
+
+-- 15: "the result needs more entries than are free"
+abbrev pub roomCheck : ℕ → ℕ → Check
+roomCheck needed lent = check (ltb lent needed) NoFreeEntry
+
+-- ---- `isolate`: the run's position and count, the new length, and the records after it
+pub record Isolated : Type 0 where
+  pub position : ℕ
+  pub count : ℕ
+  pub told : ℕ
+  pub records : List Range
+
+abbrev pub isolateRefusal : ℕ → ℕ → ℕ → ℕ → List Range → Option Refusal
+isolateRefusal a e d told rs =
+    firstFailing (indexCheck a e ∷ rangesCheck told rs ∷ roomCheck (length (listOf (isolate a e d (take told rs)))) (length rs) ∷ [])
+
+abbrev pub isolated : ℕ → ℕ → ℕ → ℕ → List Range → Isolated
+isolated a e d told rs =
+    let c = isolate a e d (take told rs) in let n = length (listOf c) in
+    record { position = length (c .before); count = length (c .run); told = n; records = listOf c ++ drop n rs }
+
+-- ---- `coalesce`: "records it frees become zeros"
+pub record Coalesced : Type 0 where
+  pub told : ℕ
+  pub records : List Range
+
+abbrev pub coalesceRefusal : ℕ → List Range → Option Refusal
+coalesceRefusal told rs = firstFailing (rangesCheck told rs ∷ [])
+
+abbrev pub coalesced : ℕ → List Range → Coalesced
+coalesced told rs =
+    let s = coalesce (take told rs) in
+    record { told = length s; records = s ++ (replicate (told - length s) (range 0 0 0) ++ drop told rs) }
+
+-- ---- `iter_filter`: "lists overlaps clipped into a second lent run, from its first record on, and tells how many; the strip stays"
+pub record Filtered : Type 0 where
+  pub count : ℕ
+  pub output : List Range
+
+abbrev pub filterRefusal : ℕ → ℕ → ℕ → List Range → List Range → Option Refusal
+filterRefusal a e told rs out =
+    firstFailing (indexCheck a e ∷ rangesCheck told rs ∷ roomCheck (length (iterFilter a e (take told rs))) (length out) ∷ [])
+
+abbrev pub filtered : ℕ → ℕ → ℕ → List Range → List Range → Filtered
+filtered a e told rs out =
+    let s = iterFilter a e (take told rs) in record { count = length s; output = s ++ drop (length s) out }

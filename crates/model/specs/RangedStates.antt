@@ -1,0 +1,95 @@
+-- range.rs on plain lists: `RangedStates` (01: a strip) is a list of ranges, each with a state.
+use mathlib.Core.Bool.{Bool, _&&_}
+use mathlib.Core.List.{List, [], _∷_, _++_, map}
+use mathlib.Core.Path.{_≡_}
+use Prim.Native.Nat.{ℕ, _-_, min, max, _<_}
+use lib.Dec.{leb, ltb, eqb}
+use lib.ListN.{replicate}
+use Rattle.model.specs.declared.Range.{Range}
+use Rattle.model.specs.Base.{if_then_else_}
+
+abbrev pub range : ℕ → ℕ → ℕ → Range
+range a e s = record { start = a; end = e; state = s }
+
+-- ---- `coalesce` joins touching equals
+abbrev pub joins : Range → Range → Bool
+joins r n = eqb (r .end) (n .start) && eqb (r .state) (n .state)
+
+unfoldable pub coalesceFrom : Range → List Range → List Range
+coalesceFrom cur [] = cur ∷ []
+coalesceFrom cur (n ∷ s) = if joins cur n then coalesceFrom (range (cur .start) (n .end) (cur .state)) s else cur ∷ coalesceFrom n s
+
+unfoldable pub coalesce : List Range → List Range
+unfolding coalesceFrom
+coalesce [] = []
+coalesce (r ∷ s) = coalesceFrom r s
+
+-- ---- `iter_filter` "lists overlaps clipped"
+unfoldable pub iterFilter : ℕ → ℕ → List Range → List Range
+iterFilter a e [] = []
+iterFilter a e (r ∷ s) =
+    let rest = iterFilter a e s in
+    if ltb a (r .end) && ltb (r .start) e then range (max (r .start) a) (min (r .end) e) (r .state) ∷ rest else rest
+
+-- ---- `isolate` "makes the index a run of ranges of its own, gaps filled with the default": before, the run of a .. e, and after
+pub record Cut : Type 0 where
+  pub before : List Range
+  pub run : List Range
+  pub after : List Range
+
+-- the list after it; the run's position is the length of `before`
+abbrev pub listOf : Cut → List Range
+listOf c = c .before ++ (c .run ++ c .after)
+
+abbrev pub withBefore : Range → Cut → Cut
+withBefore r c = record { before = r ∷ c .before; run = c .run; after = c .after }
+
+-- the run and what follows it, from a place on
+pub record Rest : Type 0 where
+  pub run : List Range
+  pub after : List Range
+
+abbrev pub rest : List Range → List Range → Rest
+rest x y = record { run = x; after = y }
+
+abbrev pub withRun : List Range → Rest → Rest
+withRun rs c = rest (rs ++ c .run) (c .after)
+
+abbrev pub cutAt : List Range → Rest → Cut
+cutAt b c = record { before = b; run = c .run; after = c .after }
+
+-- the loop: p is `range_pos`, where the run has come to
+unfoldable pub isolateFrom : ℕ → ℕ → ℕ → List Range → Rest
+isolateFrom p e d [] = rest (range p e d ∷ []) []
+isolateFrom p e d (r ∷ s) =
+    if leb e (r .start) then rest (range p e d ∷ []) (r ∷ s)
+    else withRun (if ltb p (r .start) then range p (r .start) d ∷ [] else [])
+    (if ltb e (r .end) then rest (range (max p (r .start)) e (r .state) ∷ []) (range e (r .end) (r .state) ∷ s)
+    else if eqb e (r .end) then rest (r ∷ []) s
+    else withRun (r ∷ []) (isolateFrom (r .end) e d s))
+
+unfoldable pub isolate : ℕ → ℕ → ℕ → List Range → Cut
+unfolding isolateFrom
+isolate a e d [] = cutAt [] (isolateFrom a e d [])
+isolate a e d (r ∷ s) =
+    if leb (r .end) a then withBefore r (isolate a e d s)
+    else if ltb (r .start) a then cutAt (range (r .start) a (r .state) ∷ []) (isolateFrom a e d (range a (r .end) (r .state) ∷ s))
+    else cutAt [] (isolateFrom a e d (r ∷ s))
+
+-- ---- the run of a .. e takes one state: what `insert` and `update` do with an isolated run
+abbrev pub inState : ℕ → Range → Range
+inState st r = range (r .start) (r .end) st
+
+unfoldable pub paint : ℕ → ℕ → ℕ → ℕ → List Range → List Range
+unfolding isolate
+paint unknown a e st s = let c = isolate a e unknown s in c .before ++ (map (inState st) (c .run) ++ c .after)
+
+-- ---- "a cell has the state of the range with its layer": one state a layer
+unfoldable pub layerStates : List Range → List ℕ
+layerStates [] = []
+layerStates (r ∷ s) = replicate (r .end - r .start) (r .state) ++ layerStates s
+
+-- ---- "tiles layer 0 to the last with nonempty ascending ranges"
+abbrev pub Tiles : ℕ → List Range → ℕ → Type 0
+Tiles a [] e = a ≡ e
+Tiles a (r ∷ s) e = (r .start ≡ a) × (a < r .end) × Tiles (r .end) s e

@@ -1,0 +1,146 @@
+-- 01, "Turned away": each check is whether it fails, with the refusal that is then the answer, in the table's order.
+use mathlib.Core.Bool.{Bool, true, false, _&&_, _||_, not}
+use mathlib.Core.List.{List, [], _∷_, _++_}
+use mathlib.Core.Option.{Option, none, some}
+use Prim.Native.Nat.{ℕ}
+use lib.Dec.{ltb, eqb}
+use lib.ListN.{getD}
+use Rattle.model.specs.declared.UsageFlags.{UsageFlags}
+use Rattle.model.specs.declared.Extent.{Extent}
+use Rattle.model.specs.declared.Selector.{Selector}
+use Rattle.model.specs.declared.TrackerIndex.{TrackerIndex}
+use Rattle.model.specs.declared.Refusal.{Refusal}
+use Rattle.model.specs.declared.Refusal.the-variants.{NumbersOutOfLimits, FlagsBreakRule, ShortRoom, NotWellFormed, LogTooShort, FlagsDiffer, NoSuchIndex, ExtentOutOfLimits, ExtentDiffers, SelectorEmpty, SelectorPastExtent, StateReserved, StateIncompatible, RangesOutOfOrder, NoFreeEntry}
+use Rattle.model.specs.Base.{if_then_else_, each, eachAt}
+use Rattle.model.specs.Flags.{meets, incompatible, flagsFit, sameFlags}
+use Rattle.model.specs.Representation.{mipStart, mipEnd, layerStart, layerEnd}
+use Rattle.model.specs.Sets.{Numbers, Head, Opening, outside, numbersFit, capacity}
+
+-- ---- 01's number and place of a refusal: "the index for 7 to 9, otherwise 0"
+abbrev pub numberOf : Refusal → ℕ
+numberOf NumbersOutOfLimits = 1
+numberOf FlagsBreakRule = 2
+numberOf ShortRoom = 3
+numberOf NotWellFormed = 4
+numberOf LogTooShort = 5
+numberOf FlagsDiffer = 6
+numberOf (NoSuchIndex i) = 7
+numberOf (ExtentOutOfLimits i) = 8
+numberOf (ExtentDiffers i) = 9
+numberOf SelectorEmpty = 10
+numberOf SelectorPastExtent = 11
+numberOf StateReserved = 12
+numberOf StateIncompatible = 13
+numberOf RangesOutOfOrder = 14
+numberOf NoFreeEntry = 15
+
+abbrev pub placeOf : Refusal → ℕ
+placeOf NumbersOutOfLimits = 0
+placeOf FlagsBreakRule = 0
+placeOf ShortRoom = 0
+placeOf NotWellFormed = 0
+placeOf LogTooShort = 0
+placeOf FlagsDiffer = 0
+placeOf (NoSuchIndex i) = i .0
+placeOf (ExtentOutOfLimits i) = i .0
+placeOf (ExtentDiffers i) = i .0
+placeOf SelectorEmpty = 0
+placeOf SelectorPastExtent = 0
+placeOf StateReserved = 0
+placeOf StateIncompatible = 0
+placeOf RangesOutOfOrder = 0
+placeOf NoFreeEntry = 0
+
+-- ---- "Checked top to bottom."
+pub record Check : Type 0 where
+  pub fails : Bool
+  pub answer : Refusal
+
+abbrev pub check : Bool → Refusal → Check
+check b r = record { fails = b; answer = r }
+
+unfoldable pub firstFailing : List Check → Option Refusal
+firstFailing [] = none
+firstFailing (c ∷ cs) = if c .fails then some (c .answer) else firstFailing cs
+
+-- ---- 1, 2, 3: opening
+abbrev pub openingChecks : Opening → List Check
+openingChecks o =
+    check (not (numbersFit (o .numbers))) NumbersOutOfLimits
+    ∷ check (not (flagsFit (o .flags))) FlagsBreakRule
+    ∷ check (ltb (o .room) (capacity (o .numbers))) ShortRoom
+    ∷ []
+
+unfoldable pub openingRefusal : Opening → Option Refusal
+unfolding flagsFit firstFailing
+openingRefusal o = firstFailing (openingChecks o)
+
+abbrev pub accepted : Option Refusal → Bool
+accepted none = true
+accepted (some r) = false
+
+abbrev pub opens : Opening → Bool
+opens o = accepted (openingRefusal o)
+
+-- ---- 6: two sets
+abbrev pub flagsCheck : Head → Head → Check
+flagsCheck into given = check (not (sameFlags (into .flags) (given .flags))) FlagsDiffer
+
+-- ---- 7, 8, 9: a texture
+abbrev pub trackerIndex : ℕ → TrackerIndex
+trackerIndex i = record { 0 = i }
+
+abbrev pub sameExtent : Extent → Extent → Bool
+sameExtent a b = eqb (a .mips) (b .mips) && eqb (a .layers) (b .layers)
+
+abbrev pub otherExtent : Option Extent → Extent → Bool
+otherExtent none sh = false
+otherExtent (some own) sh = not (sameExtent own sh)
+
+-- "mips are not 1 to M, or layers not 1 to W"
+abbrev pub extentOutside : Numbers → Extent → Bool
+extentOutside n sh = outside (sh .mips) (n .mips) || outside (sh .layers) (n .layers)
+
+abbrev pub textureChecks : Head → ℕ → Extent → List Check
+textureChecks h i sh =
+    check (not (ltb i (h .numbers .textures))) (NoSuchIndex (trackerIndex i))
+    ∷ check (extentOutside (h .numbers) sh) (ExtentOutOfLimits (trackerIndex i))
+    ∷ check (otherExtent (getD (h .extents) i none) sh) (ExtentDiffers (trackerIndex i))
+    ∷ []
+
+-- ---- 10, 11: a selector, if one is given
+abbrev pub selectorEmpty : Selector → Bool
+selectorEmpty q = not (ltb (mipStart q) (mipEnd q) && ltb (layerStart q) (layerEnd q))
+
+abbrev pub selectorPast : Extent → Selector → Bool
+selectorPast sh q = ltb (sh .mips) (mipEnd q) || ltb (sh .layers) (layerEnd q)
+
+abbrev pub selectorChecks : Extent → Option Selector → List Check
+selectorChecks sh none = []
+selectorChecks sh (some q) = check (selectorEmpty q) SelectorEmpty ∷ check (selectorPast sh q) SelectorPastExtent ∷ []
+
+-- ---- 12, 13: a state
+abbrev pub stateReserved : UsageFlags → ℕ → Bool
+stateReserved p st = eqb st 0 || meets st (p .unknown) || meets st (p .complex)
+
+abbrev pub stateChecks : UsageFlags → ℕ → List Check
+stateChecks p st = check (stateReserved p st) StateReserved ∷ check (incompatible p st) StateIncompatible ∷ []
+
+-- ---- A call on one texture
+abbrev pub singleRefusal : Head → ℕ → Extent → Option Selector → ℕ → Option Refusal
+singleRefusal h i sh sel st = firstFailing (textureChecks h i sh ++ selectorChecks sh sel ++ stateChecks (h .flags) st)
+
+-- ---- "Calls over a whole set check 7, 8, 9 for each owned index, ascending, before any change."
+abbrev pub ownedChecks : Head → ℕ → Option Extent → List Check
+ownedChecks h i none = []
+ownedChecks h i (some sh) = textureChecks h i sh
+
+abbrev pub setRefusal : Head → Head → Option Refusal
+setRefusal into given = firstFailing (flagsCheck into given ∷ eachAt (ownedChecks into) 0 (given .extents))
+
+-- ---- "The sparse call checks in list order": "an index not below the scope's N is 7; one the scope does not own is passed over; an owned one is checked against the tracker"
+abbrev pub sparseChecks : Head → Head → ℕ → List Check
+sparseChecks into given i = check (not (ltb i (given .numbers .textures))) (NoSuchIndex (trackerIndex i)) ∷ ownedChecks into i (getD (given .extents) i none)
+
+abbrev pub sparseRefusal : Head → Head → List ℕ → Option Refusal
+sparseRefusal into given is = firstFailing (flagsCheck into given ∷ each (sparseChecks into given) is)

@@ -1,0 +1,65 @@
+-- One texture: how it is held, what a use hands in, and what is done with it. Sets and calls are written once over this record;
+-- the ranged representation (the Rust) and the grid (01's sheet) are two of its values.
+use mathlib.Core.Bool.{Bool, _&&_}
+use mathlib.Core.Option.{Option}
+use Prim.Native.Nat.{ℕ}
+use lib.Dec.{leb, ltb, eqb}
+use Rattle.model.specs.declared.UsageFlags.{UsageFlags}
+use Rattle.model.specs.declared.Extent.{Extent}
+use Rattle.model.specs.declared.Selector.{Selector}
+use Rattle.model.specs.Base.{Stop}
+
+-- ---- Selectors
+abbrev pub select : ℕ → ℕ → ℕ → ℕ → Selector
+select m n a e = record {
+  mips = record { start = record { 0 = m }; end = record { 0 = n } };
+  layers = record { start = record { 0 = a }; end = record { 0 = e } };
+}
+
+abbrev pub mipStart : Selector → ℕ
+mipStart q = q .mips .start .0
+
+abbrev pub mipEnd : Selector → ℕ
+mipEnd q = q .mips .end .0
+
+abbrev pub layerStart : Selector → ℕ
+layerStart q = q .layers .start .0
+
+abbrev pub layerEnd : Selector → ℕ
+layerEnd q = q .layers .end .0
+
+abbrev pub full : Extent → Selector
+full sh = select 0 (sh .mips) 0 (sh .layers)
+
+-- "A use is *whole* if no selector is given or it equals the full shape, otherwise *parted*."
+abbrev pub isFull : Extent → Selector → Bool
+isFull sh q = eqb (mipStart q) 0 && eqb (mipEnd q) (sh .mips) && eqb (layerStart q) 0 && eqb (layerEnd q) (sh .layers)
+
+-- whether a selector has a mip, and a subresource
+abbrev pub inMips : Selector → ℕ → Bool
+inMips q k = leb (mipStart q) k && ltb k (mipEnd q)
+
+abbrev pub holds : Selector → ℕ → ℕ → Bool
+holds q m l = inMips q m && leb (layerStart q) l && ltb l (layerEnd q)
+
+-- ---- What a tracker keeps of a texture
+pub record Ends (H : Type 0) : Type 0 where
+  pub start : H
+  pub end : H
+
+-- ---- The record
+pub record Representation : Type 1 where
+  pub Held : Type 0
+  pub Given : Type 0
+  pub Conflict : Type 0
+  pub Log : Type 0
+  -- a texture in one state, as an opened set has it
+  pub fresh : ℕ → Held
+  -- what a selector with a state hands in, and what a set's texture does
+  pub use-of : Extent → Option Selector → ℕ → Given
+  pub pass : Held → Given
+  pub insert : UsageFlags → Extent → Given → Held
+  pub merge : UsageFlags → Extent → Held → Given → Stop Conflict Held
+  -- the transitions from a held end to a given start, by the ordered mask
+  pub log : UsageFlags → ℕ → Extent → Held → Given → Log
+  pub update : UsageFlags → Extent → Ends Held → Given → Ends Held

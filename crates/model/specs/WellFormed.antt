@@ -1,0 +1,77 @@
+-- 01, "Opening numbers": when a set is *sound*, here well formed.
+use mathlib.Core.Bool.{Bool, true, false, _&&_, not}
+use mathlib.Core.List.{List, [], _∷_}
+use Prim.Native.Nat.{ℕ}
+use lib.Dec.{leb, ltb, eqb}
+use lib.ListN.{length}
+use Rattle.model.specs.declared.UsageFlags.{UsageFlags}
+use Rattle.model.specs.declared.Extent.{Extent}
+use Rattle.model.specs.declared.Range.{Range}
+use Rattle.model.specs.Base.{if_then_else_, every}
+use Rattle.model.specs.Flags.{meets, incompatible, flagsFit}
+use Rattle.model.specs.Representation.{Ends}
+use Rattle.model.specs.Sets.{Numbers, Slot, Set, Tracker, numbersFit, capacity}
+use Rattle.model.specs.Refusals.{extentOutside}
+use Rattle.model.specs.Texture.{Held, single, many}
+use Rattle.model.specs.Subresources.{subresources}
+
+-- "states nonzero, compatible, without COMPLEX (UNKNOWN may stand alone or beside other bits)", of 16 bits
+abbrev pub stateFits : UsageFlags → ℕ → Bool
+stateFits p s = not (eqb s 0) && ltb s 65536 && not (incompatible p s) && not (meets s (p .complex))
+
+-- "held whole, in a compatible nonzero state without UNKNOWN or COMPLEX"
+abbrev pub singleFits : UsageFlags → ℕ → Bool
+singleFits p s = stateFits p s && not (meets s (p .unknown))
+
+-- "tiles layer 0 to the last with nonempty ascending ranges": from a to e
+abbrev pub rangesFit : UsageFlags → ℕ → ℕ → List Range → Bool
+rangesFit p e a [] = eqb a e
+rangesFit p e a (r ∷ s) = eqb (r .start) a && ltb a (r .end) && stateFits p (r .state) && rangesFit p e (r .end) s
+
+-- "or as one strip a mip"
+abbrev pub heldFits : UsageFlags → Extent → Held → Bool
+heldFits p sh (single s) = singleFits p s
+heldFits p sh (many ss) = eqb (length ss) (sh .mips) && every (rangesFit p (sh .layers) 0) ss
+
+-- "start and end agree on which cells are exactly UNKNOWN"
+abbrev pub sameTest : Bool → Bool → Bool
+sameTest true b = b
+sameTest false b = not b
+
+abbrev pub all₂ : {A : Type 0} → (A → A → Bool) → List A → List A → Bool
+all₂ f [] [] = true
+all₂ f [] (b ∷ t) = false
+all₂ f (a ∷ s) [] = false
+all₂ f (a ∷ s) (b ∷ t) = f a b && all₂ f s t
+
+abbrev pub sameUnknown : ℕ → List (List ℕ) → List (List ℕ) → Bool
+sameUnknown u = all₂ (all₂ (λ a b. sameTest (eqb a u) (eqb b u)))
+
+abbrev pub endsFit : UsageFlags → Extent → Ends Held → Bool
+endsFit p sh e =
+    heldFits p sh (e .start) && heldFits p sh (e .end) && sameUnknown (p .unknown) (subresources sh (e .start)) (subresources sh (e .end))
+
+-- "each owned index has a shape within M and W and is held .."
+abbrev pub slotFits : {H : Type 0} → (UsageFlags → Extent → H → Bool) → Numbers → UsageFlags → Slot H → Bool
+slotFits fits n p x = if x .owned then not (extentOutside n (x .extent)) && fits p (x .extent) (x .held) else true
+
+-- "its N, M, W, room and palette meet the opening checks": the room is told beside the set
+abbrev pub setFits : {H : Type 0} → (UsageFlags → Extent → H → Bool) → Set H → Bool
+setFits fits s =
+    numbersFit (s .numbers) && flagsFit (s .flags) && eqb (length (s .slots)) (s .numbers .textures)
+    && every (slotFits fits (s .numbers) (s .flags)) (s .slots)
+
+unfoldable pub scopeFits : Set Held → Bool
+unfolding flagsFit incompatible
+scopeFits s = setFits heldFits s
+
+unfoldable pub trackerFits : Tracker Held → Bool
+unfolding flagsFit incompatible subresources
+trackerFits t = setFits endsFit (t .set)
+
+abbrev pub wellFormedScope : ℕ → Set Held → Bool
+wellFormedScope room s = scopeFits s && leb (capacity (s .numbers)) room
+
+-- a tracker has room for the start's ranges and for the end's
+abbrev pub wellFormedTracker : ℕ → ℕ → Tracker Held → Bool
+wellFormedTracker startRoom endRoom t = trackerFits t && leb (capacity (t .set .numbers)) startRoom && leb (capacity (t .set .numbers)) endRoom

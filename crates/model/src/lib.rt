@@ -1,0 +1,162 @@
+// Model: what the tracker is, before how it is stored.
+//
+// This crate is the root of the picture. Its plain values, below, are shared by the code of every other crate and by the definitions in
+// specs/, so that a contract and a definition speak of the same thing. specs/ says what each call means, in the order that the README
+// gives; the code of the other crates is proved equal to it, and crate `agreement` proves what holds of it.
+//
+// A usage state is a number of 16 bits, here in a u32. A tracker index, a mip and a layer are kept apart by their types.
+ghost use mathlib.Core.Path.{_≡_};
+ghost use Rattle.model.specs.Refusals.{numberOf, placeOf};
+
+// The position of a texture in a set: the Rust's `TrackerIndex`.
+pub struct TrackerIndex(pub u32);
+
+// The number of a mip level.
+pub struct Mip(pub u32);
+
+// The number of an array layer.
+pub struct Layer(pub u32);
+
+// The constants of the Rust's `TextureUses` that the tracker reads (01: a palette). `exclusive` is a mask, the others are one bit each.
+pub struct UsageFlags {
+    pub exclusive: u32,
+    pub uninitialized: u32,
+    pub complex: u32,
+    pub unknown: u32,
+}
+
+// How many mips and layers a texture has (01: its shape).
+pub struct Extent {
+    pub mips: u32,
+    pub layers: u32,
+}
+
+// Mips from `start` up to, not including, `end`.
+pub struct MipRange {
+    pub start: Mip,
+    pub end: Mip,
+}
+
+// Layers from `start` up to, not including, `end`.
+pub struct LayerRange {
+    pub start: Layer,
+    pub end: Layer,
+}
+
+// Some mips and some layers of a texture: the Rust's `TextureSelector`.
+pub struct Selector {
+    pub mips: MipRange,
+    pub layers: LayerRange,
+}
+
+// A use of all of a texture, or of a part of it: a selector absent or given.
+pub enum Selection {
+    Full,
+    Part(Selector),
+}
+
+// One entry of ranged states (01: a strip): what lies from `start` up to, not including, `end` is in `state`.
+pub struct Range {
+    pub start: u32,
+    pub end: u32,
+    pub state: u32,
+}
+
+// A log entry of seven numbers: the Rust's `PendingTransition`.
+pub struct PendingTransition {
+    pub index: TrackerIndex,
+    pub selector: Selector,
+    pub old: u32,
+    pub new: u32,
+}
+
+// How many entries of the lent log are written, and how many after them are free.
+pub struct LogHead {
+    pub written: usize,
+    pub free: usize,
+}
+
+// Two states that one subresource cannot have together, and where: the Rust's `InvalidUse` with its selector.
+pub struct InvalidUse {
+    pub selector: Selector,
+    pub old: u32,
+    pub new: u32,
+}
+
+// An invalid use of a texture of a set (01: a clash): the Rust's `ResourceUsageCompatibilityError`.
+pub struct Conflict {
+    pub index: TrackerIndex,
+    pub found: InvalidUse,
+}
+
+// Why a call is turned away, one case for each number of 01's table.
+pub enum Refusal {
+    NumbersOutOfLimits,
+    FlagsBreakRule,
+    ShortRoom,
+    NotWellFormed,
+    LogTooShort,
+    FlagsDiffer,
+    NoSuchIndex(TrackerIndex),
+    ExtentOutOfLimits(TrackerIndex),
+    ExtentDiffers(TrackerIndex),
+    SelectorEmpty,
+    SelectorPastExtent,
+    StateReserved,
+    StateIncompatible,
+    RangesOutOfOrder,
+    NoFreeEntry,
+}
+
+// What a public call answers.
+pub enum Outcome {
+    Done,
+    Refused(Refusal),
+    Conflict(Conflict),
+}
+
+// 01's number of a refusal.
+pub fn number(r: Refusal) -> u32
+    ensures { λ n. ⌜ n ≡ numberOf r ⌝ }
+{
+    match r {
+        Refusal::NumbersOutOfLimits => 1,
+        Refusal::FlagsBreakRule => 2,
+        Refusal::ShortRoom => 3,
+        Refusal::NotWellFormed => 4,
+        Refusal::LogTooShort => 5,
+        Refusal::FlagsDiffer => 6,
+        Refusal::NoSuchIndex(_) => 7,
+        Refusal::ExtentOutOfLimits(_) => 8,
+        Refusal::ExtentDiffers(_) => 9,
+        Refusal::SelectorEmpty => 10,
+        Refusal::SelectorPastExtent => 11,
+        Refusal::StateReserved => 12,
+        Refusal::StateIncompatible => 13,
+        Refusal::RangesOutOfOrder => 14,
+        Refusal::NoFreeEntry => 15,
+    }
+}
+
+// 01's place of a refusal: the index for 7 to 9, otherwise 0.
+pub fn place(r: Refusal) -> u32
+    ensures { λ n. ⌜ n ≡ placeOf r ⌝ }
+{
+    match r {
+        Refusal::NumbersOutOfLimits => 0,
+        Refusal::FlagsBreakRule => 0,
+        Refusal::ShortRoom => 0,
+        Refusal::NotWellFormed => 0,
+        Refusal::LogTooShort => 0,
+        Refusal::FlagsDiffer => 0,
+        Refusal::NoSuchIndex(i) => i.0,
+        Refusal::ExtentOutOfLimits(i) => i.0,
+        Refusal::ExtentDiffers(i) => i.0,
+        Refusal::SelectorEmpty => 0,
+        Refusal::SelectorPastExtent => 0,
+        Refusal::StateReserved => 0,
+        Refusal::StateIncompatible => 0,
+        Refusal::RangesOutOfOrder => 0,
+        Refusal::NoFreeEntry => 0,
+    }
+}
