@@ -1,0 +1,84 @@
+"""Rules that the self-test breaks, one at a time: the file, what is broken, a text that it has once, and another."""
+from typing import NamedTuple
+
+
+class Broken(NamedTuple):
+    file: str
+    what: str
+    old: str
+    new: str
+
+
+MERGE_SINGLE_MANY = "let merged_state = *current_simple | new_state;"
+MERGE_MANY_SINGLE = """// simple states are never unknown.
+                    let merged_state = merged_state - TextureUses::UNKNOWN;"""
+BARRIER_UNKNOWN = """                if new_state == TextureUses::UNKNOWN {
+                    continue;
+                }
+
+                if skip_barrier(current_simple"""
+UPDATE_MANY_MANY = """                        }
+
+                        *current_layer_state = new_state;"""
+
+# Of the Rust: each must show as a difference from 01's rules.
+RUST = [
+    Broken("texture.rs", "Single with Single: the given state replaces",
+           "let merged_state = *current_simple | new_simple;", "let merged_state = new_simple;"),
+    Broken("texture.rs", "Single with Many: UNKNOWN taken off",
+           MERGE_SINGLE_MANY, "let merged_state = (*current_simple | new_state) - TextureUses::UNKNOWN;"),
+    Broken("texture.rs", "Many with Single: UNKNOWN left in", MERGE_MANY_SINGLE, ""),
+    Broken("texture.rs", "Many with Many: an empty union is stored", "if merged_state.is_empty() {", "if false {"),
+    Broken("texture.rs", "a barrier into UNKNOWN", BARRIER_UNKNOWN, "                if skip_barrier(current_simple"),
+    Broken("texture.rs", "the start does not learn", "*current_start_state = new_single;", ""),
+    Broken("texture.rs", "the end is not replaced", UPDATE_MANY_MANY, "                        }"),
+    Broken("texture.rs", "the sparse call does not remove", "unsafe { scope.metadata.remove(index) };", ""),
+    Broken("texture.rs", "an assertion that must fire, if assertions are on",
+           "strict_assert!(index < self.size());", "strict_assert!(index + 1 < self.size());"),
+    Broken("range.rs", "coalesce joins any neighbours", "&& cur.1 == next.1 {", "{"),
+    Broken("range.rs", "iter_filter lists a range that only touches",
+           "inner.end > range.start", "inner.end >= range.start"),
+    Broken("range.rs", "isolate goes on past its end", "if range.end >= index.end {", "if range.end > index.end {"),
+    Broken("metadata.rs", "owned indices are off by one",
+           "let bit_start = word_index * BITS_PER_BLOCK;", "let bit_start = word_index * BITS_PER_BLOCK + 1;"),
+]
+
+# Of 01, as the tools read it. The first ones are 01's own list of misreadings.
+RULES = [
+    Broken("grid.py", "every equal pair is skipped", "old == new and mask & old == old", "old == new"),
+    Broken("grid.py", "a conflict on Many undoes", "return Half(False, tuple(states)), at", "return held, at"),
+    Broken("grid.py", "UNKNOWN beside a bit gives no transition",
+           "flags.unknown in (old, given)", "(old | given) & flags.unknown"),
+    Broken("grid.py", "UNKNOWN beside a bit is learned", "ends[at] == flags.unknown", "ends[at] & flags.unknown"),
+    Broken("flags.py", "an exclusive use alone is incompatible", " and not one_bit(state)", ""),
+    Broken("flags.py", "two inclusive uses are incompatible", "state & self.exclusive != 0 and not", "not"),
+    Broken("grid.py", "Single with Many: UNKNOWN taken off",
+           "union = states[at] | given\n", "union = (states[at] | given) & ~flags.unknown\n"),
+    Broken("grid.py", "Many: UNKNOWN left in",
+           "union = (states[at] | given) & ~flags.unknown", "union = states[at] | given"),
+    Broken("grid.py", "a conflict on Single keeps what came before it",
+           "            return held, at", "            return Half(held.single, tuple(states)), at"),
+    Broken("grid.py", "Single with Many stays Single",
+           "Half(use.single, tuple(states)), None", "Half(True, tuple(states)), None"),
+    Broken("grid.py", "the start's mark follows the use", "Half(start.single,", "Half(use.single,"),
+    Broken("grid.py", "the end's mark stays", "Half(use.single, tuple(ends))", "Half(end.single, tuple(ends))"),
+    Broken("grid.py", "the start does not learn", "            starts[at] = given", "            pass"),
+    Broken("grid.py", "a given UNKNOWN replaces the end", "given is None or given == flags.unknown", "given is None"),
+    Broken("grid.py", "what is not named is UNINITIALIZED", "(flags.unknown if state", "(flags.uninitialized if state"),
+    Broken("grid.py", "the full selector is Many", "or tuple(selector) == (0, mips, 0, layers)", ""),
+    Broken("model.py", "a join hands in its start twice", "grid.Use(*halves[-1])", "grid.Use(*halves[0])"),
+    Broken("model.py", "only the first texture of a set", "dict.fromkeys(indices)", "dict.fromkeys(indices[:1])"),
+    Broken("model.py", "the sparse call does not remove", "self.remove(handed[1], given)", "pass"),
+    Broken("model.py", "a scope merge goes on after a conflict", "return conflict, {}, named", "answer = conflict"),
+    Broken("rangemodel.py", "isolate fills gaps of no length", "if a > at:", "if a >= at:"),
+    Broken("rangemodel.py", "coalesce joins across a gap", "out[-1][1:] == (start, state)", "out[-1][2] == state"),
+    Broken("rangemodel.py", "iter_filter lists a range that only touches", "and a < end]", "and a <= end]"),
+    Broken("rangemodel.py", "freed records stay", "[(0, 0, 0)] * (used - len(records))", "[]"),
+]
+
+# What a program could write wrongly: here `old` is any text that answers have.
+PROGRAM = [Broken("program", f"{old.strip()} is told as {new.strip() or 'nothing'}", old, new) for old, new in (
+    ("refused 4 0 kept", "done"), ("refused 7 3 kept", "refused 7 0 kept"), (" kept", " changed"),
+    ("refused 15 0", "refused 5 0"), ("conflict 0", "conflict 1"), ("transition 0 0 1", "transition 0 0 2"),
+    ("many 1 0 ", "many 1 1 "), ("log 2 ", "log 3 "), ("emptied 0 8", "emptied 0 7"), ("single", "singel"),
+    ("isolated 1 3 5", "isolated 1 3 4"), ("3005", "3004"), ("done\n", ""))]

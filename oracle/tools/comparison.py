@@ -1,0 +1,121 @@
+"""The command `compare`."""
+import argparse
+import subprocess
+import sys
+import time
+from collections import Counter
+
+import answer
+import batches
+import differ
+import expect
+import rust
+import samples
+import selftest
+from flags import ORACLE
+
+
+def arguments():
+    parser = argparse.ArgumentParser(
+        prog="compare", description="Runs the same calls through the Rust of wgpu-core, through document 01's grid "
+        "rules, and through the proved program if it is given, and tells where they part.")
+    parser.add_argument("--calls", type=int, default=200_000, help="calls that pass 01's checks, over all flags")
+    parser.add_argument("--seed", default="1")
+    parser.add_argument("--flags", default=",".join(expect.FLAGS), help="names of flags.txt, with commas")
+    parser.add_argument("--program", help="the proved program: reads the calls, writes the answers")
+    parser.add_argument("--no-build", action="store_true", help="run the drivers that are there")
+    parser.add_argument("--self-test", action="store_true", help="break rules one at a time; each must be reported")
+    return parser.parse_args()
+
+
+def build():
+    begin = time.monotonic()
+    subprocess.run([str(ORACLE / "build")], check=True)
+    print(f"build: {time.monotonic() - begin:.1f} seconds")
+
+
+def compare_flags(name, calls, seed, readers):
+    """Runs the share of one set of usage flags, up to the first batch that differs: counts, and differences."""
+    flags, count = expect.FLAGS[name], Counter()
+    for cases in batches.fixed(name, flags):
+        found = differ.examine(cases, name, readers, count)
+        if found:
+            return count, found
+    for kind, share in batches.SHARES.items():
+        wanted, done = calls * share // 100, Counter()
+        while done["calls"] < wanted:
+            cases = batches.random_batch(kind, name, flags, seed, done["cases"], wanted)
+            found = differ.examine(cases, name, readers, done)
+            if found:
+                return count + done, found
+        count += done
+    return count, []
+
+
+def line_of(count):
+    words = ("cases", "openings", "calls", "refused calls", "conflicts", "calls with transitions", "differences")
+    return ", ".join(f"{count[word]:,} {word}" for word in words)
+
+
+def samples_hold(readers):
+    try:
+        wrong = samples.differences(expect.run_cases(samples.cases(), "bench", readers.driver))
+    except rust.Ended as error:
+        wrong = [str(error)]
+    print("\n".join(wrong) or f"B1 to B14 and the edges that pass: {len(samples.SAMPLES)} samples hold")
+    return not wrong
+
+
+def stored_hold(readers):
+    """The stored answers are what the Rust and 01 answer now, and what the program answers."""
+    wrong = [text for path in sorted((ORACLE / "cases").glob("*.txt")) for text in stored_faults(path, readers)]
+    print("\n".join(wrong) or "the stored cases hold")
+    return not wrong
+
+
+def stored_faults(path, readers):
+    calls, expected = path.read_text().splitlines(), path.with_suffix(".expected").read_text()
+    try:
+        if answer.answer(answer.read_cases(calls)) != expected:
+            yield f"stored {path.stem}: the Rust or 01 answers otherwise now"
+        if readers.program and rust.run(readers.program, calls) != expected:
+            yield f"stored {path.stem}: the program answers otherwise"
+    except rust.Ended as error:
+        yield f"stored {path.stem}: {error}"
+
+
+def tell(difference, readers):
+    least = differ.minimise(difference, readers)
+    print(f"\nsmallest differing case, flags {least.name}:")
+    print("\n".join("    " + line for line in least.lines))
+    print(least.text)
+
+
+def compare(names, calls, seed, readers):
+    """Whether no difference was found."""
+    begin, total, all_found = time.monotonic(), Counter(), []
+    for name in names:
+        count, found = compare_flags(name, calls // len(names), seed, readers)
+        count["differences"] = len(found)
+        print(f"{name}: {line_of(count)}", flush=True)
+        total += count
+        all_found += found
+    seconds = time.monotonic() - begin
+    print(f"in all: {line_of(total)}; {seconds:.1f} seconds, {total['calls'] / seconds:,.0f} calls a second")
+    if all_found:
+        tell(min(all_found, key=lambda found: len(found.lines)), readers)
+    return not all_found
+
+
+def main():
+    chosen = arguments()
+    if not chosen.no_build:
+        build()
+    if chosen.self_test:
+        return selftest.main()
+    readers = differ.Readers(None, chosen.program)
+    held = samples_hold(readers) and stored_hold(readers)
+    same = compare(chosen.flags.split(","), chosen.calls, chosen.seed, readers)
+    if not chosen.program:
+        print("the proved program was not given: the Rust and 01's rules were compared")
+    return 0 if held and same else 1

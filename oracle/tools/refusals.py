@@ -1,0 +1,100 @@
+"""Document 01's table "Turned away", as far as it speaks of numbers and owned textures.
+
+Every check answers None or a Refusal, its number and place. Numbers 4 and 5 are about storage: storage.py.
+"""
+from typing import NamedTuple
+
+
+class Refusal(NamedTuple):
+    number: int
+    place: int
+
+
+LIMIT_TEXTURES, LIMIT_MIPS, LIMIT_LAYERS = 64, 16, 256
+RANGE_NUMBERS, ENTRY_NUMBERS = 3, 7
+
+
+def opening(n, m, w, flags, rooms):
+    if not (1 <= n <= LIMIT_TEXTURES and 1 <= m <= LIMIT_MIPS and 1 <= w <= LIMIT_LAYERS):
+        return Refusal(1, 0)
+    if not flags.valid():
+        return Refusal(2, 0)
+    if any(room // RANGE_NUMBERS < n * m * w for room in rooms):
+        return Refusal(3, 0)
+    return None
+
+
+def log(written, free, lent):
+    return Refusal(5, 0) if written + free > lent // ENTRY_NUMBERS else None
+
+
+def flags_differ(one, other):
+    return Refusal(6, 0) if one.flags != other.flags else None
+
+
+def texture(held, index, mips, layers):
+    if index >= held.n:
+        return Refusal(7, index)
+    if not (1 <= mips <= held.m and 1 <= layers <= held.w):
+        return Refusal(8, index)
+    owned = held.textures.get(index)
+    if owned and (owned.mips, owned.layers) != (mips, layers):
+        return Refusal(9, index)
+    return None
+
+
+def interval(start, end):
+    return Refusal(10, 0) if start >= end else None
+
+
+def selector(mips, layers, given):
+    if given is None:
+        return None
+    mip_start, mip_end, layer_start, layer_end = given
+    empty = interval(mip_start, mip_end) or interval(layer_start, layer_end)
+    if empty:
+        return empty
+    if mip_end > mips or layer_end > layers:
+        return Refusal(11, 0)
+    return None
+
+
+def state(flags, given):
+    if given == 0 or given & (flags.unknown | flags.complex):
+        return Refusal(12, 0)
+    if flags.incompatible(given):
+        return Refusal(13, 0)
+    return None
+
+
+def single(held, index, mips, layers, given, selected):
+    return (texture(held, index, mips, layers) or selector(mips, layers, selected)
+            or state(held.flags, given))
+
+
+def whole_set(to, source):
+    """Every owned texture of the source, ascending."""
+    checks = (texture(to, index, source.textures[index].mips, source.textures[index].layers)
+              for index in sorted(source.textures))
+    return flags_differ(to, source) or next(filter(None, checks), None)
+
+
+def sparse(to, source, indices):
+    def one(index):
+        if index >= source.n:
+            return Refusal(7, index)
+        owned = source.textures.get(index)
+        return owned and texture(to, index, owned.mips, owned.layers)
+    return flags_differ(to, source) or next(filter(None, map(one, indices)), None)
+
+
+def ranges(length, lent, records):
+    """Number 14: the told length, and ranges that are empty, out of order or overlap."""
+    if length > lent:
+        return Refusal(14, 0)
+    end = 0
+    for start, stop, _ in records:
+        if start >= stop or start < end:
+            return Refusal(14, 0)
+        end = stop
+    return None

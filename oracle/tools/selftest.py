@@ -1,0 +1,106 @@
+"""Breaks rules one at a time in a copy of this directory, and demands that `compare` reports each."""
+import pathlib
+import shutil
+import subprocess
+import sys
+import tempfile
+
+import answer
+import broken
+from flags import ORACLE
+
+QUICK = ["--no-build", "--flags", "bench", "--calls", "2000"]
+SPOILED = """#!{python}
+import subprocess, sys
+text = subprocess.run([{python!r}, {answer!r}], input=sys.stdin.read(), text=True, stdout=subprocess.PIPE).stdout
+sys.stdout.write(text.replace({old!r}, {new!r}, 1))
+"""
+
+
+def copy_oracle(folder):
+    """A copy that has the drivers of this one."""
+    copy = folder / "oracle"
+    shutil.copytree(ORACLE, copy, ignore=shutil.ignore_patterns("target*", "cases", "__pycache__"))
+    shutil.copytree(ORACLE / "rust" / "target" / "release", copy / "rust" / "target" / "release",
+                    ignore=shutil.ignore_patterns("deps", "incremental", "build", "examples", "*.rlib"))
+    return copy
+
+
+def compare(copy, *more):
+    done = subprocess.run([sys.executable, str(copy / "compare"), *QUICK, *more], capture_output=True, text=True)
+    return done.returncode, done.stdout + done.stderr
+
+
+def with_edit(path, rule, run):
+    """Runs something while a file has a rule broken."""
+    before = path.read_text()
+    if before.count(rule.old) != 1:
+        sys.exit(f"self-test: {path.name} has this {before.count(rule.old)} times: {rule.old}")
+    path.write_text(before.replace(rule.old, rule.new))
+    try:
+        return run()
+    finally:
+        path.write_text(before)
+
+
+def reported(status, text):
+    """Status 1 and a smallest case: anything else is a fault of the comparison itself."""
+    return status == 1 and "smallest differing case" in text
+
+
+def build_and_compare(copy):
+    rust = copy / "rust"
+    subprocess.run(["cargo", "build", "--quiet", "--release", "--offline", "--bin", "bench", "--manifest-path",
+                    str(rust / "Cargo.toml"), "--target-dir", str(rust / "target")], check=True)
+    return compare(copy)
+
+
+def spoiled_program(copy, rule):
+    path = copy / "spoiled"
+    path.write_text(SPOILED.format(python=sys.executable, answer=str(copy / "tools" / "answer.py"),
+                                   old=rule.old, new=rule.new))
+    path.chmod(0o755)
+    return compare(copy, "--program", str(path))
+
+
+def attempts(copy):
+    """Each broken rule, and what compare says."""
+    for rule in broken.RULES:
+        yield rule, with_edit(copy / "tools" / rule.file, rule, lambda: compare(copy))
+    for rule in broken.PROGRAM:
+        yield rule, spoiled_program(copy, rule)
+    for rule in broken.RUST:
+        yield rule, with_edit(copy / "rust" / "upstream" / rule.file, rule, lambda: build_and_compare(copy))
+
+
+def tell(rule, result):
+    good = reported(*result)
+    print(f"{'reported' if good else 'MISSED'}: {rule.file}: {rule.what}", flush=True)
+    if not good:
+        print(result[1][-1500:])
+    return good
+
+
+def example_holds():
+    """README.md's example, calls on the left and answers on the right."""
+    text = (ORACLE / "README.md").read_text().splitlines()
+    first = next(at for at, line in enumerate(text) if line.startswith("    case 1 "))
+    rows = [line[4:] for line in text[first:text.index("", first)]]
+    calls = [row[:57].rstrip() for row in rows if row[:57].strip()]
+    answers = "".join(row[57:] + "\n" for row in rows if row[57:])
+    return answer.answer([calls]) == answers
+
+
+def main():
+    if not example_holds():
+        print("README.md's example is not what the calls answer")
+        return 1
+    with tempfile.TemporaryDirectory() as folder:
+        copy = copy_oracle(pathlib.Path(folder))
+        status, text = compare(copy, "--program", str(copy / "tools" / "answer.py"))
+        if status != 0:
+            print(f"differences without any breakage:\n{text}")
+            return 1
+        results = [tell(*attempt) for attempt in attempts(copy)]
+    print(f"self-test: {sum(results)} of {len(results)} broken rules reported")
+    return 0 if all(results) else 1
