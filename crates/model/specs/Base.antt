@@ -5,7 +5,6 @@ use mathlib.Core.Option.{Option, none, some}
 use Prim.Native.Nat.{ℕ, suc}
 
 infixr 5 if_then_else_
-
 abbrev pub if_then_else_ {ℓ} : {A : Type ℓ} → Bool → A → A → A
 if true then x else y = x
 if false then x else y = y

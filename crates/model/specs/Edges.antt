@@ -59,21 +59,21 @@ flagged e i c u = record {
 }
 
 openings : map (λ o. ofRefusal (openingRefusal o)) (
-  -- "N 64 opens, 65 is 1"
-  sized 64 16 256 262144 ∷ sized 65 16 256 999999 ∷ sized 0 1 1 9 ∷ sized 1 17 1 99 ∷ sized 1 0 1 9 ∷ sized 1 1 257 999 ∷ sized 1 1 0 9
-  -- a bit outside sixteen, two bits, none, equal ones, COMPLEX or UNKNOWN inside EXCLUSIVE; UNINITIALIZED may lie inside, and EXCLUSIVE may be 0
-  ∷ flagged 20 1 4096 65536 ∷ flagged 65536 1 4096 8192 ∷ flagged 20 3 4096 8192 ∷ flagged 20 1 0 8192 ∷ flagged 20 1 4096 4096 ∷ flagged 20 1 1 8192 ∷ flagged 20 1 4096 1
-  ∷ flagged 2 1 2 4 ∷ flagged 4 1 2 4 ∷ flagged 1 1 2 4 ∷ flagged 0 1 2 4
-  -- the last range of room; 1 before 2 before 3
-  ∷ sized 4 2 4 32 ∷ sized 4 2 4 31 ∷ (let o = flagged 20 3 4096 8192 in record { numbers = record { textures = 0; mips = 1; layers = 1 }; flags = o .flags; mask = 0; room = 0 })
-  ∷ (let o = flagged 20 3 4096 8192 in record { numbers = o .numbers; flags = o .flags; mask = 0; room = 0 })
-  ∷ []) ≡ (
-  passes ∷ turned 1 0 ∷ turned 1 0 ∷ turned 1 0 ∷ turned 1 0 ∷ turned 1 0 ∷ turned 1 0
-  ∷ turned 2 0 ∷ turned 2 0 ∷ turned 2 0 ∷ turned 2 0 ∷ turned 2 0 ∷ turned 2 0 ∷ turned 2 0
-  ∷ turned 2 0 ∷ turned 2 0 ∷ passes ∷ passes
-  ∷ passes ∷ turned 3 0 ∷ turned 1 0
-  ∷ turned 2 0
-  ∷ [])
+    -- "N 64 opens, 65 is 1"
+    sized 64 16 256 262144 ∷ sized 65 16 256 999999 ∷ sized 0 1 1 9 ∷ sized 1 17 1 99 ∷ sized 1 0 1 9 ∷ sized 1 1 257 999 ∷ sized 1 1 0 9
+    -- a bit outside sixteen, two bits, none, equal ones, COMPLEX or UNKNOWN inside EXCLUSIVE; UNINITIALIZED may lie inside, and EXCLUSIVE may be 0
+    ∷ flagged 20 1 4096 65536 ∷ flagged 65536 1 4096 8192 ∷ flagged 20 3 4096 8192 ∷ flagged 20 1 0 8192 ∷ flagged 20 1 4096 4096 ∷ flagged 20 1 1 8192 ∷ flagged 20 1 4096 1
+    ∷ flagged 2 1 2 4 ∷ flagged 4 1 2 4 ∷ flagged 1 1 2 4 ∷ flagged 0 1 2 4
+    -- the last range of room; 1 before 2 before 3
+    ∷ sized 4 2 4 32 ∷ sized 4 2 4 31 ∷ (let o = flagged 20 3 4096 8192 in record { numbers = record { textures = 0; mips = 1; layers = 1 }; flags = o .flags; mask = 0; room = 0 })
+    ∷ (let o = flagged 20 3 4096 8192 in record { numbers = o .numbers; flags = o .flags; mask = 0; room = 0 })
+    ∷ []) ≡ (
+    passes ∷ turned 1 0 ∷ turned 1 0 ∷ turned 1 0 ∷ turned 1 0 ∷ turned 1 0 ∷ turned 1 0
+    ∷ turned 2 0 ∷ turned 2 0 ∷ turned 2 0 ∷ turned 2 0 ∷ turned 2 0 ∷ turned 2 0 ∷ turned 2 0
+    ∷ turned 2 0 ∷ turned 2 0 ∷ passes ∷ passes
+    ∷ passes ∷ turned 3 0 ∷ turned 1 0
+    ∷ turned 2 0
+    ∷ [])
 unfolding openingRefusal ofRefusal sized flagged
 openings = refl
 
@@ -115,49 +115,49 @@ unfolding extent
 narrow = callSetSingle 0 (trackerIndex 2) (extent 1 4) (full (extent 1 4)) 8
 
 calls : (
-  -- 7: the index is not below N
-  after [] (used 0 3 8) ∷ after [] (used 0 4 8)
-  -- 8: mips are not 1 to M, or layers not 1 to W
-  ∷ after [] (callMergeSingle 0 (trackerIndex 1) (extent 3 4) none 8) ∷ after [] (callMergeSingle 0 (trackerIndex 1) (extent 2 0) none 8)
-  -- 9: the index is owned with another extent
-  ∷ after (used 0 1 8 ∷ []) (callMergeSingle 0 (trackerIndex 1) (extent 1 4) none 8)
-  -- 10: "layers 2..2 is 10"
-  ∷ after [] (part (select 0 1 2 2) 8) ∷ after [] (part (select 1 1 0 4) 8)
-  -- 11: "end 4 of 4 passes, 5 is 11"
-  ∷ after [] (part (select 0 1 0 4) 8) ∷ after [] (part (select 0 1 0 5) 8) ∷ after [] (part (select 0 3 0 4) 8)
-  -- 12: zero, or with UNKNOWN or COMPLEX; 13: "state 24 is 13, state 16 passes"
-  ∷ after [] (used 0 0 0) ∷ after [] (used 0 0 8200) ∷ after [] (used 0 0 4104) ∷ after [] (used 0 0 24) ∷ after [] (used 0 0 16)
-  -- the first that fails is told: 7 before 8, 8 before 10, 10 before 11, 11 before 12, 12 before 13
-  ∷ after [] (callMergeSingle 0 (trackerIndex 4) (extent 3 4) (some (select 0 0 0 9)) 0) ∷ after [] (callMergeSingle 0 (trackerIndex 0) (extent 3 4) (some (select 0 0 0 9)) 0)
-  ∷ after [] (part (select 0 0 0 9) 0) ∷ after [] (part (select 0 1 0 9) 0) ∷ after [] (used 0 0 4116)
-  -- 6, before what the set owns is looked at
-  ∷ after [] (callMergeUsageScope 0 2) ∷ after [] (callSetFromUsageScope 0 2) ∷ after [] (callSetAndRemoveSparse 0 2 (9 ∷ []))
-  -- over a set: 7, and 9 at the first index where one applies, ascending
-  ∷ after (used 3 4 8 ∷ []) (callMergeUsageScope 0 3)
-  ∷ after (used 0 2 8 ∷ callMergeSingle 1 (trackerIndex 2) (extent 1 4) none 8 ∷ []) (callMergeUsageScope 0 1)
-  ∷ after (used 3 2 8 ∷ used 3 4 8 ∷ narrow ∷ []) (callSetFromUsageScope 0 3)
-  -- the sparse call: in list order, and an index that the scope does not own is passed over
-  ∷ after [] (sparse (3 ∷ [])) ∷ after [] (sparse (3 ∷ 4 ∷ []))
-  ∷ after (used 0 2 8 ∷ narrow ∷ []) (sparse (3 ∷ 2 ∷ 4 ∷ [])) ∷ after (used 0 2 8 ∷ narrow ∷ []) (sparse (3 ∷ 4 ∷ 2 ∷ []))
-  -- a conflict is no refusal
-  ∷ after (used 0 0 8 ∷ []) (used 0 0 4)
-  ∷ []) ≡ (
-  passes ∷ turned 7 4
-  ∷ turned 8 1 ∷ turned 8 1
-  ∷ turned 9 1
-  ∷ turned 10 0 ∷ turned 10 0
-  ∷ passes ∷ turned 11 0 ∷ turned 11 0
-  ∷ turned 12 0 ∷ turned 12 0 ∷ turned 12 0 ∷ turned 13 0 ∷ passes
-  ∷ turned 7 4 ∷ turned 8 0
-  ∷ turned 10 0 ∷ turned 11 0 ∷ turned 12 0
-  ∷ turned 6 0 ∷ turned 6 0 ∷ turned 6 0
-  ∷ turned 7 4
-  ∷ turned 9 2
-  ∷ turned 9 2
-  ∷ passes ∷ turned 7 4
-  ∷ turned 9 2 ∷ turned 7 4
-  ∷ conflicts
-  ∷ [])
+    -- 7: the index is not below N
+    after [] (used 0 3 8) ∷ after [] (used 0 4 8)
+    -- 8: mips are not 1 to M, or layers not 1 to W
+    ∷ after [] (callMergeSingle 0 (trackerIndex 1) (extent 3 4) none 8) ∷ after [] (callMergeSingle 0 (trackerIndex 1) (extent 2 0) none 8)
+    -- 9: the index is owned with another extent
+    ∷ after (used 0 1 8 ∷ []) (callMergeSingle 0 (trackerIndex 1) (extent 1 4) none 8)
+    -- 10: "layers 2..2 is 10"
+    ∷ after [] (part (select 0 1 2 2) 8) ∷ after [] (part (select 1 1 0 4) 8)
+    -- 11: "end 4 of 4 passes, 5 is 11"
+    ∷ after [] (part (select 0 1 0 4) 8) ∷ after [] (part (select 0 1 0 5) 8) ∷ after [] (part (select 0 3 0 4) 8)
+    -- 12: zero, or with UNKNOWN or COMPLEX; 13: "state 24 is 13, state 16 passes"
+    ∷ after [] (used 0 0 0) ∷ after [] (used 0 0 8200) ∷ after [] (used 0 0 4104) ∷ after [] (used 0 0 24) ∷ after [] (used 0 0 16)
+    -- the first that fails is told: 7 before 8, 8 before 10, 10 before 11, 11 before 12, 12 before 13
+    ∷ after [] (callMergeSingle 0 (trackerIndex 4) (extent 3 4) (some (select 0 0 0 9)) 0) ∷ after [] (callMergeSingle 0 (trackerIndex 0) (extent 3 4) (some (select 0 0 0 9)) 0)
+    ∷ after [] (part (select 0 0 0 9) 0) ∷ after [] (part (select 0 1 0 9) 0) ∷ after [] (used 0 0 4116)
+    -- 6, before what the set owns is looked at
+    ∷ after [] (callMergeUsageScope 0 2) ∷ after [] (callSetFromUsageScope 0 2) ∷ after [] (callSetAndRemoveSparse 0 2 (9 ∷ []))
+    -- over a set: 7, and 9 at the first index where one applies, ascending
+    ∷ after (used 3 4 8 ∷ []) (callMergeUsageScope 0 3)
+    ∷ after (used 0 2 8 ∷ callMergeSingle 1 (trackerIndex 2) (extent 1 4) none 8 ∷ []) (callMergeUsageScope 0 1)
+    ∷ after (used 3 2 8 ∷ used 3 4 8 ∷ narrow ∷ []) (callSetFromUsageScope 0 3)
+    -- the sparse call: in list order, and an index that the scope does not own is passed over
+    ∷ after [] (sparse (3 ∷ [])) ∷ after [] (sparse (3 ∷ 4 ∷ []))
+    ∷ after (used 0 2 8 ∷ narrow ∷ []) (sparse (3 ∷ 2 ∷ 4 ∷ [])) ∷ after (used 0 2 8 ∷ narrow ∷ []) (sparse (3 ∷ 4 ∷ 2 ∷ []))
+    -- a conflict is no refusal
+    ∷ after (used 0 0 8 ∷ []) (used 0 0 4)
+    ∷ []) ≡ (
+    passes ∷ turned 7 4
+    ∷ turned 8 1 ∷ turned 8 1
+    ∷ turned 9 1
+    ∷ turned 10 0 ∷ turned 10 0
+    ∷ passes ∷ turned 11 0 ∷ turned 11 0
+    ∷ turned 12 0 ∷ turned 12 0 ∷ turned 12 0 ∷ turned 13 0 ∷ passes
+    ∷ turned 7 4 ∷ turned 8 0
+    ∷ turned 10 0 ∷ turned 11 0 ∷ turned 12 0
+    ∷ turned 6 0 ∷ turned 6 0 ∷ turned 6 0
+    ∷ turned 7 4
+    ∷ turned 9 2
+    ∷ turned 9 2
+    ∷ passes ∷ turned 7 4
+    ∷ turned 9 2 ∷ turned 7 4
+    ∷ conflicts
+    ∷ [])
 unfolding after used part sparse narrow extent incompatible invalidState insert merge barrier update
 calls = refl
 
@@ -188,72 +188,72 @@ mips : ℕ → ℕ → ℕ → Held
 mips a b c = many ((range 0 4 a ∷ []) ∷ (range 0 1 b ∷ range 1 4 c ∷ []) ∷ [])
 
 logs : (
-  -- "the last free entry is used, one more is 15"
-  setting 32 32 tracker 8 (log 3 2 1) ∷ setting 32 32 tracker 8 (log 3 3 0)
-  -- 5: the head tells all that was lent, and one more
-  ∷ setting 32 32 tracker 8 (log 2 1 1) ∷ setting 32 32 tracker 8 (log 2 1 2) ∷ setting 32 32 tracker 8 (log 0 0 0)
-  -- 4: the room of either half
-  ∷ setting 31 32 tracker 8 (log 1 0 1) ∷ setting 32 31 tracker 8 (log 1 0 1)
-  -- 4: a state that is incompatible, UNKNOWN where Single, of more than 16 bits, with COMPLEX; no mips; a mip that ends early; start and end apart on UNKNOWN
-  ∷ setting 32 32 (damaged (single 16) (single 4)) 8 (log 1 0 1) ∷ setting 32 32 (damaged (single 24) (single 4)) 8 (log 1 0 1)
-  ∷ setting 32 32 (damaged (single 8192) (single 4)) 8 (log 1 0 1) ∷ setting 32 32 (damaged (single 65536) (single 4)) 8 (log 1 0 1)
-  ∷ setting 32 32 (damaged (single 4104) (single 4)) 8 (log 1 0 1) ∷ setting 32 32 (damaged (many []) (single 4)) 8 (log 1 0 1)
-  ∷ setting 32 32 (damaged (many ((range 0 4 8 ∷ []) ∷ (range 0 3 8 ∷ []) ∷ [])) (single 4)) 8 (log 1 0 1)
-  ∷ setting 32 32 (damaged (mips 8 8200 8) (single 4)) 8 (log 1 0 1) ∷ setting 32 32 (damaged (mips 8 8192 8) (single 4)) 8 (log 1 0 1)
-  ∷ setting 32 32 (damaged (mips 8 8192 8) (mips 2 8192 4)) 8 (log 3 0 3)
-  -- 4 before 5, 5 before 12, 12 before 15
-  ∷ setting 31 32 tracker 0 (log 0 1 0) ∷ setting 32 32 tracker 0 (log 0 1 0) ∷ setting 32 32 tracker 0 (log 1 1 0)
-  -- emptying: 5 alone
-  ∷ ofAnswer (emptying (log 2 1 1) .answer) ∷ ofAnswer (emptying (log 2 1 2) .answer)
-  ∷ []) ≡ (
-  passes ∷ turned 15 0
-  ∷ passes ∷ turned 5 0 ∷ turned 15 0
-  ∷ turned 4 0 ∷ turned 4 0
-  ∷ passes ∷ turned 4 0
-  ∷ turned 4 0 ∷ turned 4 0
-  ∷ turned 4 0 ∷ turned 4 0
-  ∷ turned 4 0
-  ∷ passes ∷ turned 4 0
-  ∷ passes
-  ∷ turned 4 0 ∷ turned 5 0 ∷ turned 12 0
-  ∷ passes ∷ turned 5 0
-  ∷ [])
+    -- "the last free entry is used, one more is 15"
+    setting 32 32 tracker 8 (log 3 2 1) ∷ setting 32 32 tracker 8 (log 3 3 0)
+    -- 5: the head tells all that was lent, and one more
+    ∷ setting 32 32 tracker 8 (log 2 1 1) ∷ setting 32 32 tracker 8 (log 2 1 2) ∷ setting 32 32 tracker 8 (log 0 0 0)
+    -- 4: the room of either half
+    ∷ setting 31 32 tracker 8 (log 1 0 1) ∷ setting 32 31 tracker 8 (log 1 0 1)
+    -- 4: a state that is incompatible, UNKNOWN where Single, of more than 16 bits, with COMPLEX; no mips; a mip that ends early; start and end apart on UNKNOWN
+    ∷ setting 32 32 (damaged (single 16) (single 4)) 8 (log 1 0 1) ∷ setting 32 32 (damaged (single 24) (single 4)) 8 (log 1 0 1)
+    ∷ setting 32 32 (damaged (single 8192) (single 4)) 8 (log 1 0 1) ∷ setting 32 32 (damaged (single 65536) (single 4)) 8 (log 1 0 1)
+    ∷ setting 32 32 (damaged (single 4104) (single 4)) 8 (log 1 0 1) ∷ setting 32 32 (damaged (many []) (single 4)) 8 (log 1 0 1)
+    ∷ setting 32 32 (damaged (many ((range 0 4 8 ∷ []) ∷ (range 0 3 8 ∷ []) ∷ [])) (single 4)) 8 (log 1 0 1)
+    ∷ setting 32 32 (damaged (mips 8 8200 8) (single 4)) 8 (log 1 0 1) ∷ setting 32 32 (damaged (mips 8 8192 8) (single 4)) 8 (log 1 0 1)
+    ∷ setting 32 32 (damaged (mips 8 8192 8) (mips 2 8192 4)) 8 (log 3 0 3)
+    -- 4 before 5, 5 before 12, 12 before 15
+    ∷ setting 31 32 tracker 0 (log 0 1 0) ∷ setting 32 32 tracker 0 (log 0 1 0) ∷ setting 32 32 tracker 0 (log 1 1 0)
+    -- emptying: 5 alone
+    ∷ ofAnswer (emptying (log 2 1 1) .answer) ∷ ofAnswer (emptying (log 2 1 2) .answer)
+    ∷ []) ≡ (
+    passes ∷ turned 15 0
+    ∷ passes ∷ turned 5 0 ∷ turned 15 0
+    ∷ turned 4 0 ∷ turned 4 0
+    ∷ passes ∷ turned 4 0
+    ∷ turned 4 0 ∷ turned 4 0
+    ∷ turned 4 0 ∷ turned 4 0
+    ∷ turned 4 0
+    ∷ passes ∷ turned 4 0
+    ∷ passes
+    ∷ turned 4 0 ∷ turned 5 0 ∷ turned 12 0
+    ∷ passes ∷ turned 5 0
+    ∷ [])
 unfolding setting tracker log damaged mips extent emptying firstFailing incompatible invalidState insert merge barrier update
 logs = refl
 
 -- ---- 10, 14, 15: the calls on range records
 rangeCalls : map ofRefusal (
-  -- a run of 2..6 in a gap needs one record more
-  isolateRefusal 2 6 9 1 (range 0 2 5 ∷ range 0 0 0 ∷ []) ∷ isolateRefusal 2 6 9 1 (range 0 2 5 ∷ []) ∷ isolateRefusal 2 2 9 1 (range 0 2 5 ∷ [])
-  -- the told length, an empty range, out of order, overlapping, touching
-  ∷ coalesceRefusal 1 (range 0 2 5 ∷ []) ∷ coalesceRefusal 2 (range 0 2 5 ∷ []) ∷ coalesceRefusal 1 (range 2 2 5 ∷ []) ∷ coalesceRefusal 2 (range 4 6 5 ∷ range 0 2 5 ∷ [])
-  ∷ coalesceRefusal 2 (range 0 3 5 ∷ range 2 4 5 ∷ []) ∷ coalesceRefusal 2 (range 0 2 5 ∷ range 2 4 5 ∷ [])
-  -- no record past the told length is looked at
-  ∷ coalesceRefusal 1 (range 0 2 5 ∷ range 9 1 0 ∷ [])
-  -- the output's room; 10 before 14 before 15
-  ∷ filterRefusal 1 3 2 (range 0 2 5 ∷ range 2 4 6 ∷ []) (replicate 2 (range 0 0 0)) ∷ filterRefusal 1 3 2 (range 0 2 5 ∷ range 2 4 6 ∷ []) (replicate 1 (range 0 0 0))
-  ∷ filterRefusal 3 3 2 (range 0 2 5 ∷ []) [] ∷ filterRefusal 1 3 2 (range 0 2 5 ∷ []) []
-  ∷ []) ≡ (
-  passes ∷ turned 15 0 ∷ turned 10 0
-  ∷ passes ∷ turned 14 0 ∷ turned 14 0 ∷ turned 14 0
-  ∷ turned 14 0 ∷ passes
-  ∷ passes
-  ∷ passes ∷ turned 15 0
-  ∷ turned 10 0 ∷ turned 14 0
-  ∷ [])
+    -- a run of 2..6 in a gap needs one record more
+    isolateRefusal 2 6 9 1 (range 0 2 5 ∷ range 0 0 0 ∷ []) ∷ isolateRefusal 2 6 9 1 (range 0 2 5 ∷ []) ∷ isolateRefusal 2 2 9 1 (range 0 2 5 ∷ [])
+    -- the told length, an empty range, out of order, overlapping, touching
+    ∷ coalesceRefusal 1 (range 0 2 5 ∷ []) ∷ coalesceRefusal 2 (range 0 2 5 ∷ []) ∷ coalesceRefusal 1 (range 2 2 5 ∷ []) ∷ coalesceRefusal 2 (range 4 6 5 ∷ range 0 2 5 ∷ [])
+    ∷ coalesceRefusal 2 (range 0 3 5 ∷ range 2 4 5 ∷ []) ∷ coalesceRefusal 2 (range 0 2 5 ∷ range 2 4 5 ∷ [])
+    -- no record past the told length is looked at
+    ∷ coalesceRefusal 1 (range 0 2 5 ∷ range 9 1 0 ∷ [])
+    -- the output's room; 10 before 14 before 15
+    ∷ filterRefusal 1 3 2 (range 0 2 5 ∷ range 2 4 6 ∷ []) (replicate 2 (range 0 0 0)) ∷ filterRefusal 1 3 2 (range 0 2 5 ∷ range 2 4 6 ∷ []) (replicate 1 (range 0 0 0))
+    ∷ filterRefusal 3 3 2 (range 0 2 5 ∷ []) [] ∷ filterRefusal 1 3 2 (range 0 2 5 ∷ []) []
+    ∷ []) ≡ (
+    passes ∷ turned 15 0 ∷ turned 10 0
+    ∷ passes ∷ turned 14 0 ∷ turned 14 0 ∷ turned 14 0
+    ∷ turned 14 0 ∷ passes
+    ∷ passes
+    ∷ passes ∷ turned 15 0
+    ∷ turned 10 0 ∷ turned 14 0
+    ∷ [])
 unfolding ofRefusal firstFailing isolate coalesce iterFilter
 rangeCalls = refl
 
 -- ---- What is written, and what stays
 -- B13 in six records, of which the last is past both lengths; 0..3 5 and 3..4 5 joined, the freed record a zero; two overlaps into three records
 records : (isolated 3 7 100 2 (range 2 4 65 ∷ range 6 8 66 ∷ replicate 4 (range 9 9 9)) .records
-  ∷ coalesced 2 (range 0 3 5 ∷ range 3 4 5 ∷ range 9 9 9 ∷ []) .records
-  ∷ filtered 1 3 2 (range 0 2 5 ∷ range 2 4 6 ∷ []) (replicate 3 (range 9 9 9)) .output
-  ∷ []) ≡ (
-  (range 2 3 65 ∷ range 3 4 65 ∷ range 4 6 100 ∷ range 6 7 66 ∷ range 7 8 66 ∷ range 9 9 9 ∷ [])
-  ∷ (range 0 4 5 ∷ range 0 0 0 ∷ range 9 9 9 ∷ [])
-  ∷ (range 1 2 5 ∷ range 2 3 6 ∷ range 9 9 9 ∷ [])
-  ∷ [])
+    ∷ coalesced 2 (range 0 3 5 ∷ range 3 4 5 ∷ range 9 9 9 ∷ []) .records
+    ∷ filtered 1 3 2 (range 0 2 5 ∷ range 2 4 6 ∷ []) (replicate 3 (range 9 9 9)) .output
+    ∷ []) ≡ (
+    (range 2 3 65 ∷ range 3 4 65 ∷ range 4 6 100 ∷ range 6 7 66 ∷ range 7 8 66 ∷ range 9 9 9 ∷ [])
+    ∷ (range 0 4 5 ∷ range 0 0 0 ∷ range 9 9 9 ∷ [])
+    ∷ (range 1 2 5 ∷ range 2 3 6 ∷ range 9 9 9 ∷ [])
+    ∷ [])
 unfolding isolate coalesce iterFilter
 records = refl
 
@@ -267,9 +267,9 @@ written =
     ∷ []
 
 logContents : written ≡ (
-  record { entries = blank ∷ record { index = trackerIndex 0; selector = select 0 2 0 4; old = 4; new = 8 } ∷ blank ∷ []; head = record { written = 2; free = 1 } }
-  ∷ log 3 3 0
-  ∷ log 3 0 3
-  ∷ [])
+    record { entries = blank ∷ record { index = trackerIndex 0; selector = select 0 2 0 4; old = 4; new = 8 } ∷ blank ∷ []; head = record { written = 2; free = 1 } }
+    ∷ log 3 3 0
+    ∷ log 3 0 3
+    ∷ [])
 unfolding written log blank tracker extent firstFailing incompatible invalidState insert merge barrier update
 logContents = refl

@@ -1,0 +1,125 @@
+-- What is proved, in one place: each claim is a statement with the name of its proof. To trust it, read crate `model`, and here Grid (01's grid), Shared
+-- (what the two representations share), WellFormedSets, LogBound, Asserts and WebGpu; the other modules hold proofs alone.
+use mathlib.Core.Bool.{true, false, _||_}
+use mathlib.Core.List.{List, map}
+use mathlib.Core.Logic.{_↔_}
+use mathlib.Core.Option.{Option, none, some}
+use mathlib.Core.Path.{_≡_}
+use Prim.Native.Nat.{ℕ, _≤_, _<_}
+use lib.ListN.{length, getElem?}
+use Rattle.model.specs.declared.Extent.{Extent}
+use Rattle.model.specs.declared.Range.{Range}
+use Rattle.model.specs.declared.Refusal.{Refusal}
+use Rattle.model.specs.declared.Refusal.the-variants.{NoFreeEntry}
+use Rattle.model.specs.declared.Selector.{Selector}
+use Rattle.model.specs.declared.UsageFlags.{UsageFlags}
+use Rattle.model.specs.Base.{every}
+use Rattle.model.specs.Flags.{flagsFit}
+use Rattle.model.specs.Sets.{Set, headOf, Opening}
+use Rattle.model.specs.Refusals.{numberOf, trackerIndex, singleRefusal}
+use Rattle.model.specs.Calls.{Indexed, refused, Call, callMergeSingle, Sets, step, newly}
+use Rattle.model.specs.RangedStates.{Tiles, isolate, listOf}
+use Rattle.model.specs.Texture.{Held, Entry, ranged}
+use Rattle.model.specs.Log.{Log, pending, headCheck, logging}
+use Rattle.agreement.specs.Grid.{grid}
+use Rattle.agreement.specs.Shared.{toGrids, Use, useFits, TextureShares, Shares, Demand3, afterCalls}
+use Rattle.agreement.specs.WellFormedSets.{All, wellFormed, Word, GivenWord}
+use Rattle.agreement.specs.LogBound.{entries, namedStates, capacityOf}
+use Rattle.agreement.specs.Asserts.{callAsserts}
+use Rattle.agreement.specs.WebGpu.{Usage, isAttachment, compatibleList, usesFit, Renders, Histories, histories, InConflict, Unfit}
+use Rattle.agreement.specs.RangeCount.{ranges-few, isolated-few}
+use Rattle.agreement.specs.Agree.{agree}
+use Rattle.agreement.specs.TexturesAgree.{texture-shares}
+use Rattle.agreement.specs.CallsAgree.{sets-to, opened-fits, call-keeps, call-shares, refused-alike, always-fit}
+use Rattle.agreement.specs.OwnRefusals.{own-refusals}
+use Rattle.agreement.specs.LogFew.{few-entries}
+use Rattle.agreement.specs.LogRoom.{entries-written, never-full, capacity-few, never-full-capacity, never-15}
+use Rattle.agreement.specs.AssertCalls.{calls-assert}
+use Rattle.agreement.specs.FitLaws.{flags-rule}
+use Rattle.agreement.specs.Judged.{webgpu}
+
+-- ---- Demand 3: ranged and grid share what it lists after each call of every list, on however many sets, newly opened alike
+pub demand3 : Demand3
+demand3 = agree
+
+-- ---- Texture by texture: insert, merge, barrier and update agree, for every use that passes its checks and every well-formed texture, and keep it so
+pub by-texture : (p : UsageFlags) (sh : Extent) → flagsFit p ≡ true → 0 < sh .mips → 0 < sh .layers → (u : Use) → useFits p sh u ≡ true → TextureShares p sh u
+by-texture = texture-shares
+
+-- ---- Call by call, from any well-formed sets (EachCall has `kept` and `within-capacity` for each of the six calls by itself)
+-- opened sets are well formed
+pub opened : (scopes trackers : List Opening) → wellFormed (newly ranged scopes trackers) ≡ true
+opened = opened-fits
+
+-- each call keeps them so
+pub kept : (c : Call) (k : Sets ranged) → GivenWord c → wellFormed k ≡ true → wellFormed (step ranged c k .after) ≡ true
+kept = call-keeps
+
+-- so they are after every list of calls
+pub always : (scopes trackers : List Opening) (calls : List Call) → All GivenWord calls → wellFormed (afterCalls ranged calls (newly ranged scopes trackers)) ≡ true
+always = always-fit
+
+-- ranged and grid share the answer, the sets afterwards and each subresource's transition
+pub by-call : (c : Call) (k : Sets ranged) → wellFormed k ≡ true → Shares (step ranged c k) (step grid c (toGrids k))
+by-call = call-shares
+
+-- they refuse alike
+pub refusals : (c : Call) (k : Sets ranged) → wellFormed k ≡ true → (r : Refusal) → (step ranged c k .answer ≡ refused r) ↔ (step grid c (toGrids k) .answer ≡ refused r)
+refusals = refused-alike
+
+-- "4, 5 and 15 cannot arise in these calls": a call's own refusals are 6 to 13
+pub own : (c : Call) (k : Sets ranged) (r : Refusal) → step ranged c k .answer ≡ refused r → (6 ≤ numberOf r) × (numberOf r ≤ 13)
+own = own-refusals ranged
+
+-- ---- Ranges: "A strip's ranges never outnumber the layers it covers", also between `isolate` and `coalesce`
+pub ranges : (s : List Range) (w : ℕ) → Tiles 0 s w → length s ≤ w
+ranges = ranges-few
+
+-- of an isolated list
+pub isolated : (s : List Range) (a e d w : ℕ) → a < e → e ≤ w → Tiles 0 s w → length (listOf (isolate a e d s)) ≤ w
+isolated = isolated-few
+
+-- ---- The log
+-- as many entries are written as are counted
+pub counted : (log : List (Indexed (List Entry))) → length (pending log) ≡ entries log
+counted = entries-written
+
+-- a call adds no more entries than it names subresources
+pub few : (c : Call) (k : Sets ranged) → GivenWord c → wellFormed k ≡ true → entries (step ranged c k .log) ≤ namedStates c k
+few c k w e = few-entries c k w (sets-to k e)
+
+-- nor than its tracker has
+pub within-capacity : (c : Call) (k : Sets ranged) → GivenWord c → wellFormed k ≡ true → entries (step ranged c k .log) ≤ capacityOf c k
+within-capacity = capacity-few
+
+-- so a log whose head fits, with a free entry for each of them, never refuses: the answer is the call's own
+pub room : (c : Call) (k : Sets ranged) → GivenWord c → wellFormed k ≡ true → (log : Log) → headCheck log .fails ≡ false → namedStates c k ≤ log .head .free
+    → logging (wellFormed k) log k (step ranged c k) .answer ≡ step ranged c k .answer
+room = never-full
+
+-- and 15 does not arise
+pub no-free-entry-never : (c : Call) (k : Sets ranged) → GivenWord c → wellFormed k ≡ true → (log : Log) → headCheck log .fails ≡ false → namedStates c k ≤ log .head .free
+    → logging (wellFormed k) log k (step ranged c k) .answer ≡ refused NoFreeEntry → ⊥
+no-free-entry-never = never-15
+
+-- with a free entry for every subresource of the tracker
+pub room-for-all : (c : Call) (k : Sets ranged) → GivenWord c → wellFormed k ≡ true → (log : Log) → headCheck log .fails ≡ false → capacityOf c k ≤ log .head .free
+    → logging (wellFormed k) log k (step ranged c k) .answer ≡ step ranged c k .answer
+room-for-all = never-full-capacity
+
+-- ---- "Within the limits no `strict_assert!` of the two files may fire."
+pub asserts : (c : Call) (k : Sets ranged) → GivenWord c → wellFormed k ≡ true → callAsserts c k ≡ true
+asserts c k w e = calls-assert c k w (sets-to k e)
+
+-- ---- WebGPU
+-- the usage flags' rule is the specification's, but for several attachment uses
+pub rule : (p : UsageFlags) (bit : Usage → ℕ) → Renders p bit → (us : List Usage) → usesFit p (map bit us) ≡ compatibleList us || every isAttachment us
+rule = flags-rule
+
+-- after any list of calls, a single merge that passes its checks conflicts if and only if for some subresource that it names the uses taken and kept, with the given one, do not fit
+pub judged : (scopes trackers : List Opening) (calls : List Call) → All GivenWord calls
+    → (n i : ℕ) (sh : Extent) (sel : Option Selector) (st : ℕ) → Word st
+    → (r : Set Held) → getElem? (afterCalls ranged calls (newly ranged scopes trackers) .scopes) n ≡ some r → singleRefusal (headOf r) i sh sel st ≡ none
+    → (s : Set Histories) × (getElem? (afterCalls histories calls (newly histories scopes trackers) .scopes) n ≡ some s)
+    × (InConflict (step ranged (callMergeSingle n (trackerIndex i) sh sel st) (afterCalls ranged calls (newly ranged scopes trackers)) .answer) ↔ Unfit s i sh sel st)
+judged scopes trackers calls w n i sh sel st word r e p = let j = webgpu scopes trackers calls w n i sh sel st word r e p in (j .0, j .1, (j .2, j .3))

@@ -1,0 +1,107 @@
+-- `coalesce` and `isolate` keep the state of each layer, and their ranges tile as before.
+use mathlib.Core.Bool.{true, and-eq-true-iff}
+use mathlib.Core.List.{List, [], _∷_, _++_, append-assoc}
+use mathlib.Core.Path.{_≡_, refl, sym, ap, _∙_}
+use Prim.Native.Nat.{max, ℕ, _-_, _+_, _≤_, _<_}
+use native.Mathlib.Omega.{arith}
+use lib.Dec.{leb, ltb, eqb}
+use lib.ListN.{replicate, replicate-append-replicate}
+use borrow.Author.Tests.{eqb-true, eqb-false, leb-true, leb-false, ltb-true, ltb-false}
+use Rattle.model.specs.declared.Range.{Range}
+use Rattle.model.specs.Base.{if_then_else_}
+use Rattle.model.specs.RangedStates.{range, joins, coalesceFrom, coalesce, Cut, Rest, rest, withRun, isolateFrom, isolate, layerStates, Tiles}
+use Rattle.agreement.specs.BoolLaws.{by-test}
+
+-- x tiles a .. e and has the subresources of y
+abbrev pub Same : ℕ → ℕ → List Range → List Range → Type 0
+Same a e x y = Tiles a x e × (layerStates x ≡ layerStates y)
+
+joined-states : (a b e st : ℕ) (s : List Range) → a < b → b < e → layerStates (range a e st ∷ s) ≡ layerStates (range a b st ∷ range b e st ∷ s)
+unfolding layerStates
+joined-states a b e st s h k =
+    let n : e - a ≡ (b - a) + (e - b) = omega arith in
+    rw (n, ← replicate-append-replicate, append-assoc)
+
+-- the fields that a passed test of joining makes equal
+joins-hi : (r n : Range) → joins r n ≡ true → r .end ≡ n .start
+joins-hi r n j = eqb-true (r .end) (n .start) (and-eq-true-iff (eqb (r .end) (n .start)) (eqb (r .state) (n .state)) .0 j .0)
+
+joins-st : (r n : Range) → joins r n ≡ true → r .state ≡ n .state
+joins-st r n j = eqb-true (r .state) (n .state) (and-eq-true-iff (eqb (r .end) (n .start)) (eqb (r .state) (n .state)) .0 j .1)
+
+coalesce-from : (s : List Range) (cur : Range) (a e : ℕ) → Tiles a (cur ∷ s) e → Same a e (coalesceFrom cur s) (cur ∷ s)
+unfolding coalesceFrom layerStates
+coalesce-from [] cur a e t = (t, refl)
+coalesce-from (n ∷ s) cur a e t =
+    by-test (λ (l : List Range). Same a e l (cur ∷ n ∷ s)) (joins cur n)
+    (λ j.
+    let h = joins-hi cur n j in
+    let ih = coalesce-from s (range (cur .start) (n .end) (cur .state)) a e (t .0, omega arith, t .2 .2) in
+    (ih .0, ih .1 ∙ joined-states (cur .start) (cur .end) (n .end) (cur .state) s (omega arith) (omega arith) ∙ cc (h, joins-st cur n j)))
+    (λ j. let ih = coalesce-from s n (cur .end) e (t .2) in ((t .0, t .1, ih .0), ap (λ (l : List ℕ). replicate (cur .end - cur .start) (cur .state) ++ l) (ih .1)))
+
+pub coalesce-same : (s : List Range) (a e : ℕ) → Tiles a s e → Same a e (coalesce s) s
+unfolding coalesce
+coalesce-same [] a e t = (t, refl)
+coalesce-same (r ∷ s) a e t = coalesce-from s r a e t
+
+-- ---- isolate, on ranges that tile z .. w
+
+pub tiles-le : (s : List Range) (a e : ℕ) → Tiles a s e → a ≤ e
+tiles-le [] a e t = omega arith
+tiles-le (r ∷ s) a e t = let h = tiles-le s (r .end) e (t .2) in omega arith
+
+record Cuts-from (p e w : ℕ) (s : List Range) (c : Rest) : Type 0 where
+  run : Tiles p (c .run) e
+  after : Tiles e (c .after) w
+  same : layerStates (c .run) ++ layerStates (c .after) ≡ layerStates s
+
+cut-from : (s : List Range) (p e d w : ℕ) → p < e → e ≤ w → Tiles p s w → Cuts-from p e w s (isolateFrom p e d s)
+unfolding isolateFrom layerStates
+cut-from [] p e d w h k t = absurd (omega arith)
+cut-from (r ∷ s) p e d w h k t =
+    by-test P (leb e (r .start)) (λ b. absurd (omega (arith, leb-true e (r .start) b))) λ b.
+    by-test (λ (g : List Range). P (withRun g inner)) (ltb p (r .start)) (λ b. absurd (omega (arith, ltb-true p (r .start) b))) λ b.
+    by-test P (ltb e (r .end))
+    (λ b. let l = ltb-true e (r .end) b in let m : max p (r .start) ≡ r .start = omega arith in
+    rw m record { run = (t .0, h, refl); after = (refl, l, t .2); same = rw append-assoc (sym (joined-states (r .start) e (r .end) (r .state) s (omega arith) l)) }) λ b.
+    by-test P (eqb e (r .end))
+    (λ q. let l = eqb-true e (r .end) q in record { run = (t .0, t .1, sym l); after = rw l (t .2); same = rw append-assoc })
+    (λ q. let l = ltb-false e (r .end) b in
+    let ih = cut-from s (r .end) e d w (omega (arith, eqb-false e (r .end) q)) k (t .2) in
+    record { run = (t .0, t .1, ih .run); after = ih .after; same = rw (append-assoc, ih .same) })
+  where
+    P : Rest → Type 0
+    P = Cuts-from p e w (r ∷ s)
+
+    inner : Rest
+    inner = if ltb e (r .end) then rest (range (max p (r .start)) e (r .state) ∷ []) (range e (r .end) (r .state) ∷ s)
+        else if eqb e (r .end) then rest (r ∷ []) s
+        else withRun (r ∷ []) (isolateFrom (r .end) e d s)
+
+-- the ranges are cut at a and e, and each layer keeps its state
+pub record Cuts (z a e w : ℕ) (s : List Range) (c : Cut) : Type 0 where
+  pub before : Tiles z (c .before) a
+  pub run : Tiles a (c .run) e
+  pub after : Tiles e (c .after) w
+  pub same : layerStates (c .before) ++ (layerStates (c .run) ++ layerStates (c .after)) ≡ layerStates s
+
+pub isolate-cuts : (s : List Range) (z a e d w : ℕ) → z ≤ a → a < e → e ≤ w → Tiles z s w → Cuts z a e w s (isolate a e d s)
+unfolding isolate layerStates
+isolate-cuts [] z a e d w g h k t = absurd (omega arith)
+isolate-cuts (r ∷ s) z a e d w g h k t =
+    by-test (Cuts z a e w (r ∷ s)) (leb (r .end) a)
+    (λ b. let ih = isolate-cuts s (r .end) a e d w (leb-true (r .end) a b) h k (t .2) in
+    record { before = (t .0, t .1, ih .before); run = ih .run; after = ih .after; same = rw (append-assoc, ih .same) }) λ b.
+    let past = leb-false (r .end) a b in
+    by-test (Cuts z a e w (r ∷ s)) (ltb (r .start) a)
+    (λ b. let f = cut-from (range a (r .end) (r .state) ∷ s) a e d w h k (refl, past, t .2) in
+    record {
+      before = (t .0, (omega (arith, ltb-true (r .start) a b)), refl);
+      run = f .run;
+      after = f .after;
+      same = rw (f .same, append-assoc) (sym (joined-states (r .start) a (r .end) (r .state) s (ltb-true (r .start) a b) past));
+    })
+    (λ b. let l : z ≡ a = omega (arith, ltb-false (r .start) a b) in
+    let f = cut-from (r ∷ s) a e d w h k (rw l at t) in
+    record { before = l; run = f .run; after = f .after; same = f .same })

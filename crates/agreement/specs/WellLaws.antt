@@ -1,0 +1,334 @@
+-- Every call keeps every set well formed.
+use mathlib.Core.Bool.{true, false, _||_, false≢true}
+use mathlib.Core.List.{List, [], _∷_, _++_, map}
+use mathlib.Core.Option.{Option, none}
+use mathlib.Core.Path.{_≡_, refl, sym, ap, _∙_, subst}
+use Prim.Native.Nat.{ℕ, zero, suc, _-_}
+use native.Mathlib.Omega.{arith}
+use lib.Bits.{bitAnd}
+use lib.Dec.{eqb}
+use lib.ListN.{replicate, length-replicate}
+use borrow.Author.Tests.{eqb-true, eqb-false, not-false, ne-eqb}
+use Rattle.model.specs.declared.Extent.{Extent}
+use Rattle.model.specs.declared.Range.{Range}
+use Rattle.model.specs.declared.Selector.{Selector}
+use Rattle.model.specs.declared.UsageFlags.{UsageFlags}
+use Rattle.model.specs.Base.{if_then_else_, each}
+use Rattle.model.specs.Flags.{meets}
+use Rattle.model.specs.Representation.{Ends}
+use Rattle.model.specs.Sets.{Numbers, Slot, Set, Tracker, Head, Opening, emptySlot, openSet, openTracker}
+use Rattle.model.specs.Refusals.{opens, textureChecks, selectorChecks, stateChecks, singleRefusal}
+use Rattle.model.specs.Calls.{Call, callMergeSingle, callMergeUsageScope, callSetSingle, callSetFromUsageScope, callSetFromTracker, callSetAndRemoveSparse, Sets, step, newly}
+use Rattle.model.specs.RangedStates.{layerStates, Tiles}
+use Rattle.model.specs.Texture.{Held, single, many, Given, ranged}
+use Rattle.model.specs.Subresources.{everywhere}
+use Rattle.agreement.specs.Grid.{Grid, Named, grid, namedOr}
+use Rattle.agreement.specs.Shared.{firstOf, gridOf, entriesAt, gridAt}
+use Rattle.agreement.specs.WellFormedSets.{All, Word, GivenWord}
+use Rattle.agreement.specs.BoolLaws.{by-test, neither}
+use Rattle.agreement.specs.ListLaws.{all-right, all-join, all-left, all-replicate, first-of, unlike-lists}
+use Rattle.agreement.specs.BitLaws.{bit-nonzero}
+use Rattle.agreement.specs.TextureLaws.{Measured, Fit}
+use Rattle.agreement.specs.TrackerLaws.{Known, KnownAll, KnownEnd, FitEnds, ClearHeld, clear-known, UnknownNonzero}
+use Rattle.agreement.specs.LiftScope.{passed, Textures}
+use Rattle.agreement.specs.LiftTracker.{Tracks, FitTracker, FitScope, Alike}
+use Rattle.agreement.specs.LiftCalls.{Words, Good, stepped}
+use Rattle.agreement.specs.OpeningLaws.{opened-numbers, opened-fits}
+use Rattle.agreement.specs.Agree.{FitS, GivesC, Pairs, scope-facts, tracker-facts}
+use Rattle.agreement.specs.Fits.{StateFits, MipFits, HeldFits, unknowns, EndsFit, ExtentFits, SlotFits, SetFits, SetsFit}
+use Rattle.agreement.specs.WellStates.{FlagFacts, sure-flags, StatesFit, NamedFit, GridAll, merge-fits, insert-fits, update-end-fits, update-start-fits, grid-alike, use-fits, pass-fits, insert-back}
+use Rattle.agreement.specs.Rooms.{Room, RoomT, Rooms, SlotExtent, step-rooms}
+
+pub known-flags : (p : UsageFlags) → FlagFacts p → UnknownNonzero p
+known-flags p s = bit-nonzero 16 (p .unknown) (s .unknown-bit)
+
+-- ---- one texture: what holds of it, and of what is handed in
+-- a scope's texture, what is handed in, a tracker's texture, and a start with an end handed in: as in Agree, and with states that fit
+pub record FitW (p : UsageFlags) (sh : Extent) (h : Held) : Type 0 where
+  pub sure : FlagFacts p
+  pub base : FitS p sh h
+  pub states : StatesFit p (gridOf sh h .states)
+
+pub record GivesW (p : UsageFlags) (sh : Extent) (g : Given) (n : Named) : Type 0 where
+  pub sure : FlagFacts p
+  pub base : GivesC p sh g n
+  pub states : NamedFit p (n .states)
+
+pub record FitEW (p : UsageFlags) (sh : Extent) (e : Ends Held) : Type 0 where
+  pub sure : FlagFacts p
+  pub base : FitEnds p sh e
+  pub start : StatesFit p (gridOf sh (e .start) .states)
+  pub end : StatesFit p (gridOf sh (e .end) .states)
+  pub alike : unknowns (p .unknown) (gridOf sh (e .start) .states) ≡ unknowns (p .unknown) (gridOf sh (e .end) .states)
+
+pub record PairsW (p : UsageFlags) (sh : Extent) (a : Given) (b : Named) (c : Given) (d : Named) : Type 0 where
+  pub sure : FlagFacts p
+  pub base : Pairs p sh a b c d
+  pub from : NamedFit p (b .states)
+  pub to : NamedFit p (d .states)
+  pub alike : unknowns (p .unknown) (map (map (namedOr (p .unknown))) (b .states)) ≡ unknowns (p .unknown) (map (map (namedOr (p .unknown))) (d .states))
+
+-- checks 12 and 13, and the sixteen bits
+state-fits : (h : Head) (i : ℕ) (sh : Extent) (sel : Option Selector) (st : ℕ) → Word st → singleRefusal h i sh sel st ≡ none → StateFits (h .flags) st
+state-fits h i sh sel st w e =
+    let t = all-right _ (textureChecks h i sh ++ selectorChecks sh sel) (stateChecks (h .flags) st) (passed _ e) in
+    let o = neither (eqb st 0 || meets st (h .flags .unknown)) (meets st (h .flags .complex)) (t .0) in
+    let u = neither (eqb st 0) (meets st (h .flags .unknown)) (o .0) in
+    record {
+      nonzero = eqb-false st 0 (u .0);
+      word = w;
+      compatible = t .1 .0;
+      plain = eqb-true (bitAnd st (h .flags .complex)) 0 (not-false _ (o .1));
+    }
+
+pub scopes-well : Textures ranged grid gridOf firstOf FlagFacts Word FitW GivesW
+scopes-well = record {
+  fresh = scope-facts .fresh;
+  used = λ h i sh sel st s w e. record { sure = s; base = scope-facts .used h i sh sel st (known-flags (h .flags) s) tt e; states = use-fits (h .flags) sh sel st (state-fits h i sh sel st w e) };
+  passed-on = λ p sh h f. record { sure = f .sure; base = scope-facts .passed-on p sh h (f .base); states = pass-fits p (gridOf sh h) (f .states) };
+  inserted = λ p sh g n r. let m = scope-facts .inserted p sh g n (r .base) in
+      (record { sure = r .sure; base = m .0; states = subst (λ (s : Grid). StatesFit p (s .states)) (sym (m .1)) (insert-fits p sh n (r .sure) (r .states)) }, m .1);
+  merged = λ p sh h g n r f. let m = scope-facts .merged p sh h g n (r .base) (f .base) in
+      (record { sure = r .sure; base = m .0; states = subst (λ (s : Grid). StatesFit p (s .states)) (sym (m .1 .0)) (merge-fits p sh (gridOf sh h) n (f .states) (r .states)) }, m .1);
+}
+
+pub trackers-well : Tracks ranged grid gridOf FlagFacts Word FitW FitEW PairsW entriesAt gridAt
+trackers-well = record {
+  fresh = tracker-facts .fresh;
+  used = λ h i sh sel st s w e.
+      let n = use-fits (h .flags) sh sel st (state-fits h i sh sel st w e) in
+      record { sure = s; base = tracker-facts .used h i sh sel st (known-flags (h .flags) s) tt e; from = n; to = n; alike = refl };
+  passed-on = λ p sh h f. let n = pass-fits p (gridOf sh h) (f .states) in
+      record { sure = f .sure; base = tracker-facts .passed-on p sh h (f .base); from = n; to = n; alike = refl };
+  joined = λ p sh e f. record {
+    sure = f .sure;
+    base = tracker-facts .joined p sh e (f .base);
+    from = pass-fits p (gridOf sh (e .start)) (f .start);
+    to = pass-fits p (gridOf sh (e .end)) (f .end);
+    alike = rw (insert-back (p .unknown) (gridOf sh (e .start) .states), insert-back (p .unknown) (gridOf sh (e .end) .states)) (f .alike);
+  };
+  inserted = λ p sh a b c d r. let m = tracker-facts .inserted p sh a b c d (r .base) in (
+    record {
+      sure = r .sure;
+      base = m .0;
+      start = subst (λ (s : Grid). StatesFit p (s .states)) (sym (m .1)) (insert-fits p sh b (r .sure) (r .from));
+      end = subst (λ (s : Grid). StatesFit p (s .states)) (sym (m .2)) (insert-fits p sh d (r .sure) (r .to));
+      alike = ap (λ (s : Grid). unknowns (p .unknown) (s .states)) (m .1) ∙ r .alike ∙ sym (ap (λ (s : Grid). unknowns (p .unknown) (s .states)) (m .2));
+    },
+    m .1,
+    m .2,
+  );
+  updated = λ p sh e a b c d r f. let m = tracker-facts .updated p sh e a b c d (r .base) (f .base) in (
+    record {
+      sure = f .sure;
+      base = m .0;
+      start = subst (λ (s : Ends Grid). StatesFit p (s .start .states)) (sym (m .1)) (update-start-fits p (gridOf sh (e .start) .states) (gridOf sh (e .end) .states) (d .states) (f .start) (f .end) (r .to));
+      end = subst (λ (s : Ends Grid). StatesFit p (s .end .states)) (sym (m .1)) (update-end-fits p (gridOf sh (e .end) .states) (d .states) (f .end) (r .to));
+      alike = ap (λ (s : Ends Grid). unknowns (p .unknown) (s .start .states)) (m .1) ∙ grid-alike p (gridOf sh (e .start) .states) (gridOf sh (e .end) .states) (d .states) (f .alike)
+          ∙ sym (ap (λ (s : Ends Grid). unknowns (p .unknown) (s .end .states)) (m .1));
+    },
+    m .1,
+  );
+  logged = λ p mask sh e a b c d r f m l. tracker-facts .logged p mask sh e a b c d (r .base) (f .base) m l;
+}
+
+-- ---- by ranges, and by subresources
+states-of : (P : ℕ → Type 0) (s : List Range) → All (λ (r : Range). P (r .state)) s → All P (layerStates s)
+unfolding layerStates
+states-of P [] t = tt
+states-of P (r ∷ s) t = all-join P (replicate (r .end - r .start) (r .state)) _ (all-replicate P (r .state) (r .end - r .start) (t .0)) (states-of P s (t .1))
+
+pub ranges-of : (P : ℕ → Type 0) (s : List Range) (a e : ℕ) → Tiles a s e → All P (layerStates s) → All (λ (r : Range). P (r .state)) s
+unfolding layerStates
+ranges-of P [] a e t c = tt
+ranges-of P (r ∷ s) a e t c = (
+  first-of P (r .state) (r .end - r .start) (omega arith) (all-left P (replicate (r .end - r .start) (r .state)) (layerStates s) c),
+  ranges-of P s (r .end) e (t .2) (all-right P (replicate (r .end - r .start) (r .state)) (layerStates s) c),
+)
+
+mips-in : (p : UsageFlags) (w : ℕ) (ss : List (List Range)) → All (MipFits p w) ss → All (λ (s : List Range). Tiles 0 s w) ss × GridAll (StateFits p) (map layerStates ss)
+mips-in p w [] t = (tt, tt)
+mips-in p w (s ∷ ss) t = let ih = mips-in p w ss (t .1) in ((t .0 .tiles, ih .0), (states-of (StateFits p) s (t .0 .states), ih .1))
+
+mips-out : (p : UsageFlags) (w : ℕ) (ss : List (List Range)) → All (λ (s : List Range). Tiles 0 s w) ss → GridAll (StateFits p) (map layerStates ss) → All (MipFits p w) ss
+mips-out p w [] t c = tt
+mips-out p w (s ∷ ss) t c = (record { tiles = t .0; states = ranges-of (StateFits p) s 0 w (t .0) (c .0) }, mips-out p w ss (t .1) (c .1))
+
+pub held-in : (p : UsageFlags) (sh : Extent) (h : Held) → FlagFacts p → Measured sh → HeldFits p sh h → FitW p sh h
+unfolding gridOf
+held-in p sh (single st) s e f = record {
+  sure = s;
+  base = record { sure = known-flags p s; fit = e; clear = f .known };
+  states = all-replicate (All (StateFits p)) _ (sh .mips) (all-replicate (StateFits p) st (sh .layers) (f .state));
+}
+held-in p sh (many ss) s e f = let t = mips-in p (sh .layers) ss (f .1) in record {
+  sure = s;
+  base = record { sure = known-flags p s; fit = (e, f .0, t .0); clear = tt };
+  states = t .1;
+}
+
+held-out : (p : UsageFlags) (sh : Extent) (h : Held) → Measured sh → Fit sh h → ClearHeld p h → StatesFit p (gridOf sh h .states) → HeldFits p sh h
+unfolding gridOf
+held-out p sh (single st) e f c t = record { state = first-of (StateFits p) st (sh .layers) (e .1) (first-of (All (StateFits p)) (replicate (sh .layers) st) (sh .mips) (e .0) t); known = c }
+held-out p sh (many ss) e f c t = (f .1, mips-out p (sh .layers) ss (f .2) t)
+
+-- a grid whose UNKNOWN subresources are another's, which has none
+known-row : (u : ℕ) (r q : List ℕ) → map (λ c. eqb c u) r ≡ map (λ c. eqb c u) q → All (Known u) r → All (Known u) q
+known-row u [] [] e t = tt
+known-row u [] (y ∷ q) e t = absurd (unlike-lists _ _ e)
+known-row u (x ∷ r) [] e t = absurd (unlike-lists _ _ (sym e))
+known-row u (x ∷ r) (y ∷ q) e t =
+    let a : eqb x u ≡ eqb y u = cc in let b : map (λ c. eqb c u) r ≡ map (λ c. eqb c u) q = cc in
+    (eqb-false y u (sym a ∙ ne-eqb x u (t .0)), known-row u r q b (t .1))
+
+known-grid : (u : ℕ) (g h : List (List ℕ)) → unknowns u g ≡ unknowns u h → KnownAll u g → KnownAll u h
+known-grid u [] [] e t = tt
+known-grid u [] (y ∷ q) e t = absurd (unlike-lists _ _ e)
+known-grid u (x ∷ r) [] e t = absurd (unlike-lists _ _ (sym e))
+known-grid u (x ∷ r) (y ∷ q) e t =
+    let a : map (λ c. eqb c u) x ≡ map (λ c. eqb c u) y = cc in let b : unknowns u r ≡ unknowns u q = cc in
+    (known-row u x y a (t .0), known-grid u r q b (t .1))
+
+known-end : (p : UsageFlags) (sh : Extent) (s : Held) (g : List (List ℕ)) → UnknownNonzero p → ClearHeld p s → unknowns (p .unknown) (gridOf sh s .states) ≡ unknowns (p .unknown) g → KnownEnd p s g
+unfolding gridOf
+known-end p sh (single st) g s c e = known-grid (p .unknown) (everywhere sh st) g e
+    (all-replicate (All (Known (p .unknown))) _ (sh .mips) (all-replicate (Known (p .unknown)) st (sh .layers) (clear-known p st s c)))
+known-end p sh (many ss) g s c e = tt
+
+pub ends-in : (p : UsageFlags) (sh : Extent) (e : Ends Held) → FlagFacts p → Measured sh → EndsFit p sh e → FitEW p sh e
+ends-in p sh e s q f =
+    let a = held-in p sh (e .start) s q (f .start) in let b = held-in p sh (e .end) s q (f .end) in record {
+      sure = s;
+      base = record {
+        sure = known-flags p s;
+        measured = q;
+        start = a .base .fit;
+        start-clear = a .base .clear;
+        end = b .base .fit;
+        end-clear = b .base .clear;
+        known = known-end p sh (e .start) (gridOf sh (e .end) .states) (known-flags p s) (a .base .clear) (f .agree);
+      };
+      start = a .states;
+      end = b .states;
+      alike = f .agree;
+    }
+
+pub ends-out : (p : UsageFlags) (sh : Extent) (e : Ends Held) → Measured sh → FitEW p sh e → EndsFit p sh e
+ends-out p sh e q f = record {
+  start = held-out p sh (e .start) q (f .base .start) (f .base .start-clear) (f .start);
+  end = held-out p sh (e .end) q (f .base .end) (f .base .end-clear) (f .end);
+  agree = f .alike;
+}
+
+-- ---- sets
+measured : (n : Numbers) (sh : Extent) → ExtentFits n sh → Measured sh
+measured n sh f = (f .mip, f .layer)
+
+pub opened-flags : (o : Opening) → opens o ≡ true → FlagFacts (o .flags)
+opened-flags o e = sure-flags (o .flags) (opened-fits o e)
+
+module _ {H : Type 0} (P Q : UsageFlags → Extent → H → Type 0)
+    (inward : (p : UsageFlags) (sh : Extent) (h : H) → FlagFacts p → Measured sh → P p sh h → Q p sh h) (outward : (p : UsageFlags) (sh : Extent) (h : H) → Measured sh → Q p sh h → P p sh h) where
+  slots-in : (n : Numbers) (p : UsageFlags) (l : List (Slot H)) → FlagFacts p → All (SlotFits P n p) l → All (λ (x : Slot H). x .owned ≡ true → Q p (x .extent) (x .held)) l
+  slots-in n p [] s t = tt
+  slots-in n p (x ∷ l) s t = (λ o. inward p (x .extent) (x .held) s (measured n (x .extent) (t .0 .extent o)) (t .0 .held o), slots-in n p l s (t .1))
+
+  rooms-in : (n : Numbers) (p : UsageFlags) (l : List (Slot H)) → All (SlotFits P n p) l → All (SlotExtent n) l
+  rooms-in n p [] t = tt
+  rooms-in n p (x ∷ l) t = (t .0 .extent, rooms-in n p l (t .1))
+
+  slots-out : (n : Numbers) (p : UsageFlags) (l : List (Slot H)) → All (SlotExtent n) l → All (λ (x : Slot H). x .owned ≡ true → Q p (x .extent) (x .held)) l → All (SlotFits P n p) l
+  slots-out n p [] r t = tt
+  slots-out n p (x ∷ l) r t = (record { extent = r .0; held = λ o. outward p (x .extent) (x .held) (measured n (x .extent) (r .0 o)) (t .0 o) }, slots-out n p l (r .1) (t .1))
+
+  abbrev Fits : Set H → Type 0
+  Fits s = FlagFacts (s .flags) × All (λ (x : Slot H). x .owned ≡ true → Q (s .flags) (x .extent) (x .held)) (s .slots)
+
+  set-in : (s : Set H) → SetFits P s → Fits s × Room s
+  set-in s f =
+      let p = sure-flags (s .flags) (f .flags) in
+      ((p, slots-in (s .numbers) (s .flags) (s .slots) p (f .slots)), record { numbers = f .numbers; flags = f .flags; room = f .room; extents = rooms-in (s .numbers) (s .flags) (s .slots) (f .slots) })
+
+  set-back : (s : Set H) → Fits s → Room s → SetFits P s
+  set-back s f r = record { numbers = r .numbers; flags = r .flags; room = r .room; slots = slots-out (s .numbers) (s .flags) (s .slots) (r .extents) (f .1) }
+
+pub fit-out : (p : UsageFlags) (sh : Extent) (h : Held) → Measured sh → FitW p sh h → HeldFits p sh h
+fit-out p sh h q f = held-out p sh h q (f .base .fit) (f .base .clear) (f .states)
+
+abbrev pub WellSets : Sets ranged → Type 0
+WellSets = Good ranged grid gridOf firstOf FlagFacts Word FitW FitEW GivesW PairsW entriesAt gridAt
+
+scopes-in : (l : List (Set Held)) → All (SetFits HeldFits) l → All (Fits HeldFits FitW held-in fit-out) l × All Room l
+scopes-in [] t = (tt, tt)
+scopes-in (s ∷ l) t = let a = set-in HeldFits FitW held-in fit-out s (t .0) in let b = scopes-in l (t .1) in ((a .0, b .0), (a .1, b .1))
+
+scopes-out : (l : List (Set Held)) → All (Fits HeldFits FitW held-in fit-out) l → All Room l → All (SetFits HeldFits) l
+scopes-out [] t r = tt
+scopes-out (s ∷ l) t r = (set-back HeldFits FitW held-in fit-out s (t .0) (r .0), scopes-out l (t .1) (r .1))
+
+abbrev FitsT : Tracker Held → Type 0
+FitsT t = Fits EndsFit FitEW ends-in ends-out (t .set)
+
+trackers-in : (l : List (Tracker Held)) → All (λ (t : Tracker Held). SetFits EndsFit (t .set)) l → All FitsT l × All (RoomT ranged) l
+trackers-in [] t = (tt, tt)
+trackers-in (s ∷ l) t = let a = set-in EndsFit FitEW ends-in ends-out (s .set) (t .0) in let b = trackers-in l (t .1) in ((a .0, b .0), (a .1, b .1))
+
+trackers-out : (l : List (Tracker Held)) → All FitsT l → All (RoomT ranged) l → All (λ (t : Tracker Held). SetFits EndsFit (t .set)) l
+trackers-out [] t r = tt
+trackers-out (s ∷ l) t r = (set-back EndsFit FitEW ends-in ends-out (s .set) (t .0) (r .0), trackers-out l (t .1) (r .1))
+
+pub well-good : (k : Sets ranged) → SetsFit k → WellSets k × Rooms ranged k
+well-good k w = let a = scopes-in (k .scopes) (w .scopes) in let b = trackers-in (k .trackers) (w .trackers) in ((a .0, b .0), record { scopes = a .1; trackers = b .1 })
+
+good-well : (k : Sets ranged) → WellSets k → Rooms ranged k → SetsFit k
+good-well k g r = record { scopes = scopes-out (k .scopes) (g .0) (r .scopes); trackers = trackers-out (k .trackers) (g .1) (r .trackers) }
+
+pub words : (c : Call) → GivenWord c → Words Word c
+words (callMergeSingle n i sh sel st) w = w
+words (callMergeUsageScope n m) w = w
+words (callSetSingle n i sh sel st) w = w
+words (callSetFromUsageScope n m) w = w
+words (callSetFromTracker n m) w = w
+words (callSetAndRemoveSparse n m is) w = w
+
+-- each of the six calls, on any well-formed sets
+pub call-keeps-well-formed : (c : Call) (k : Sets ranged) → GivenWord c → SetsFit k → SetsFit (step ranged c k .after)
+call-keeps-well-formed c k w f =
+    let g = well-good k f in
+    good-well (step ranged c k .after)
+    (stepped ranged grid gridOf firstOf FlagFacts Word FitW FitEW GivesW PairsW entriesAt gridAt scopes-well trackers-well opened-flags c k (words c w) (g .0) .good)
+    (step-rooms ranged c k (g .1))
+
+-- ---- newly opened
+unowned-slots : {H : Type 0} (P : UsageFlags → Extent → H → Type 0) (n : Numbers) (p : UsageFlags) (h : H) (m : ℕ) → All (SlotFits P n p) (replicate m (emptySlot h))
+unowned-slots P n p h zero = tt
+unowned-slots P n p h (suc m) = (record { extent = λ (z : false ≡ true). absurd (false≢true z); held = λ (z : false ≡ true). absurd (false≢true z) }, unowned-slots P n p h m)
+
+new-scopes : (os : List Opening) → All (SetFits HeldFits) (each (λ o. if opens o then openSet (ranged .fresh) o ∷ [] else []) os)
+new-scopes [] = tt
+new-scopes (o ∷ os) =
+    let ih = new-scopes os in
+    by-test (λ (a : List (Set Held)). All (SetFits HeldFits) (a ++ each (λ o. if opens o then openSet (ranged .fresh) o ∷ [] else []) os)) (opens o)
+    (λ e. (record { numbers = opened-numbers o e; flags = opened-fits o e; room = length-replicate (o .numbers .textures) _; slots = unowned-slots HeldFits (o .numbers) (o .flags) _ (o .numbers .textures) }, ih))
+    (λ e. ih)
+
+new-trackers : (os : List Opening) → All (λ (t : Tracker Held). SetFits EndsFit (t .set)) (each (λ o. if opens o then openTracker (ranged .fresh) o ∷ [] else []) os)
+new-trackers [] = tt
+new-trackers (o ∷ os) =
+    let ih = new-trackers os in
+    by-test (λ (a : List (Tracker Held)). All (λ (t : Tracker Held). SetFits EndsFit (t .set)) (a ++ each (λ o. if opens o then openTracker (ranged .fresh) o ∷ [] else []) os)) (opens o)
+    (λ e. (record { numbers = opened-numbers o e; flags = opened-fits o e; room = length-replicate (o .numbers .textures) _; slots = unowned-slots EndsFit (o .numbers) (o .flags) _ (o .numbers .textures) }, ih))
+    (λ e. ih)
+
+pub opened-well-formed : (scopes trackers : List Opening) → SetsFit (newly ranged scopes trackers)
+unfolding newly
+opened-well-formed os ts = record { scopes = new-scopes os; trackers = new-trackers ts }
+
+abbrev pub WellTracker : Tracker Held → Type 0
+WellTracker = FitTracker ranged grid gridOf FlagFacts Word FitW FitEW PairsW entriesAt gridAt
+
+abbrev pub WellScope : Set Held → Type 0
+WellScope = FitScope ranged grid gridOf FlagFacts Word FitW FitEW PairsW entriesAt gridAt trackers-well
+
+abbrev pub AlikeSets : Tracker Held → Set Held → ℕ → Type 0
+AlikeSets = Alike ranged grid gridOf FlagFacts Word FitW FitEW PairsW entriesAt gridAt trackers-well
