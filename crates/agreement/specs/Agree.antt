@@ -26,7 +26,7 @@ use Rattle.agreement.specs.Shared.{firstOf, seen, seenSlot, itself, seen
 use Rattle.agreement.specs.WellFormedSets.{All}
 use Rattle.agreement.specs.BoolLaws.{by-test, neither}
 use Rattle.agreement.specs.ListLaws.{all-right, at-most-one}
-use Rattle.agreement.specs.BitLaws.{and-or}
+use Rattle.usage.specs.BitLaws.{and-or}
 use Rattle.agreement.specs.RulesAgree.{update-rule}
 use Rattle.agreement.specs.TextureLaws.{Measured, Fit, Gives, gives-one, inserted, merged, fills}
 use Rattle.agreement.specs.TrackerLaws.{Known, KnownAll, Clear, ClearHeld, ClearGiven, UnknownNonzero, KnownEnd, FitEnds, KnownO, KnownGiven, clear-known, dims-held, dims-everywhere, updated, inserted-ends, insert-clear}

@@ -26,7 +26,7 @@ use Rattle.agreement.specs.LogBound.{oneIf}
 use Rattle.agreement.specs.WebGpu.{History, Histories, usesFit, oneUse, handUse, takeState, takeStates, historyMerge, histories, noHistory, Names, InConflict, Unfit}
 use Rattle.agreement.specs.BoolLaws.{neither}
 use Rattle.agreement.specs.ListLaws.{all-left, all-right, all-join, all-getD, all-both, AllO}
-use Rattle.agreement.specs.BitLaws.{and-or}
+use Rattle.usage.specs.BitLaws.{and-or}
 use Rattle.agreement.specs.LiftScope.{passed}
 use Rattle.agreement.specs.ScopeLaws.{Passed}
 use Rattle.agreement.specs.WellStates.{GridAll, use-all}

@@ -13,7 +13,7 @@ use Rattle.model.specs.Base.{every}
 use Rattle.model.specs.Flags.{meets, oneBit, incompatible}
 use Rattle.agreement.specs.WellFormedSets.{All}
 use Rattle.agreement.specs.WebGpu.{Renders, Usage, input, constant, storage, storageRead, attachment, attachmentRead, reads, isStorage, isAttachment, oneElement, compatibleList, sameBit, usesFit}
-use Rattle.agreement.specs.BitLaws.{and-or, or-zero, or-assoc, in-one-bit}
+use Rattle.usage.specs.BitLaws.{and-or, or-zero, or-assoc, in-one-bit}
 
 -- a use as it passes the checks: of sixteen bits, nonzero, without UNKNOWN
 pub record UseFits (p : UsageFlags) (st : ℕ) : Type 0 where

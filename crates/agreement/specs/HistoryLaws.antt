@@ -25,7 +25,7 @@ use Rattle.agreement.specs.WellFormedSets.{All, Word}
 use Rattle.agreement.specs.WebGpu.{History, Histories, HandedIn, oneUse, handUse, handAll, historyInsert, takeState, takeStates, historyMerge, statesOf, named, bare, histories}
 use Rattle.agreement.specs.BoolLaws.{neither}
 use Rattle.agreement.specs.ListLaws.{all-right, all-join, all-map, all-replicate, AllO, at-most-one}
-use Rattle.agreement.specs.BitLaws.{and-or, or-zero, or-half, or-odd}
+use Rattle.usage.specs.BitLaws.{and-or, or-zero, or-half, or-odd}
 use Rattle.agreement.specs.WalkLaws.{Sim}
 use Rattle.agreement.specs.RulesAgree.{less-without}
 use Rattle.agreement.specs.LiftScope.{passed, Textures}

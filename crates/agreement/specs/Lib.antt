@@ -7,7 +7,6 @@ pub mod WebGpu
 pub mod Claims
 pub mod BoolLaws
 pub mod ListLaws
-pub mod BitLaws
 pub mod WalkLaws
 pub mod RangeLaws
 pub mod RangeCount

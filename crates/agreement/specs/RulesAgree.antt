@@ -15,7 +15,7 @@ use Rattle.model.specs.Flags.{incompatible}
 use Rattle.model.specs.Representation.{Ends}
 use Rattle.model.specs.StateRules.{Move, invalidState, skipBarrier, less, unite, uniteKnown, moveOf, endAfter}
 use Rattle.agreement.specs.Grid.{Grid, Named, SubresourceConflict, uniteStates, without, singleUnion, manyUnion, skipped, transition, endState, startState, namedTransition, namedEnd, namedStart, gridMerge, gridBarrier, gridUpdate}
-use Rattle.agreement.specs.BitLaws.{and-absorb}
+use Rattle.usage.specs.BitLaws.{and-absorb}
 
 -- ---- one state
 pub less-without : (u s : ℕ) → without u s ≡ less u s

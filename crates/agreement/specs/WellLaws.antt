@@ -27,7 +27,7 @@ use Rattle.agreement.specs.Shared.{firstOf, gridOf, entriesAt, gridAt}
 use Rattle.agreement.specs.WellFormedSets.{All, Word, GivenWord}
 use Rattle.agreement.specs.BoolLaws.{by-test, neither}
 use Rattle.agreement.specs.ListLaws.{all-right, all-join, all-left, all-replicate, first-of, unlike-lists}
-use Rattle.agreement.specs.BitLaws.{bit-nonzero}
+use Rattle.usage.specs.BitLaws.{bit-nonzero}
 use Rattle.agreement.specs.TextureLaws.{Measured, Fit}
 use Rattle.agreement.specs.TrackerLaws.{Known, KnownAll, KnownEnd, FitEnds, ClearHeld, clear-known, UnknownNonzero}
 use Rattle.agreement.specs.LiftScope.{passed, Textures}

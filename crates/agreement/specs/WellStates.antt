@@ -21,7 +21,7 @@ use Rattle.agreement.specs.Grid.{Grid, Named, SubresourceConflict, witho
 use Rattle.agreement.specs.WellFormedSets.{All}
 use Rattle.agreement.specs.BoolLaws.{by-test}
 use Rattle.agreement.specs.ListLaws.{all-join, all-map, all-replicate, AllO, unlike-lists}
-use Rattle.agreement.specs.BitLaws.{and-or, or-zero, split-bits, bit-nonzero, bits-apart}
+use Rattle.usage.specs.BitLaws.{and-or, or-zero, split-bits, bit-nonzero, bits-apart}
 use Rattle.agreement.specs.WalkLaws.{onward-all}
 use Rattle.agreement.specs.RulesAgree.{less-without}
 use Rattle.agreement.specs.Fits.{StateFits, unknowns}

@@ -1,4 +1,4 @@
--- The bits of a union: over every usage flags.
+-- The bits of a union, of what two numbers share, and of a number less some bits.
 use mathlib.Core.Path.{_≡_, refl, sym, ap, ap₂, _∙_}
 use Prim.Native.Nat.{ℕ, zero, suc, _+_, _-_, _*_, _/_, _%_, _^_, _≤_, _<_, min, max}
 use native.Mathlib.Omega.{arith}
@@ -58,10 +58,10 @@ split-bits s u =
   where
     apart : (s u : ℕ) → bitAnd (s - bitAnd u s) (bitAnd u s) ≡ 0
     apart s u = bin-ind (λ (s : ℕ). (u : ℕ) → bitAnd (s - bitAnd u s) (bitAnd u s) ≡ 0) (λ u. rw (and-zero-r u) refl)
-        (λ n ih u. one n u (ih (u / 2))) s u
+        (λ n ih u. givenSingle n u (ih (u / 2))) s u
       where
-        one : (n u : ℕ) → bitAnd (n / 2 - bitAnd (u / 2) (n / 2)) (bitAnd (u / 2) (n / 2)) ≡ 0 → bitAnd (n - bitAnd u n) (bitAnd u n) ≡ 0
-        one n u h =
+        givenSingle : (n u : ℕ) → bitAnd (n / 2 - bitAnd (u / 2) (n / 2)) (bitAnd (u / 2) (n / 2)) ≡ 0 → bitAnd (n - bitAnd u n) (bitAnd u n) ≡ 0
+        givenSingle n u h =
             let s = and-step u n in
             let l = and-le-r (u / 2) (n / 2) in
             let x : (n - bitAnd u n) / 2 ≡ n / 2 - bitAnd (u / 2) (n / 2) = omega arith in

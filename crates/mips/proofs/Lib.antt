@@ -1,0 +1,5 @@
+pub mod Passing
+pub mod Runs
+pub mod Walking
+pub mod Painted
+pub mod Learnt

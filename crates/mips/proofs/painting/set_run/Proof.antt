@@ -1,0 +1,53 @@
+-- `set_run` is a pass that nothing stops.
+use Prim.Native.Nat.{_-_}
+use Rattle.model.specs.RangedStates.{inState}
+use Rattle.mips.proofs.Passing.{Passing, start-of, turn}
+use Rattle.mips.proofs.Painted.{never, set-all}
+use borrow.Author.Needs.{needs}
+use Rattle.mips.proofs.painting.set_run.Statement.{statement}
+use Rattle.mips.proofs.painting.set_run.Tie as tie
+
+abbrev Inv-loop : tie.InvT-loop
+Inv-loop s₀ from to state k₀ s k = Passing never (inState state) s₀ from to s k
+
+abbrev μ-loop : tie.MeasureT-loop
+μ-loop s₀ from to state k₀ s k = to - k
+
+loop-holds : tie.Need-loop-holds Inv-loop μ-loop
+loop-holds c = search start-of
+
+get-requires : tie.Need-get-requires Inv-loop μ-loop
+get-requires c κs = search needs
+
+put-requires : tie.Need-put-requires Inv-loop μ-loop
+put-requires c κs = search needs
+
+add-k : tie.Need-add-k Inv-loop μ-loop
+add-k c = search needs
+
+loop-less : tie.Need-loop-less Inv-loop μ-loop
+loop-less c = search needs
+
+loop-again : tie.Need-loop-again Inv-loop μ-loop
+loop-again c = search turn
+
+same-length : tie.Need-same-length Inv-loop μ-loop
+same-length c = search needs
+
+returns : tie.Need-returns Inv-loop μ-loop
+returns c = search set-all
+
+pub set-run-spec : {M : Type 1} → statement M
+set-run-spec =
+    tie.close
+    (tie.spec
+    Inv-loop
+    μ-loop
+    loop-holds
+    get-requires
+    put-requires
+    add-k
+    loop-less
+    loop-again
+    same-length
+    returns)

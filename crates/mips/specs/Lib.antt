@@ -1,0 +1,5 @@
+pub mod Pass
+pub mod Merge
+pub mod Paint
+pub mod Learn
+pub mod Kept

@@ -1,0 +1,6 @@
+pub mod Part
+pub mod Storage
+pub mod Lists
+pub mod Frames
+pub mod Slots
+pub mod Locate

@@ -1,0 +1,150 @@
+-- A part of a list at a computed place.
+use Prim.Native.Nat.{ℕ, zero, suc, _+_, _*_, _-_, _≤_, _<_}
+use mathlib.Core.Path.{_≡_, refl, ap, sym, _∙_}
+use mathlib.Core.List.{List, _++_}
+use native.Mathlib.Nat.{suc-mul, mul-le-mul-right, le-mul-of-pos-right, le-trans}
+use native.Mathlib.Omega.{arith}
+use mathlib.Core.Bool.{Bool, true, false}
+use mathlib.Core.Logic.{_⊎_, inl, inr}
+use lib.Dec.{ltb, eqb}
+use borrow.Author.Tests.{ltb-true, ltb-false, eqb-true, eqb-false}
+use lib.Arith.{digits-lt}
+use lib.ListN.{length, getD, take, drop, set, length-take, length-drop, length-append, List·getD-append}
+use lib.Seq.{length-take-le, getD-take, getD-drop, getD-append-add, take-at, drop-at, ext-getD}
+
+-- the start of the ranges of (i, m), with M mips a texture and W records a mip
+unfoldable pub baseOf : ℕ → ℕ → ℕ → ℕ → ℕ
+baseOf i m M W = (i * M + m) * W * 3
+
+-- the k numbers from b on
+unfoldable pub partOf : List ℕ → ℕ → ℕ → List ℕ
+partOf l b k = take k (drop b l)
+
+-- l with p standing in the place of the k numbers from b on
+unfoldable pub putPart : List ℕ → ℕ → ℕ → List ℕ → List ℕ
+putPart l b k p = take b l ++ (p ++ drop k (drop b l))
+
+-- block k of S blocks of W ends within them
+pub block-le : (k S W : ℕ) → k < S → k * W + W ≤ S * W
+block-le k S W h = let p : suc k * W ≤ S * W = mul-le-mul-right W h in omega (arith, suc-mul k W)
+
+-- each number on the way to where the ranges of (i, m) begin is at most the whole
+pub record Places (i m M W all : ℕ) : Type 0 where
+  pub row : i * M ≤ all
+  pub at : i * M + m ≤ all
+  pub records : (i * M + m) * W ≤ all
+  pub end : (i * M + m) * W * 3 + 3 * W ≤ all
+
+pub places-fit : (i m N M W all : ℕ) → i < N → m < M → 0 < W → N * M * W * 3 ≤ all → Places i m M W all
+places-fit i m N M W all hi hm hw h =
+    let s : i * M + m < N * M = digits-lt hi hm in
+    let b : (i * M + m) * W + W ≤ N * M * W = block-le (i * M + m) (N * M) W s in
+    let p : i * M + m ≤ (i * M + m) * W = le-mul-of-pos-right (i * M + m) hw in
+    record { row = omega arith; at = omega arith; records = omega arith; end = omega arith }
+
+-- ---- a list with p in the place of the k numbers from b on
+module _ (l : List ℕ) (b k : ℕ) (p : List ℕ) (room : b + k ≤ length l) (size : length p ≡ k) where
+  pub put-length : length (putPart l b k p) ≡ length l
+  unfolding putPart
+  put-length = simp (length-append, length-take, length-drop) (omega arith)
+
+  pub put-before : (j d : ℕ) → j < b → getD (putPart l b k p) j d ≡ getD l j d
+  unfolding putPart
+  put-before j d h =
+      let e : length (take b l) ≡ b = length-take-le b l (omega arith) in
+      List·getD-append (take b l) (p ++ drop k (drop b l)) d j (omega arith) ∙ getD-take b l j d h
+
+  pub put-in : (j d : ℕ) → j < k → getD (putPart l b k p) (b + j) d ≡ getD p j d
+  unfolding putPart
+  put-in j d h =
+      let e : length (take b l) ≡ b = length-take-le b l (omega arith) in
+      ap (λ (n : ℕ). getD (take b l ++ (p ++ drop k (drop b l))) (n + j) d) (sym e)
+      ∙ getD-append-add (take b l) (p ++ drop k (drop b l)) j d ∙ List·getD-append p (drop k (drop b l)) d j (omega arith)
+
+  pub put-after : (j d : ℕ) → b + k ≤ j → getD (putPart l b k p) j d ≡ getD l j d
+  unfolding putPart
+  put-after j d h =
+      let e : length (take b l) ≡ b = length-take-le b l (omega arith) in
+      let n : ℕ = j - (b + k) in
+      let s : j ≡ length (take b l) + (length p + n) = omega arith in
+      let t : b + (k + n) ≡ j = omega arith in
+      ap (λ (x : ℕ). getD (take b l ++ (p ++ drop k (drop b l))) x d) s
+      ∙ getD-append-add (take b l) (p ++ drop k (drop b l)) (length p + n) d
+      ∙ getD-append-add p (drop k (drop b l)) n d ∙ getD-drop k (drop b l) n d ∙ getD-drop b l (k + n) d ∙ ap (λ (x : ℕ). getD l x d) t
+
+  pub put-part : partOf (putPart l b k p) b k ≡ p
+  unfolding putPart partOf
+  put-part =
+      let e : length (take b l) ≡ b = length-take-le b l (omega arith) in
+      ap (take k) (drop-at (take b l) (p ++ drop k (drop b l)) b e) ∙ take-at p (drop k (drop b l)) k size
+
+-- two lists with the same numbers from b on, k of them, have the same part there
+pub part-same : (l l′ : List ℕ) (b k : ℕ) → length l ≡ length l′ → b + k ≤ length l → ((j : ℕ) → j < k → getD l (b + j) 0 ≡ getD l′ (b + j) 0) → partOf l b k ≡ partOf l′ b k
+unfolding partOf
+part-same l l′ b k e h f =
+    let n : length (take k (drop b l)) ≡ k = simp (length-take, length-drop) (omega arith) in
+    let n′ : length (take k (drop b l′)) ≡ k = simp (length-take, length-drop) (omega arith) in
+    ext-getD 0 (take k (drop b l)) (take k (drop b l′)) (n ∙ sym n′)
+    (λ i hi. let h′ : i < k = omega arith in getD-take k (drop b l) i 0 h′ ∙ getD-drop b l i 0 ∙ f i h′ ∙ sym (getD-drop b l′ i 0) ∙ sym (getD-take k (drop b l′) i 0 h′))
+
+-- blocks of W, one below the other, do not meet
+pub blocks-apart : (s t W : ℕ) → s < t → s * W * 3 + 3 * W ≤ t * W * 3
+blocks-apart s t W h = omega (arith, block-le s t W h)
+
+pub part-length : (l : List ℕ) (b k : ℕ) → b + k ≤ length l → length (partOf l b k) ≡ k
+unfolding partOf
+part-length l b k h = length-take-le k (drop b l) (rw length-drop (omega arith))
+
+-- a part that does not meet the one put
+pub put-apart : (l : List ℕ) (b k : ℕ) (p : List ℕ) → b + k ≤ length l → length p ≡ k → (c : ℕ) → c + k ≤ length l → (c + k ≤ b) ⊎ (b + k ≤ c) → partOf (putPart l b k p) c k ≡ partOf l c k
+put-apart l b k p room size c h (inl q) =
+    part-same (putPart l b k p) l c k (put-length l b k p room size) (rw (put-length l b k p room size) h)
+    (λ j t. put-before l b k p room size (c + j) 0 (omega arith))
+put-apart l b k p room size c h (inr q) =
+    part-same (putPart l b k p) l c k (put-length l b k p room size) (rw (put-length l b k p room size) h)
+    (λ j t. put-after l b k p room size (c + j) 0 (omega arith))
+
+-- ---- the ranges of two mips
+pub by-lt : {P : Type 0} (a b : ℕ) → (a < b → P) → (b ≤ a → P) → P
+by-lt {P} a b f g = go (ltb a b) refl
+  where
+    go : (t : Bool) → ltb a b ≡ t → P
+    go true q = f (ltb-true a b q)
+    go false q = g (ltb-false a b q)
+
+pub by-eq : {P : Type 0} (a b : ℕ) → (a ≡ b → P) → ((a ≡ b → ⊥) → P) → P
+by-eq {P} a b f g = go (eqb a b) refl
+  where
+    go : (t : Bool) → eqb a b ≡ t → P
+    go true q = f (eqb-true a b q)
+    go false q = g (eqb-false a b q)
+
+pub row-lt : (i j m M : ℕ) → i < j → m < M → i * M + m < j * M
+row-lt i j m M h k = digits-lt h k
+
+pub lt-ne : (i j : ℕ) → i ≤ j → (j ≡ i → ⊥) → i < j
+lt-ne i j h ne = by-lt i j (λ q. q) (λ q. absurd (ne (omega arith)))
+
+-- the ranges of two textures do not meet
+pub textures-apart : (i j m k M W : ℕ) → m < M → k < M → (j ≡ i → ⊥) → (baseOf j k M W + 3 * W ≤ baseOf i m M W) ⊎ (baseOf i m M W + 3 * W ≤ baseOf j k M W)
+unfolding baseOf
+textures-apart i j m k M W hm hk ne =
+    by-lt j i
+    (λ (h : j < i). inl (blocks-apart (j * M + k) (i * M + m) W (omega (arith, row-lt j i k M h hk))))
+    (λ (h : i ≤ j). inr (blocks-apart (i * M + m) (j * M + k) W (omega (arith, row-lt i j m M (lt-ne i j h ne) hm))))
+
+-- two mips of one texture do not meet
+pub mips-apart : (i m k M W : ℕ) → (k ≡ m → ⊥) → (baseOf i k M W + 3 * W ≤ baseOf i m M W) ⊎ (baseOf i m M W + 3 * W ≤ baseOf i k M W)
+unfolding baseOf
+mips-apart i m k M W ne =
+    by-lt k m
+    (λ (h : k < m). inl (blocks-apart (i * M + k) (i * M + m) W (omega arith)))
+    (λ (h : m ≤ k). inr (blocks-apart (i * M + m) (i * M + k) W (omega (arith, lt-ne m k h ne))))
+
+-- (i, m) is one of N × M mips of W ranges, for some N that the room holds
+pub record Within (i m M W room : ℕ) : Type 0 where
+  pub count : ℕ
+  pub texture : i < count
+  pub mip : m < M
+  pub some : 0 < W
+  pub fits : count * M * W * 3 ≤ room

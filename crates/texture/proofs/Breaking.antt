@@ -1,0 +1,62 @@
+-- A texture becomes Many: its state tells COMPLEX, its mips are made anew, and what a selector names is changed by f.
+use Prim.Native.Nat.{ℕ, _+_, _≤_, _<_}
+use native.Mathlib.Omega.{arith}
+use mathlib.Core.Path.{_≡_, refl, sym, ap, subst, _∙_}
+use mathlib.Core.Bool.{Bool}
+use mathlib.Core.List.{List, [], _∷_}
+use lib.ListN.{length, getD, set, replicate}
+use lib.Seq.{getD-set-same, getD-set-other}
+use Rattle.model.specs.declared.UsageFlags.{UsageFlags}
+use Rattle.model.specs.declared.Extent.{Extent}
+use Rattle.model.specs.declared.Selector.{Selector}
+use Rattle.model.specs.declared.Range.{Range}
+use Rattle.model.specs.Sets.{Numbers}
+use Rattle.model.specs.RangedStates.{range}
+use Rattle.model.specs.Texture.{Held, many, onMips, freshMips}
+use Rattle.storage.specs.Storage.{numbersOf, mipsOf}
+use Rattle.storage.specs.Frames.{Measured, MipsBecome, HalfFrame, half-of, half-then, half-word}
+use Rattle.storage.specs.Slots.{HalfBecomes, become-many, half-low}
+use Rattle.texture.specs.Ready.{ManyReady, Selects, EveryReady}
+use Rattle.texture.specs.Uses.{UseReady, use-then, use-every, use-selects, fresh-many}
+
+module _ {h i : ℕ} {sh : Extent} {all : Bool} {q : Selector} {p : UsageFlags} {new : ℕ} {t r : List ℕ} (u : UseReady (numbersOf t) h t r i sh all q p new) (st : ℕ) where
+  abbrev t₁ : List ℕ
+  t₁ = set t (h + i) (p .complex)
+
+  first : UseReady (numbersOf t) h t₁ r i sh all q p new
+  first = use-then u (half-word (numbersOf t) h i (p .complex) t r)
+
+  -- the state of the first step tells COMPLEX
+  told : getD t₁ (h + i) 0 ≡ getD t₁ 5 0
+  told =
+      getD-set-same t (h + i) (p .complex) 0 (omega (arith, u .measured .table, u .measured .half .1, u .measured .textures, u .texture))
+      ∙ ap (λ (x : UsageFlags). x .complex) (first .flags)
+
+  pub break-every : EveryReady (numbersOf t₁) h t₁ r i (sh .mips)
+  break-every = subst (λ (d : Numbers). EveryReady d h t₁ r i (sh .mips)) (sym (first .measured .dims)) (use-every first)
+
+  module _ {t₂ r₂ : List ℕ} (b : MipsBecome (numbersOf t₁) h i (replicate (sh .mips) (range 0 (sh .layers) st ∷ [])) t₁ r t₂ r₂) where
+    b₂ : MipsBecome (numbersOf t) h i (freshMips sh st) t₁ r t₂ r₂
+    b₂ = subst (λ (d : Numbers). MipsBecome d h i (freshMips sh st) t₁ r t₂ r₂) (first .measured .dims) b
+
+    second : UseReady (numbersOf t) h t₂ r₂ i sh all q p new
+    second = use-then first (half-of (b₂ .frame))
+
+    pub break-many : ManyReady (numbersOf t₂) h t₂ r₂ i (getD t₂ (136 + i) 0)
+    break-many =
+        subst (λ (d : Numbers). ManyReady d h t₂ r₂ i (getD t₂ (136 + i) 0)) (sym (second .measured .dims))
+        (subst (λ (w : ℕ). ManyReady (numbersOf t) h t₂ r₂ i w) (sym (second .layers)) (fresh-many st second (b₂ .mips)))
+
+    pub break-selects : Selects (numbersOf t₂) t₂ i q
+    break-selects = subst (λ (d : Numbers). Selects d t₂ i q) (sym (second .measured .dims)) (use-selects second)
+
+    pub break-done : {t₃ r₃ : List ℕ} (f : List Range → List Range) → MipsBecome (numbersOf t₂) h i (onMips q f 0 (mipsOf (numbersOf t₂) h t₂ r₂ i)) t₂ r₂ t₃ r₃ → HalfBecomes (numbersOf t) h i (many (onMips q f 0 (freshMips sh st))) t r t₃ r₃
+    break-done {t₃} {r₃} f c =
+        let c₂ : MipsBecome (numbersOf t) h i (onMips q f 0 (mipsOf (numbersOf t) h t₂ r₂ i)) t₂ r₂ t₃ r₃ =
+        subst (λ (d : Numbers). MipsBecome d h i (onMips q f 0 (mipsOf d h t₂ r₂ i)) t₂ r₂ t₃ r₃) (second .measured .dims) c in
+        let k : getD t₂ (h + i) 0 ≡ getD t₂ 5 0 = b₂ .frame .below (h + i) (omega (arith, u .measured .textures)) ∙ told ∙ sym (b₂ .frame .below 5 (omega (arith, u .measured .half .0))) in
+        let x = become-many (second .measured) (u .texture) k c₂ in
+        record {
+          held = x .held ∙ ap (λ (ss : List (List Range)). many (onMips q f 0 ss)) (b₂ .mips);
+          frame = half-then (half-word (numbersOf t) h i (p .complex) t r) (half-then (half-of (b₂ .frame)) (x .frame));
+        }

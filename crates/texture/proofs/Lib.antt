@@ -1,0 +1,5 @@
+pub mod Laps
+pub mod Breaking
+pub mod UseCases
+pub mod Pieces
+pub mod Tests

@@ -1,0 +1,42 @@
+-- `paint_mip`: the ranges that `paint` leaves in the part are the mip's, and their count is written.
+use Rattle.storage.specs.Locate.{locates}
+use Rattle.texture.specs.Ready.{count-fits, mip-left, lent-is, lent-room}
+use borrow.Author.Needs.{needs}
+use Rattle.texture.proofs.mip.paint_mip.Statement.{statement}
+use Rattle.texture.proofs.mip.paint_mip.Tie as tie
+
+locate-requires : tie.Need-locate-requires
+locate-requires c κs = locates (c .before .before .pre .tiled .ready)
+
+mul-paint : tie.Need-mul-paint
+mul-paint c = search needs
+
+sub-paint : tie.Need-sub-paint
+sub-paint c = search needs
+
+part-paint-start : tie.Need-part-paint-start
+part-paint-start c = search needs
+
+part-paint-end : tie.Need-part-paint-end
+part-paint-end c = search needs
+
+paint-requires : tie.Need-paint-requires
+paint-requires c κs = let p = c .before .before .before .before .pre in lent-room (p .tiled) (c .before .locate .ensures) _ _ _ (p .order) (p .inside)
+
+set-count-requires : tie.Need-set-count-requires
+set-count-requires c κs = count-fits (c .before .before .before .before .before .before .before .before .pre .tiled .ready) (c .before .before .before .before .before .locate .ensures) _ (c .before .before .before .paint .ensures .fits)
+
+same-length : tie.Need-same-length
+same-length c = search needs
+
+returns : tie.Need-returns
+returns c =
+    let q = c .before .before .before .before .before .before .before .before .before .pre in
+    let l = c .before .before .before .before .before .before .locate .ensures in
+    let u = c .before .before .before .before .paint .ensures in
+    rw (c .set-count .ensures) (mip-left ((q .tiled) .ready) l _ _ _ (u .long) (u .fits) (rw (lent-is (q .tiled) l) at (u .seen)))
+
+pub paint-mip-spec : {M : Type 1} → statement M
+paint-mip-spec =
+    tie.close
+    (tie.spec locate-requires mul-paint sub-paint part-paint-start part-paint-end paint-requires set-count-requires same-length returns)

@@ -1,0 +1,6 @@
+pub mod Editing
+pub mod Walking
+pub mod Walks
+pub mod Ready
+pub mod Uses
+pub mod Giving

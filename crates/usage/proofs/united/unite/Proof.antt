@@ -1,0 +1,24 @@
+-- `unite` takes the union and tests it.
+use mathlib.Core.Path.{sym, _∙_}
+use Rattle.model.specs.StateRules.{unite}
+use Rattle.usage.specs.StateLaws.{invalid-is}
+use borrow.Author.Needs.{needs}
+use Rattle.usage.proofs.united.unite.Statement.{statement}
+use Rattle.usage.proofs.united.unite.Tie as tie
+
+union-requires : tie.Need-union-requires
+union-requires c κs = search needs
+
+incompatible-requires : tie.Need-incompatible-requires
+incompatible-requires c κs = search needs
+
+returns : tie.Need-returns
+unfolding unite
+returns c = let i = invalid-is _ _ ∙ sym (c .before .incompatible .ensures) ∙ (c .if1 .taken) in rw (← (c .before .before .union .ensures), i)
+
+returns-2 : tie.Need-returns-2
+unfolding unite
+returns-2 c = let i = invalid-is _ _ ∙ sym (c .before .incompatible .ensures) ∙ (c .if1 .left) in rw (← (c .before .before .union .ensures), i)
+
+pub unite-spec : {M : Type 1} → statement M
+unite-spec = tie.close (tie.spec union-requires incompatible-requires returns returns-2)

@@ -1,0 +1,4 @@
+pub mod BitLaws
+pub mod CountLaws
+pub mod StateLaws
+pub mod United

@@ -1,0 +1,76 @@
+// Usage: states of sixteen bits, and the rules that make one of two (the Rust's mod.rs, and the state rules of texture.rs).
+//
+// Place in the picture: a leaf over `model`. `mips` and `texture` unite states with it, `wellformed` and the public calls test them. It
+// knows of no texture, range or log, so that buffers can use it as it stands.
+//
+// What holds of every function: a state is any u32, the usage flags are any, nothing is required, and the answer equals the model's
+// definition. The definitions count sixteen bits, so `one_bit` looks at the low sixteen. Laws on states are in specs/StateLaws, on bits
+// in specs/BitLaws, on counts of bits in specs/CountLaws.
+pub mod flags;
+pub mod united;
+
+pub use flags::flags_fit;
+pub use flags::is_bit;
+pub use flags::same_flags;
+pub use flags::state_reserved;
+use model::UsageFlags;
+pub use united::United;
+pub use united::unite;
+pub use united::unite_known;
+ghost use mathlib.Core.Path.{_≡_};
+ghost use lib.Dec.{eqb};
+ghost use lib.Bits.{bitOr};
+ghost use Rattle.model.specs.Flags.{oneBit, meets as meetsOf, incompatible as incompatibleOf};
+ghost use Rattle.model.specs.StateRules.{skipBarrier, less as lessOf};
+
+// Whether exactly one of the sixteen bits is set.
+pub fn one_bit(s: u32) -> bool
+    ensures { λ r. ⌜ r ≡ oneBit s ⌝ }
+{
+    u32::count_ones(s & 65535) == 1
+}
+
+// Whether two states share a bit.
+pub fn meets(a: u32, b: u32) -> bool
+    ensures { λ r. ⌜ r ≡ meetsOf a b ⌝ }
+{
+    (a & b) != 0
+}
+
+// `invalid_resource_state`: the state meets EXCLUSIVE and has other than one bit set.
+pub fn incompatible(p: UsageFlags, s: u32) -> bool
+    ensures { λ r. ⌜ r ≡ incompatibleOf p s ⌝ }
+{
+    if meets(s, p.exclusive) {
+        return !one_bit(s);
+    }
+    false
+}
+
+// `skip_barrier`: old equals new and the mask contains old.
+pub fn skips(mask: u32, old: u32, new: u32) -> bool
+    ensures { λ r. ⌜ r ≡ skipBarrier mask old new ⌝ }
+{
+    old == new && (mask & old) == old
+}
+
+// All bits of both states.
+pub fn union(a: u32, b: u32) -> u32
+    ensures { λ r. ⌜ r ≡ bitOr a b ⌝ }
+{
+    a | b
+}
+
+// The state without some bits.
+pub fn less(bits: u32, s: u32) -> u32
+    ensures { λ r. ⌜ r ≡ lessOf bits s ⌝ }
+{
+    s - (bits & s)
+}
+
+// Whether a state is exactly UNKNOWN: beside another bit UNKNOWN is an ordinary one.
+pub fn is_unknown(p: UsageFlags, s: u32) -> bool
+    ensures { λ r. ⌜ r ≡ eqb s (p .unknown) ⌝ }
+{
+    s == p.unknown
+}

@@ -1,0 +1,7 @@
+pub mod Tiling
+pub mod Numbers
+pub mod Mips
+pub mod Holding
+pub mod Agreeing
+pub mod Known
+pub mod Ends
