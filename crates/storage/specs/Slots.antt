@@ -173,3 +173,13 @@ become-many {d} {h} {i} {ss} {t} {r} {t′} {r′} s hi c b =
       held = held-many d h t′ r′ i ss (b .frame .below (h + i) (omega arith) ∙ c ∙ sym (b .frame .below 5 (omega (arith, s .half .0)))) (b .mips);
       frame = half-of (b .frame);
     }
+
+-- the mips as they lie, once the state tells COMPLEX
+pub become-marked : {d : Numbers} {h i v : ℕ} {t r : List ℕ} → Measured d h t r → i < d .textures → v ≡ getD t 5 0 → HalfBecomes d h i (many (mipsOf d h t r i)) t r (set t (h + i) v) r
+become-marked {d} {h} {i} {v} {t} {r} s hi c =
+    let w = getD-set-same t (h + i) v 0 (omega (arith, s .table, s .half .1, s .textures)) in
+    let k = getD-set-other t (h + i) 5 v 0 (λ z. omega (arith, s .half .0)) in
+    let n : mipsIn d (set t (h + i) v) i ≡ mipsIn d t i = mips-same d t (set t (h + i) v) i (getD-set-other t (h + i) (72 + i) v 0 (λ z. omega (arith, s .half .0))) in
+    let e : mipsOf d h (set t (h + i) v) r i ≡ mipsOf d h t r i =
+    rw n (list-ext (mipOf d h t r i) (mipOf d h (set t (h + i) v) r i) 0 (mipsIn d t i) (λ x _ _. mip-ext d h t r (set t (h + i) v) r i x (getD-set-other t (h + i) (countAt h i x) v 0 (λ z. omega arith)) refl)) in
+    record { held = held-many d h (set t (h + i) v) r i (mipsOf d h t r i) (w ∙ c ∙ sym k) e; frame = half-word d h i v t r }

@@ -13,11 +13,11 @@ use Rattle.model.specs.declared.Range.{Range}
 use Rattle.model.specs.Sets.{Numbers}
 use Rattle.model.specs.RangedStates.{range}
 use Rattle.model.specs.Texture.{Held, many, onMips, freshMips}
-use Rattle.storage.specs.Storage.{numbersOf, mipsOf}
+use Rattle.storage.specs.Storage.{numbersOf, mipsIn, mipsOf}
 use Rattle.storage.specs.Frames.{Measured, MipsBecome, HalfFrame, half-of, half-then, half-word}
 use Rattle.storage.specs.Slots.{HalfBecomes, become-many, half-low}
 use Rattle.texture.specs.Ready.{ManyReady, Selects, EveryReady}
-use Rattle.texture.specs.Uses.{UseReady, use-then, use-every, use-selects, fresh-many}
+use Rattle.texture.specs.Uses.{UseReady, use-then, use-mips, use-every, use-selects, fresh-many}
 
 module _ {h i : ℕ} {sh : Extent} {all : Bool} {q : Selector} {p : UsageFlags} {new : ℕ} {t r : List ℕ} (u : UseReady (numbersOf t) h t r i sh all q p new) (st : ℕ) where
   abbrev t₁ : List ℕ
@@ -50,13 +50,23 @@ module _ {h i : ℕ} {sh : Extent} {all : Bool} {q : Selector} {p : UsageFlags} 
     pub break-selects : Selects (numbersOf t₂) t₂ i q
     break-selects = subst (λ (d : Numbers). Selects d t₂ i q) (sym (second .measured .dims)) (use-selects second)
 
-    pub break-done : {t₃ r₃ : List ℕ} (f : List Range → List Range) → MipsBecome (numbersOf t₂) h i (onMips q f 0 (mipsOf (numbersOf t₂) h t₂ r₂ i)) t₂ r₂ t₃ r₃ → HalfBecomes (numbersOf t) h i (many (onMips q f 0 (freshMips sh st))) t r t₃ r₃
-    break-done {t₃} {r₃} f c =
-        let c₂ : MipsBecome (numbersOf t) h i (onMips q f 0 (mipsOf (numbersOf t) h t₂ r₂ i)) t₂ r₂ t₃ r₃ =
-        subst (λ (d : Numbers). MipsBecome d h i (onMips q f 0 (mipsOf d h t₂ r₂ i)) t₂ r₂ t₃ r₃) (second .measured .dims) c in
+    pub break-layers : getD t₂ (136 + i) 0 ≡ sh .layers
+    break-layers = second .layers
+
+    pub break-mips : mipsIn (numbersOf t₂) t₂ i ≡ sh .mips
+    break-mips = ap (λ (d : Numbers). mipsIn d t₂ i) (second .measured .dims) ∙ use-mips second
+
+    -- the mips made anew, changed by g
+    pub break-then : {t₃ r₃ : List ℕ} (g : List (List Range) → List (List Range)) → MipsBecome (numbersOf t₂) h i (g (mipsOf (numbersOf t₂) h t₂ r₂ i)) t₂ r₂ t₃ r₃ → HalfBecomes (numbersOf t) h i (many (g (freshMips sh st))) t r t₃ r₃
+    break-then {t₃} {r₃} g c =
+        let c₂ : MipsBecome (numbersOf t) h i (g (mipsOf (numbersOf t) h t₂ r₂ i)) t₂ r₂ t₃ r₃ =
+        subst (λ (d : Numbers). MipsBecome d h i (g (mipsOf d h t₂ r₂ i)) t₂ r₂ t₃ r₃) (second .measured .dims) c in
         let k : getD t₂ (h + i) 0 ≡ getD t₂ 5 0 = b₂ .frame .below (h + i) (omega (arith, u .measured .textures)) ∙ told ∙ sym (b₂ .frame .below 5 (omega (arith, u .measured .half .0))) in
         let x = become-many (second .measured) (u .texture) k c₂ in
         record {
-          held = x .held ∙ ap (λ (ss : List (List Range)). many (onMips q f 0 ss)) (b₂ .mips);
+          held = x .held ∙ ap (λ (ss : List (List Range)). many (g ss)) (b₂ .mips);
           frame = half-then (half-word (numbersOf t) h i (p .complex) t r) (half-then (half-of (b₂ .frame)) (x .frame));
         }
+
+    pub break-done : {t₃ r₃ : List ℕ} (f : List Range → List Range) → MipsBecome (numbersOf t₂) h i (onMips q f 0 (mipsOf (numbersOf t₂) h t₂ r₂ i)) t₂ r₂ t₃ r₃ → HalfBecomes (numbersOf t) h i (many (onMips q f 0 (freshMips sh st))) t r t₃ r₃
+    break-done f c = break-then (onMips q f 0) c

@@ -3,3 +3,4 @@ pub mod Breaking
 pub mod UseCases
 pub mod Pieces
 pub mod Tests
+pub mod SetCases

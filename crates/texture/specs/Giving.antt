@@ -49,6 +49,16 @@ covers p cur [] ss = refl
 covers p cur (q ∷ qs) ss =
     covers p cur qs (onMips (q .selector) (λ s. coalesce (paint (p .unknown) (layerStart (q .selector)) (layerEnd (q .selector)) (endAfter (p .unknown) cur (q .state)) s)) 0 ss)
 
+pub merges : (p : UsageFlags) (qs : List Piece) (ss : List (List Range)) → passes (taken Merge p) qs ss ≡ passes (λ q. walk (mergeMip p q) 0) qs ss
+unfolding taken
+merges p [] ss = refl
+merges p (q ∷ qs) ss = rw (merges p qs (walk (mergeMip p q) 0 ss .value))
+
+pub spreads : (p : UsageFlags) (cur : ℕ) (qs : List Piece) (ss : List (List Range)) → passes (taken (Spread cur) p) qs ss ≡ passes (spreadPiece p cur) qs ss
+unfolding taken
+spreads p cur [] ss = refl
+spreads p cur (q ∷ qs) ss = rw (spreads p cur qs (spreadPiece p cur q ss .value))
+
 -- ---- Mips that tile their layers go on tiling them
 abbrev pub Tiled : ℕ → List (List Range) → Type 0
 Tiled w [] = Unit {0}

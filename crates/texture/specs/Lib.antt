@@ -4,3 +4,4 @@ pub mod Walks
 pub mod Ready
 pub mod Uses
 pub mod Giving
+pub mod FromSet

@@ -7,6 +7,7 @@
 //     mip      one mip: its ranges are lent on to `mips`, and its new count is written
 //     every    every mip, or those of a selector
 pub mod every;
+pub mod from_set;
 pub mod giving;
 pub mod mip;
 pub mod using;

@@ -1,0 +1,4 @@
+pub mod Moving
+pub mod Running
+pub mod Mipping
+pub mod Holding

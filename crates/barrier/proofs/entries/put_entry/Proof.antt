@@ -1,0 +1,113 @@
+-- `put_entry` makes seven stores, which are one entry in the view.
+use native.Mathlib.Omega.{arith}
+use Rattle.barrier.specs.Entries.{put-entry-is}
+use lib.ListN.{length-set}
+use mathlib.Core.Path.{_≡_}
+use Prim.Native.Nat.{suc, _+_, _*_}
+use borrow.Author.Needs.{needs}
+use Rattle.barrier.proofs.entries.put_entry.Statement.{statement}
+use Rattle.barrier.proofs.entries.put_entry.Tie as tie
+
+mul-at : tie.Need-mul-at
+mul-at c = search needs
+
+mul-log : tie.Need-mul-log
+mul-log c = search needs
+
+slice-write-log : tie.Need-slice-write-log
+slice-write-log c = search needs
+
+add-log : tie.Need-add-log
+add-log c = search needs
+
+mul-log-2 : tie.Need-mul-log-2
+mul-log-2 c = search needs
+
+slice-write-log-2 : tie.Need-slice-write-log-2
+slice-write-log-2 c = simp length-set (omega arith)
+
+add-log-2 : tie.Need-add-log-2
+add-log-2 c = search needs
+
+mul-log-3 : tie.Need-mul-log-3
+mul-log-3 c = search needs
+
+slice-write-log-3 : tie.Need-slice-write-log-3
+slice-write-log-3 c = simp length-set (omega arith)
+
+add-log-3 : tie.Need-add-log-3
+add-log-3 c = search needs
+
+mul-log-4 : tie.Need-mul-log-4
+mul-log-4 c = search needs
+
+slice-write-log-4 : tie.Need-slice-write-log-4
+slice-write-log-4 c = simp length-set (omega arith)
+
+add-log-4 : tie.Need-add-log-4
+add-log-4 c = search needs
+
+mul-log-5 : tie.Need-mul-log-5
+mul-log-5 c = search needs
+
+slice-write-log-5 : tie.Need-slice-write-log-5
+slice-write-log-5 c = simp length-set (omega arith)
+
+add-log-5 : tie.Need-add-log-5
+add-log-5 c = search needs
+
+mul-log-6 : tie.Need-mul-log-6
+mul-log-6 c = search needs
+
+slice-write-log-6 : tie.Need-slice-write-log-6
+slice-write-log-6 c = simp length-set (omega arith)
+
+add-log-6 : tie.Need-add-log-6
+add-log-6 c = search needs
+
+mul-log-7 : tie.Need-mul-log-7
+mul-log-7 c = search needs
+
+slice-write-log-7 : tie.Need-slice-write-log-7
+slice-write-log-7 c = simp length-set (omega arith)
+
+same-length : tie.Need-same-length
+same-length c = search needs
+
+returns : tie.Need-returns
+returns c =
+    let e1 : 7 * c .args .n + 1 ≡ suc (7 * c .args .n) = omega arith in
+    let e2 : 7 * c .args .n + 2 ≡ suc (suc (7 * c .args .n)) = omega arith in
+    let e3 : 7 * c .args .n + 3 ≡ suc (suc (suc (7 * c .args .n))) = omega arith in
+    let e4 : 7 * c .args .n + 4 ≡ suc (suc (suc (suc (7 * c .args .n)))) = omega arith in
+    let e5 : 7 * c .args .n + 5 ≡ suc (suc (suc (suc (suc (7 * c .args .n))))) = omega arith in
+    let e6 : 7 * c .args .n + 6 ≡ suc (suc (suc (suc (suc (suc (7 * c .args .n)))))) = omega arith in
+    rw (e1, e2, e3, e4, e5, e6) (put-entry-is _ _ _ (c .pre))
+
+pub put-entry-spec : {M : Type 1} → statement M
+put-entry-spec =
+    tie.close
+    (tie.spec
+    mul-at
+    mul-log
+    slice-write-log
+    add-log
+    mul-log-2
+    slice-write-log-2
+    add-log-2
+    mul-log-3
+    slice-write-log-3
+    add-log-3
+    mul-log-4
+    slice-write-log-4
+    add-log-4
+    mul-log-5
+    slice-write-log-5
+    add-log-5
+    mul-log-6
+    slice-write-log-6
+    add-log-6
+    mul-log-7
+    slice-write-log-7
+    same-length
+    returns)

@@ -1,0 +1,150 @@
+// `barrier` of one texture: the transitions from a tracker's end of texture i to what is given as its start.
+//
+// A texture is held as Many where its word tells COMPLEX (the tracker's table and the given one each have the word), otherwise the word
+// is its one state.
+use crate::many::many_to_many;
+use crate::many::many_to_selector;
+use crate::many::many_to_state;
+use crate::many::state_to_many;
+use crate::transition::Task;
+use crate::transition::log_move;
+use model::Extent;
+use model::Layer;
+use model::LayerRange;
+use model::Mip;
+use model::MipRange;
+use model::Selector;
+use model::TrackerIndex;
+use model::UsageFlags;
+use storage::END;
+use storage::Table;
+use storage::flags_of;
+ghost use mathlib.Core.Path.{_≡_};
+ghost use mathlib.Core.List.{[], _∷_};
+ghost use Prim.Native.Nat.{_≤_, _<_};
+ghost use Rattle.model.specs.Representation.{full as fullOf};
+ghost use Rattle.model.specs.Texture.{givenSingle, givenMany, fromHeld, barrier};
+ghost use Rattle.storage.specs.Storage.{numbersOf, endHalf, heldOf};
+ghost use Rattle.barrier.specs.Logged.{Room, Logged};
+ghost use Rattle.barrier.specs.Ready.{Ready, Selects};
+ghost use Rattle.barrier.specs.Textures.{piece, taskOf};
+
+// The selector of all of a texture.
+fn full(extent: Extent) -> Selector
+    ensures { λ q. ⌜ q ≡ fullOf extent ⌝ }
+{
+    Selector {
+        mips: MipRange {
+            start: Mip(0),
+            end: Mip(extent.mips),
+        },
+        layers: LayerRange {
+            start: Layer(0),
+            end: Layer(extent.layers),
+        },
+    }
+}
+
+fn task_of(i: usize, p: UsageFlags, mask: u32, write: bool) -> Task
+    requires { ⌜ i < 64 ⌝ }
+    ensures { λ t. ⌜ t ≡ taskOf i p mask write ⌝ }
+{
+    Task {
+        index: TrackerIndex(i as u32),
+        unknown: p.unknown,
+        mask,
+        write,
+    }
+}
+
+// The transitions to one state.
+pub fn barrier_state(
+    table: &Table,
+    ends: &[u32],
+    i: usize,
+    extent: Extent,
+    p: UsageFlags,
+    mask: u32,
+    new: u32,
+    log: &mut [u32],
+    at: usize,
+    write: bool,
+) -> usize
+    requires { ⌜ Ready (numbersOf (now table)) endHalf (now table) (now ends) i extent ⌝ }
+    requires { ⌜ at ≤ 4294967296 ⌝ }
+    requires { ⌜ Room write (now log) at (barrier p mask extent (heldOf (numbersOf (now table)) endHalf (now table) (now ends) i) (givenSingle new)) ⌝ }
+    ensures { λ x. ⌜ Logged 4096 i write (now (log .entry)) at (barrier p mask extent (heldOf (numbersOf (now (table .entry))) endHalf (now (table .entry)) (now (ends .entry)) i) (givenSingle new)) x (now (log .exit)) ⌝ }
+{
+    let t = task_of(i, p, mask, write);
+    let flags = flags_of(table);
+    let cur = table[END + i];
+    if cur == flags.complex {
+        return many_to_state(table, ends, END, i, extent, new, t, log, at);
+    }
+    let q = full(extent);
+    log_move(q, cur, new, t, log, at)
+}
+
+// The transitions of what a selector names to one state. A Single texture makes one entry over all the mips of the selector.
+pub fn barrier_selector(
+    table: &Table,
+    ends: &[u32],
+    i: usize,
+    extent: Extent,
+    p: UsageFlags,
+    mask: u32,
+    q: Selector,
+    new: u32,
+    log: &mut [u32],
+    at: usize,
+    write: bool,
+) -> usize
+    requires { ⌜ Ready (numbersOf (now table)) endHalf (now table) (now ends) i extent ⌝ }
+    requires { ⌜ Selects q extent ⌝ }
+    requires { ⌜ at ≤ 4294967296 ⌝ }
+    requires { ⌜ Room write (now log) at (barrier p mask extent (heldOf (numbersOf (now table)) endHalf (now table) (now ends) i) (givenMany (piece q new ∷ []))) ⌝ }
+    ensures { λ x. ⌜ Logged 4096 i write (now (log .entry)) at (barrier p mask extent (heldOf (numbersOf (now (table .entry))) endHalf (now (table .entry)) (now (ends .entry)) i) (givenMany (piece q new ∷ []))) x (now (log .exit)) ⌝ }
+{
+    let t = task_of(i, p, mask, write);
+    let flags = flags_of(table);
+    let cur = table[END + i];
+    if cur == flags.complex {
+        return many_to_selector(table, ends, END, i, extent, q, new, t, log, at);
+    }
+    log_move(q, cur, new, t, log, at)
+}
+
+// The transitions to what texture i of another set holds, in the half of `given` that begins at `side`, with its ranges in `pieces`.
+pub fn barrier_texture(
+    table: &Table,
+    ends: &[u32],
+    i: usize,
+    extent: Extent,
+    p: UsageFlags,
+    mask: u32,
+    given: &Table,
+    pieces: &[u32],
+    side: usize,
+    log: &mut [u32],
+    at: usize,
+    write: bool,
+) -> usize
+    requires { ⌜ Ready (numbersOf (now table)) endHalf (now table) (now ends) i extent ⌝ }
+    requires { ⌜ Ready (numbersOf (now given)) side (now given) (now pieces) i extent ⌝ }
+    requires { ⌜ at ≤ 4294967296 ⌝ }
+    requires { ⌜ Room write (now log) at (barrier p mask extent (heldOf (numbersOf (now table)) endHalf (now table) (now ends) i) (fromHeld (heldOf (numbersOf (now given)) side (now given) (now pieces) i))) ⌝ }
+    ensures { λ x. ⌜ Logged 1048576 i write (now (log .entry)) at (barrier p mask extent (heldOf (numbersOf (now (table .entry))) endHalf (now (table .entry)) (now (ends .entry)) i) (fromHeld (heldOf (numbersOf (now (given .entry))) side (now (given .entry)) (now (pieces .entry)) i))) x (now (log .exit)) ⌝ }
+{
+    let flags = flags_of(given);
+    let new = given[side + i];
+    if new != flags.complex {
+        return barrier_state(table, ends, i, extent, p, mask, new, log, at, write);
+    }
+    let t = task_of(i, p, mask, write);
+    let own = flags_of(table);
+    let cur = table[END + i];
+    if cur == own.complex {
+        return many_to_many(table, ends, END, given, pieces, side, i, extent, t, log, at);
+    }
+    state_to_many(given, pieces, side, i, extent, cur, t, log, at)
+}
