@@ -23,6 +23,11 @@ outcomeOf done = Done
 outcomeOf (refused r) = Refused r
 outcomeOf (inConflict c) = Conflict (record { index = trackerIndex (c .index); found = c .what })
 
+-- what a call's checks answer
+abbrev pub verdict : Option Refusal → Outcome
+verdict none = Done
+verdict (some r) = Refused r
+
 -- ---- A log: every entry that was lent, and the head
 pub record Log : Type 0 where
   pub entries : List PendingTransition

@@ -21,12 +21,13 @@ use Rattle.model.specs.Flags.{isBit, meets, apart, flagsFit}
 use Rattle.model.specs.Representation.{Ends}
 use Rattle.model.specs.Sets.{Numbers, Slot, Set, Opening, emptySlot, openSet, openTracker, numbersFit}
 use Rattle.model.specs.Refusals.{firstFailing, openingRefusal, accepted, opens}
+use Rattle.model.specs.Log.{verdict}
 use Rattle.model.specs.Texture.{Held, single}
 use Rattle.storage.specs.Storage.{numbersOf, flagsOf, startHalf, endHalf, heldOf, endsOf, slotWith, setWith, scopeOf, trackerOf, listFrom}
 use Rattle.storage.specs.Lists.{list-long, list-at}
 use Rattle.storage.specs.Slots.{held-single}
 use Rattle.storage.specs.Part.{by-eq, by-lt}
-use Rattle.opening.specs.Open.{asked, verdict, headed, clearedAt, cleared, OpenedScope, OpenedTracker}
+use Rattle.opening.specs.Open.{asked, headed, clearedAt, cleared, OpenedScope, OpenedTracker}
 use Rattle.agreement.specs.OpeningLaws.{opened-numbers, opened-fits}
 use Rattle.wellformed.proofs.Numbers.{numbers-in}
 

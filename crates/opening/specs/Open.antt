@@ -3,25 +3,19 @@ use Prim.Native.Nat.{ℕ, zero, suc, _+_, _/_, _≤_, _<_, min}
 use mathlib.Core.Path.{_≡_}
 use mathlib.Core.Bool.{Bool, true, false}
 use mathlib.Core.List.{List, [], _∷_}
-use mathlib.Core.Option.{Option, none, some}
 use lib.ListN.{length, set}
 use lib.Seq.{sets}
 use Rattle.model.specs.declared.UsageFlags.{UsageFlags}
-use Rattle.model.specs.declared.Refusal.{Refusal}
 use Rattle.model.specs.declared.Outcome.{Outcome}
-use Rattle.model.specs.declared.Outcome.the-variants.{Done, Refused}
 use Rattle.model.specs.Base.{if_then_else_}
 use Rattle.model.specs.Sets.{Opening, openSet, openTracker}
 use Rattle.model.specs.Refusals.{openingRefusal, opens}
-use Rattle.model.specs.Texture.{Held, single}
+use Rattle.model.specs.Log.{verdict}
+use Rattle.model.specs.Texture.{single}
 use Rattle.storage.specs.Storage.{scopeOf, trackerOf}
 
 abbrev pub asked : ℕ → ℕ → ℕ → UsageFlags → ℕ → ℕ → Opening
 asked n m w p mask room = record { numbers = record { textures = n; mips = m; layers = w }; flags = p; mask = mask; room = room }
-
-abbrev pub verdict : Option Refusal → Outcome
-verdict none = Done
-verdict (some r) = Refused r
 
 -- ---- The table, number by number
 abbrev pub headed : List ℕ → ℕ → ℕ → ℕ → UsageFlags → ℕ → List ℕ

@@ -22,8 +22,9 @@ use wellformed::numbers_fit;
 ghost use mathlib.Core.Path.{_≡_};
 ghost use Prim.Native.Nat.{_≤_, _/_, min};
 ghost use lib.ListN.{length};
+ghost use Rattle.model.specs.Log.{verdict};
 ghost use Rattle.model.specs.Refusals.{openingRefusal};
-ghost use Rattle.opening.specs.Open.{asked, verdict, headed, cleared, OpenedScope, OpenedTracker};
+ghost use Rattle.opening.specs.Open.{OpenedScope, OpenedTracker, asked, cleared, headed};
 
 // The checks 1, 2 and 3, for room of so many ranges.
 pub fn check(n: u32, m: u32, w: u32, p: UsageFlags, room: usize) -> Outcome

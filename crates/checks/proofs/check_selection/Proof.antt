@@ -1,0 +1,27 @@
+-- `check_selection`: no selector is no check.
+use native.Mathlib.Omega.{arith}
+use Rattle.model.specs.Refusals.{firstFailing}
+use Rattle.checks.specs.Head.{textureRefusal, selectorRefusal, stateRefusal}
+use borrow.Author.Needs.{needs}
+use Rattle.checks.proofs.check_selection.Statement.{statement}
+use Rattle.checks.proofs.check_selection.Tie as tie
+
+enum-told : tie.Need-enum-told
+enum-told c = search needs
+
+enum-known-selection : tie.Need-enum-known-selection
+enum-known-selection c = search needs
+
+check-selector-requires : tie.Need-check-selector-requires
+check-selector-requires c κs = search needs
+
+returns : tie.Need-returns
+unfolding selectorRefusal firstFailing
+returns c = record { is = rw ((c .enum-told .given) .1) }
+
+returns-2 : tie.Need-returns-2
+returns-2 c = rw ((c .before .before .selection .given) .1) (c .check-selector .ensures)
+
+pub check-selection-spec : {M : Type 1} → statement M
+check-selection-spec =
+    tie.close (tie.spec enum-told enum-known-selection check-selector-requires returns returns-2)

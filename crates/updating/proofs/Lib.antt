@@ -1,0 +1,4 @@
+pub mod Pairs
+pub mod Lessons
+pub mod Turns
+pub mod Cases

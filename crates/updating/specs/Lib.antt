@@ -1,0 +1,4 @@
+pub mod Pair
+pub mod Both
+pub mod Learning
+pub mod Update
