@@ -1,4 +1,4 @@
-// Checks: 01's table from 6 to 13, on the numbers of a table: what a call answers before it changes anything.
+// Checks: 01's table from 7 to 13, on the numbers of a table: what a call answers before it changes anything.
 //
 // Place in the picture: over `storage` and `usage`, under the public calls, which test the sets first (4, `wellformed`) and count the
 // log's entries last (15, `barrier`). Each check equals the model's (model/specs/Refusals) at the head of the view: the numbers, the
