@@ -80,7 +80,7 @@ pub extent-at : (t : List ℕ) (i : ℕ) → i < getD t 0 0 → getD (headIn t .
 extent-at t i h = list-at (ownedExtent t) (getD t 0 0) i none h
 
 -- ---- one list of checks after another
-checks-append : (xs ys : List Check) → firstFailing (xs ++ ys) ≡ orNext (firstFailing xs) (firstFailing ys)
+pub checks-append : (xs ys : List Check) → firstFailing (xs ++ ys) ≡ orNext (firstFailing xs) (firstFailing ys)
 unfolding firstFailing
 checks-append [] ys = refl
 checks-append (c ∷ xs) ys = go (c .fails) (checks-append xs ys)

@@ -1,1 +1,5 @@
 pub mod Head
+pub mod Verdict
+pub mod Sets
+pub mod Told
+pub mod Passed

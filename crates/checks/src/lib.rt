@@ -1,10 +1,13 @@
-// Checks: 01's table from 7 to 13, on the numbers of a table: what a call answers before it changes anything.
+// Checks: 01's table from 6 to 13, on the numbers of a table: what a call answers before it changes anything.
 //
 // Place in the picture: over `storage` and `usage`, under the public calls, which test the sets first (4, `wellformed`) and count the
 // log's entries last (15, `barrier`). Each check equals the model's (model/specs/Refusals) at the head of the view: the numbers, the
 // flags, and the extents of the indices that are owned. One function checks a selector, one a state.
 //
-// What holds: nothing is written. A check that passes answers `Outcome::Done`, and one that fails the refusal with its place.
+// What holds: nothing is written. A check that passes answers `Outcome::Done`, and one that fails the refusal with its place. What
+// passed checks show is in specs/Passed, from an answer to it in specs/Told.
+pub mod sets;
+
 use model::Extent;
 use model::Outcome;
 use model::Refusal;
@@ -12,6 +15,8 @@ use model::Selection;
 use model::Selector;
 use model::TrackerIndex;
 use model::UsageFlags;
+pub use sets::check_set;
+pub use sets::check_sparse;
 use storage::LAYERS;
 use storage::MIPS;
 use storage::OWNED;

@@ -39,10 +39,10 @@ pub record SetReady (h : ℕ) (t r : List ℕ) (i : ℕ) (sh : Extent) (from : �
   pub low-given : sh .layers ≤ getD t₂ 2 0
   pub tiled : getD t₂ (from + i) 0 ≡ p .complex → (k : ℕ) → k < sh .mips → Tiles 0 (mipOf (numbersOf t₂) from t₂ r₂ i k) (sh .layers)
 
--- what the half holds already
+-- what the half holds already; a state for all of the texture must not make it COMPLEX
 pub record MergeReady (h : ℕ) (t r : List ℕ) (i : ℕ) (sh : Extent) (from : ℕ) (t₂ : List ℕ) (p : UsageFlags) : Type 0 where
   pub tiled : getD t (h + i) 0 ≡ getD t 5 0 → (k : ℕ) → k < sh .mips → Tiles 0 (mipOf (numbersOf t) h t r i k) (sh .layers)
-  pub plain : bitOr (getD t (h + i) 0) (getD t₂ (from + i) 0) ≡ getD t 5 0 → ⊥
+  pub plain : (getD t₂ (from + i) 0 ≡ p .complex → ⊥) → bitOr (getD t (h + i) 0) (getD t₂ (from + i) 0) ≡ getD t 5 0 → ⊥
 
 -- ---- one state for all of the texture, as a use
 pub set-use : {h i from : ℕ} {sh : Extent} {p : UsageFlags} {t r t₂ r₂ : List ℕ} (new : ℕ) → SetReady h t r i sh from t₂ r₂ p → (new ≡ p .complex → ⊥) → UseReady (numbersOf t) h t r i sh true (full sh) p new
@@ -63,8 +63,8 @@ set-use new x c = record {
   plain = c;
 }
 
-pub set-held : {h i from : ℕ} {sh : Extent} {p : UsageFlags} {t r t₂ : List ℕ} → MergeReady h t r i sh from t₂ p → HeldReady h t r i sh (getD t₂ (from + i) 0)
-set-held m = record { tiled = m .tiled; plain = m .plain }
+pub set-held : {h i from : ℕ} {sh : Extent} {p : UsageFlags} {t r t₂ : List ℕ} → MergeReady h t r i sh from t₂ p → (getD t₂ (from + i) 0 ≡ p .complex → ⊥) → HeldReady h t r i sh (getD t₂ (from + i) 0)
+set-held m c = record { tiled = m .tiled; plain = m .plain c }
 
 -- ---- the given texture, where it is Many
 pub set-given : {h i from : ℕ} {sh : Extent} {p : UsageFlags} {t r t₂ r₂ : List ℕ} → SetReady h t r i sh from t₂ r₂ p → getD t₂ (from + i) 0 ≡ p .complex → (u : List ℕ) → getD u (136 + i) 0 ≡ sh .layers → mipsIn (numbersOf u) u i ≡ sh .mips → GivenTexture u i (sh .mips) from t₂ r₂

@@ -21,7 +21,7 @@ full-requires : tie.Need-full-requires
 full-requires c κs = search needs
 
 merge-use-requires : tie.Need-merge-use-requires
-merge-use-requires c κs = rw ((c .before .before .full .ensures)) (set-use _ ((c .before .before .before .before .before .before .before .before .pre) .0) (c .before .before .before .if1 .taken), set-held ((c .before .before .before .before .before .before .before .before .pre) .1))
+merge-use-requires c κs = rw ((c .before .before .full .ensures)) (set-use _ ((c .before .before .before .before .before .before .before .before .pre) .0) (c .before .before .before .if1 .taken), set-held ((c .before .before .before .before .before .before .before .before .pre) .1) (c .before .before .before .if1 .taken))
 
 same-length : tie.Need-same-length
 same-length c = search needs

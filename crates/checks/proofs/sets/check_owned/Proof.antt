@@ -1,0 +1,62 @@
+-- `check_owned`: an index that is not owned has no check, another those of its extent.
+use borrow.Author.Needs.{needs}
+use Rattle.checks.proofs.Verdicts.{other-tells, owned-tells}
+use Rattle.checks.proofs.sets.check_owned.Statement.{statement}
+use Rattle.checks.proofs.sets.check_owned.Tie as tie
+
+wide-requires : tie.Need-wide-requires
+wide-requires c κs = search needs
+
+add-if1 : tie.Need-add-if1
+add-if1 c = search needs
+
+mul-if1 : tie.Need-mul-if1
+mul-if1 c = search needs
+
+element-copy-out-if1 : tie.Need-element-copy-out-if1
+element-copy-out-if1 c = search needs
+
+returns : tie.Need-returns
+returns c = other-tells _ _ _ (rw ((c .before .before .wide .ensures) .0) at (c .if1 .taken))
+
+add-t5 : tie.Need-add-t5
+add-t5 c = search needs
+
+mul-t6 : tie.Need-mul-t6
+mul-t6 c = search needs
+
+element-copy-out-t9 : tie.Need-element-copy-out-t9
+element-copy-out-t9 c = search needs
+
+add-t13 : tie.Need-add-t13
+add-t13 c = search needs
+
+mul-t14 : tie.Need-mul-t14
+mul-t14 c = search needs
+
+element-copy-out-t17 : tie.Need-element-copy-out-t17
+element-copy-out-t17 c = search needs
+
+check-texture-requires : tie.Need-check-texture-requires
+check-texture-requires c κs = search needs
+
+returns-2 : tie.Need-returns-2
+returns-2 c = owned-tells _ _ _ (rw ((c .before .before .before .before .before .wide .ensures) .0) at (c .before .before .before .if1 .left)) (rw ((c .before .before .before .before .before .wide .ensures) .0) at (c .check-texture .ensures))
+
+pub check-owned-spec : {M : Type 1} → statement M
+check-owned-spec =
+    tie.close
+    (tie.spec
+    wide-requires
+    add-if1
+    mul-if1
+    element-copy-out-if1
+    returns
+    add-t5
+    mul-t6
+    element-copy-out-t9
+    add-t13
+    mul-t14
+    element-copy-out-t17
+    check-texture-requires
+    returns-2)

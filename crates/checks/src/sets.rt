@@ -1,0 +1,97 @@
+// Checks over sets: 01's table from 6 to 9, for every texture that a given set owns, or for the listed ones of a scope.
+//
+// What holds: 7, 8 and 9 are `check_texture`'s, at the extent that the given set has. A set is looked at by ascending index, a list in
+// its order, and the first check that fails is told.
+use crate::check_texture;
+use model::Extent;
+use model::Outcome;
+use model::Refusal;
+use model::TrackerIndex;
+use storage::LAYERS;
+use storage::MIPS;
+use storage::OWNED;
+use storage::Table;
+use storage::flags_of;
+use storage::wide;
+ghost use mathlib.Core.Path.{_≡_};
+ghost use Prim.Native.Nat.{_≤_, _<_};
+ghost use lib.ListN.{getD};
+ghost use Rattle.model.specs.Flags.{sameFlags};
+ghost use Rattle.storage.specs.Storage.{flagsOf};
+ghost use Rattle.checks.specs.Sets.{OwnedTold, ListedTold, SetTold, SparseTold};
+
+// 6: whether two tables hold the same flags.
+pub fn same_flags(table: &Table, given: &Table) -> bool
+    ensures { λ r. ⌜ r ≡ sameFlags (flagsOf (now (table .entry))) (flagsOf (now (given .entry))) ⌝ }
+{
+    usage::same_flags(flags_of(table), flags_of(given))
+}
+
+// 7, 8, 9: a texture with the extent that the given set has, if it owns it.
+pub fn check_owned(table: &Table, given: &Table, index: TrackerIndex) -> Outcome
+    requires { ⌜ (getD (now table) 0 0 ≤ 64) × (index .0 < 64) ⌝ }
+    ensures { λ x. ⌜ OwnedTold (now (table .entry)) (now (given .entry)) (index .0) x ⌝ }
+{
+    let k = wide(index.0);
+    if given[OWNED + k] == 0 {
+        return Outcome::Done;
+    }
+    check_texture(
+        table,
+        index,
+        Extent {
+            mips: given[MIPS + k],
+            layers: given[LAYERS + k],
+        },
+    )
+}
+
+// 7, 8, 9: a listed index, which is to be below the given set's N.
+pub fn check_listed(table: &Table, given: &Table, index: TrackerIndex) -> Outcome
+    requires { ⌜ (getD (now table) 0 0 ≤ 64) × (getD (now given) 0 0 ≤ 64) ⌝ }
+    ensures { λ x. ⌜ ListedTold (now (table .entry)) (now (given .entry)) (index .0) x ⌝ }
+{
+    if given[0] <= index.0 {
+        return Outcome::Refused(Refusal::NoSuchIndex(index));
+    }
+    check_owned(table, given, index)
+}
+
+// 6 to 9: every texture that a given set owns, ascending.
+pub fn check_set(table: &Table, given: &Table) -> Outcome
+    requires { ⌜ (getD (now table) 0 0 ≤ 64) × (getD (now given) 0 0 ≤ 64) ⌝ }
+    ensures { λ x. ⌜ SetTold (now (table .entry)) (now (given .entry)) x ⌝ }
+{
+    if !same_flags(table, given) {
+        return Outcome::Refused(Refusal::FlagsDiffer);
+    }
+    let n = given[0];
+    let mut i = 0;
+    while i < n {
+        match check_owned(table, given, TrackerIndex(i)) {
+            Outcome::Done => i += 1,
+            Outcome::Refused(r) => return Outcome::Refused(r),
+            Outcome::Conflict(k) => return Outcome::Conflict(k),
+        }
+    }
+    Outcome::Done
+}
+
+// 6 to 9: the listed textures, in list order.
+pub fn check_sparse(table: &Table, given: &Table, indices: &[u32]) -> Outcome
+    requires { ⌜ (getD (now table) 0 0 ≤ 64) × (getD (now given) 0 0 ≤ 64) ⌝ }
+    ensures { λ x. ⌜ SparseTold (now (table .entry)) (now (given .entry)) (now (indices .entry)) x ⌝ }
+{
+    if !same_flags(table, given) {
+        return Outcome::Refused(Refusal::FlagsDiffer);
+    }
+    let mut k = 0;
+    while k < indices.len() {
+        match check_listed(table, given, TrackerIndex(indices[k])) {
+            Outcome::Done => k += 1,
+            Outcome::Refused(r) => return Outcome::Refused(r),
+            Outcome::Conflict(c) => return Outcome::Conflict(c),
+        }
+    }
+    Outcome::Done
+}

@@ -1,0 +1,125 @@
+-- One texture of a scope: what is asked for, and the contract of a merge into it.
+use Prim.Native.Nat.{ℕ, _+_, _≤_, _<_}
+use native.Mathlib.Omega.{arith}
+use mathlib.Core.Path.{_≡_, refl, sym, ap, subst, _∙_}
+use mathlib.Core.Logic.{_⊎_, inl, inr}
+use mathlib.Core.Bool.{Bool, true, false}
+use mathlib.Core.List.{List}
+use mathlib.Core.Option.{Option, none, some, Option·map}
+use lib.ListN.{length, getD}
+use borrow.Author.Tests.{ne-eqb, eq-eqb}
+use Rattle.model.specs.declared.UsageFlags.{UsageFlags}
+use Rattle.model.specs.declared.Extent.{Extent}
+use Rattle.model.specs.declared.Selector.{Selector}
+use Rattle.model.specs.declared.InvalidUse.{InvalidUse}
+use Rattle.model.specs.Base.{Stop}
+use Rattle.model.specs.Representation.{full}
+use Rattle.model.specs.Sets.{Numbers, Slot, Set, withSlots}
+use Rattle.model.specs.Calls.{Indexed, owning, mergeSlot}
+use Rattle.model.specs.Texture.{Held, Given, insert, merge, ranged}
+use Rattle.storage.specs.Storage.{numbersOf, flagsOf, extentOf, ownedOf, startHalf, heldOf, slotWith, setWith, scopeOf}
+use Rattle.storage.specs.Frames.{Measured, HalfFrame}
+use Rattle.storage.specs.Slots.{SlotFrame, HalfBecomes, ownWords, slot-then, slot-owned, set-becomes, scope-half, scope-own, half-low, own-owned, own-word}
+use Rattle.texture.specs.declared.Stopped.{Stopped}
+use Rattle.texture.specs.declared.Stopped.the-variants.{Nowhere}
+use Rattle.texture.specs.Walks.{stoppedOf}
+use Rattle.texture.specs.Uses.{UseReady, HeldReady, HalfMerged}
+use Rattle.checks.specs.Passed.{TexturePassed, SelectorPassed, StatePassed}
+use Rattle.ready.specs.Tested.{HalfFits}
+use Rattle.ready.specs.Merges.{own-numbers, own-flags, own-extent, own-passed, own-measured, use-ready, held-ready}
+use Rattle.ready.specs.Answers.{indexed, metAt}
+
+-- texture i of a scope, as the view has it
+abbrev pub slotOf : List ℕ → List ℕ → ℕ → Slot Held
+slotOf t r = slotWith (heldOf (numbersOf t) startHalf t r) t
+
+-- ---- What is asked for: a texture that passed the checks, in a scope that passed the test
+pub record SlotReady (t r : List ℕ) (i : ℕ) (sh : Extent) : Type 0 where
+  pub measured : Measured (numbersOf t) startHalf t r
+  pub texture : TexturePassed t i sh
+  pub held : ownedOf t i ≡ true → HalfFits startHalf t r i
+
+-- a use that passed the checks
+pub record TakenUse (t : List ℕ) (sh : Extent) (all : Bool) (q : Selector) (p : UsageFlags) (new : ℕ) : Type 0 where
+  pub flags : p ≡ flagsOf t
+  pub selector : SelectorPassed sh q
+  pub whole : all ≡ true → q ≡ full sh
+  pub state : StatePassed p new
+
+-- THE CONTRACT: texture i becomes what the model's merge of it gives, and nothing else of the scope is touched
+pub record SlotMerged (t r : List ℕ) (i : ℕ) (w : Stop (Indexed InvalidUse) (Slot Held)) (x : Stopped) (t′ r′ : List ℕ) : Type 0 where
+  pub conflict : metAt i x ≡ w .conflict
+  pub slot : slotWith (heldOf (numbersOf t) startHalf t′ r′) t′ i ≡ w .value
+  pub frame : SlotFrame (getD t 0 0) i (heldOf (numbersOf t) startHalf t r) (heldOf (numbersOf t) startHalf t′ r′) t t′
+  pub past : (y : ℕ) → 1288 ≤ y → getD t′ y 0 ≡ getD t y 0
+  pub long : length r′ ≡ length r
+  pub table : length t′ ≡ length t
+
+module _ {t r : List ℕ} {i : ℕ} {sh : Extent} (q : SlotReady t r i sh) (p : UsageFlags) (g : Given) where
+  -- an unowned texture is owned, and then `insert`
+  pub slot-new : {t′ r′ : List ℕ} → getD t (8 + i) 0 ≡ 0 → HalfBecomes (numbersOf (ownWords t i sh)) startHalf i (insert p sh g) (ownWords t i sh) r t′ r′ → SlotMerged t r i (mergeSlot ranged p sh g i (slotOf t r i)) Nowhere t′ r′
+  slot-new {t′} {r′} free b =
+      let m = q .measured in let x = q .texture in
+      let d : numbersOf (ownWords t i sh) ≡ numbersOf t = own-numbers m x in
+      let m₁ : Measured (numbersOf t) startHalf (ownWords t i sh) r = subst (λ (n : Numbers). Measured n startHalf (ownWords t i sh) r) d (own-measured m x) in
+      let b₁ : HalfBecomes (numbersOf t) startHalf i (insert p sh g) (ownWords t i sh) r t′ r′ = subst (λ (n : Numbers). HalfBecomes n startHalf i (insert p sh g) (ownWords t i sh) r t′ r′) d b in
+      let low = half-low m₁ (x .texture) (b₁ .frame) in
+      let o : getD t′ (8 + i) 0 ≡ 0 → ⊥ = λ z. own-owned (numbersOf t) t i sh (m .textures) (m .mips) (x .texture) (m .table) (sym (low (8 + i) (omega (arith, m .textures, x .texture))) ∙ z) in
+      let s : extentOf t′ i ≡ sh = rw (low (72 + i) (omega (arith, m .textures, x .texture)), low (136 + i) (omega (arith, m .textures, x .texture))) (own-extent m x) in
+      rw (eq-eqb (getD t (8 + i) 0) 0 free) (record {
+        conflict = refl;
+        slot = slot-owned (heldOf (numbersOf t) startHalf t′ r′) t′ i (insert p sh g) o (b₁ .held) ∙ ap (λ (y : Extent). owning y (insert p sh g)) s;
+        frame = slot-then (scope-own (numbersOf t) t i sh (m .textures) (m .mips) (x .texture) r) (scope-half m₁ (x .texture) (b₁ .frame));
+        past = λ y l. b₁ .frame .above y (omega (arith, m .textures, x .texture)) ∙ own-word (numbersOf t) t i sh (m .textures) (m .mips) (x .texture) y (inr (omega arith));
+        long = b₁ .frame .long;
+        table = b₁ .frame .table ∙ m₁ .table ∙ sym (m .table);
+      })
+
+  -- an owned one: `merge`
+  pub slot-old : {x : Stopped} {t′ r′ : List ℕ} → (getD t (8 + i) 0 ≡ 0 → ⊥) → HalfMerged (numbersOf t) startHalf i (merge p sh (heldOf (numbersOf t) startHalf t r i) g) t r x t′ r′ → SlotMerged t r i (mergeSlot ranged p sh g i (slotOf t r i)) x t′ r′
+  slot-old {x} {t′} {r′} own b =
+      let m = q .measured in let n = q .texture in
+      let f = b .into .frame in
+      let low = half-low m (n .texture) f in
+      let e : extentOf t i ≡ sh = n .own (rw (ne-eqb (getD t (8 + i) 0) 0 own)) in
+      let o : getD t′ (8 + i) 0 ≡ 0 → ⊥ = λ z. own (sym (low (8 + i) (omega (arith, m .textures, n .texture))) ∙ z) in
+      let s : extentOf t′ i ≡ sh = rw (low (72 + i) (omega (arith, m .textures, n .texture)), low (136 + i) (omega (arith, m .textures, n .texture))) e in
+      rw (ne-eqb (getD t (8 + i) 0) 0 own) (record {
+        conflict = ap (Option·map (indexed i)) (b .conflict);
+        slot = slot-owned (heldOf (numbersOf t) startHalf t′ r′) t′ i _ o (b .into .held) ∙ ap (λ (y : Extent). owning y (merge p sh (heldOf (numbersOf t) startHalf t r i) g .value)) s;
+        frame = scope-half m (n .texture) f;
+        past = λ y l. f .above y (omega (arith, m .textures, n .texture));
+        long = f .long;
+        table = f .table;
+      })
+
+-- ---- A use of it
+module _ {t r : List ℕ} {i : ℕ} {sh : Extent} {all : Bool} {q : Selector} {p : UsageFlags} {new : ℕ} (s : SlotReady t r i sh) (u : TakenUse t sh all q p new) where
+  -- once the texture is owned
+  pub new-use : UseReady (numbersOf (ownWords t i sh)) startHalf (ownWords t i sh) r i sh all q p new
+  new-use =
+      let e : p ≡ flagsOf (ownWords t i sh) = u .flags ∙ sym (own-flags (s .measured) (s .texture)) in
+      subst (λ (f : UsageFlags). UseReady (numbersOf (ownWords t i sh)) startHalf (ownWords t i sh) r i sh all q f new) (sym e)
+      (use-ready (own-measured (s .measured) (s .texture)) (own-passed (s .measured) (s .texture)) (own-extent (s .measured) (s .texture)) (u .selector) (u .whole) (subst (λ (f : UsageFlags). StatePassed f new) e (u .state)))
+
+  module _ (own : getD t (8 + i) 0 ≡ 0 → ⊥) where
+    is-owned : ownedOf t i ≡ true
+    is-owned = rw (ne-eqb (getD t (8 + i) 0) 0 own)
+
+    state-is : StatePassed (flagsOf t) new
+    state-is = subst (λ (f : UsageFlags). StatePassed f new) (u .flags) (u .state)
+
+    pub old-use : UseReady (numbersOf t) startHalf t r i sh all q p new
+    old-use =
+        subst (λ (f : UsageFlags). UseReady (numbersOf t) startHalf t r i sh all q f new) (sym (u .flags))
+        (use-ready (s .measured) (s .texture) (s .texture .own is-owned) (u .selector) (u .whole) state-is)
+
+    pub old-held : HeldReady startHalf t r i sh new
+    old-held = held-ready (s .measured) (s .texture) (s .texture .own is-owned) (s .held is-owned) state-is
+
+-- THE VIEW after it
+pub slot-view : {t r t′ r′ : List ℕ} {i : ℕ} {w : Stop (Indexed InvalidUse) (Slot Held)} {x : Stopped} → i < getD t 0 0 → SlotMerged t r i w x t′ r′ → scopeOf t′ r′ ≡ withSlots (scopeOf t r) (lib.ListN.set (scopeOf t r .slots) i (w .value))
+unfolding scopeOf
+slot-view {t} {r} {t′} {r′} {i} {w} h q =
+    let d : numbersOf t′ ≡ numbersOf t = rw (q .frame .head 0 (omega arith), q .frame .head 1 (omega arith), q .frame .head 2 (omega arith)) in
+    ap (λ (n : Numbers). setWith (heldOf n startHalf t′ r′) t′) d ∙ set-becomes (w .value) h (q .frame) (q .slot)

@@ -1,0 +1,3 @@
+pub mod Tested
+pub mod Merges
+pub mod Answers
