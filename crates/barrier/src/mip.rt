@@ -11,12 +11,30 @@ use ranges::filtering::clipped;
 use ranges::filtering::overlap;
 use ranges::get;
 ghost use mathlib.Core.Path.{_≡_};
-ghost use mathlib.Core.List.{[], _∷_};
 ghost use Prim.Native.Nat.{suc, _<_};
 ghost use Rattle.model.specs.Representation.{select};
 ghost use Rattle.ranges.specs.View.{decode};
 ghost use Rattle.barrier.specs.Logged.{Room, Logged};
-ghost use Rattle.barrier.specs.Steps.{RunReady, PairReady, toState, toStateIn, fromState, toRanges};
+ghost use Rattle.barrier.specs.Steps.{RunReady, PairReady, changeOf, rangeEntries, stepEntries, toRanges};
+
+// What is done with each range of a texture that is Many.
+pub enum Step {
+    // it goes to one state
+    To(u32),
+    // what of it lies within a range goes to that range's state
+    Within(Range),
+    // it is given, and one state goes to its state
+    From(u32),
+}
+
+// What a step makes of a range: whether anything, of which layers, from which state to which.
+pub struct Change {
+    pub made: bool,
+    pub start: u32,
+    pub end: u32,
+    pub old: u32,
+    pub new: u32,
+}
 
 // The selector of layers of one mip.
 pub fn on_mip(mip: u32, start: u32, end: u32) -> Selector
@@ -35,102 +53,72 @@ pub fn on_mip(mip: u32, start: u32, end: u32) -> Selector
     }
 }
 
-// Each range to one state.
-pub fn log_ranges(
-    run: &[u32],
-    len: usize,
-    mip: u32,
-    new: u32,
-    t: Task,
-    log: &mut [u32],
-    at: usize,
-) -> usize
-    requires { ⌜ RunReady (now run) len mip at ⌝ }
-    requires { ⌜ Room (t .write) (now log) at (toState (t .unknown) (t .mask) new mip (decode len (now run))) ⌝ }
-    ensures { λ x. ⌜ Logged 256 (t .index .0) (t .write) (now (log .entry)) at (toState (t .unknown) (t .mask) new mip (decode len (now (run .entry)))) x (now (log .exit)) ⌝ }
+// What a step makes of the range r.
+pub fn change_of(step: Step, r: Range) -> Change
+    ensures { λ c. ⌜ c ≡ changeOf step r ⌝ }
 {
-    let mut x = 0;
-    let mut k = 0;
-    while k < len {
-        let r = get(run, k);
-        let q = on_mip(mip, r.start, r.end);
-        let w = log_move(q, r.state, new, t, log, at + x);
-        x += w;
-        k += 1;
+    match step {
+        Step::To(new) => Change {
+            made: true,
+            start: r.start,
+            end: r.end,
+            old: r.state,
+            new,
+        },
+        Step::Within(g) => {
+            let made = overlap(r, g.start, g.end);
+            let c = clipped(r, g.start, g.end);
+            Change {
+                made,
+                start: c.start,
+                end: c.end,
+                old: c.state,
+                new: g.state,
+            }
+        }
+        Step::From(cur) => Change {
+            made: true,
+            start: r.start,
+            end: r.end,
+            old: cur,
+            new: r.state,
+        },
     }
-    x
 }
 
-// One range's part from `start` to `end`, if it has one, to a state.
-fn log_overlap(
-    r: Range,
-    start: u32,
-    end: u32,
-    mip: u32,
-    new: u32,
-    t: Task,
-    log: &mut [u32],
-    at: usize,
-) -> usize
+// A step's transition of one range, if it makes one.
+pub fn log_range(r: Range, step: Step, mip: u32, t: Task, log: &mut [u32], at: usize) -> usize
     requires { ⌜ mip < 16 ⌝ }
-    requires { ⌜ Room (t .write) (now log) at (toStateIn (t .unknown) (t .mask) new start end mip (r ∷ [])) ⌝ }
-    ensures { λ x. ⌜ Logged 1 (t .index .0) (t .write) (now (log .entry)) at (toStateIn (t .unknown) (t .mask) new start end mip (r ∷ [])) x (now (log .exit)) ⌝ }
+    requires { ⌜ Room (t .write) (now log) at (rangeEntries (t .unknown) (t .mask) step mip r) ⌝ }
+    ensures { λ x. ⌜ Logged 1 (t .index .0) (t .write) (now (log .entry)) at (rangeEntries (t .unknown) (t .mask) step mip r) x (now (log .exit)) ⌝ }
 {
-    if !overlap(r, start, end) {
+    let c = change_of(step, r);
+    if !c.made {
         return 0;
     }
-    let c = clipped(r, start, end);
     let q = on_mip(mip, c.start, c.end);
-    log_move(q, c.state, new, t, log, at)
+    log_move(q, c.old, c.new, t, log, at)
 }
 
-// Each range's part from `start` to `end` to one state.
-pub fn log_overlaps(
+// A step's transitions of the ranges.
+pub fn log_run(
     run: &[u32],
     len: usize,
-    start: u32,
-    end: u32,
+    step: Step,
     mip: u32,
-    new: u32,
     t: Task,
     log: &mut [u32],
     at: usize,
 ) -> usize
     requires { ⌜ RunReady (now run) len mip at ⌝ }
-    requires { ⌜ Room (t .write) (now log) at (toStateIn (t .unknown) (t .mask) new start end mip (decode len (now run))) ⌝ }
-    ensures { λ x. ⌜ Logged 256 (t .index .0) (t .write) (now (log .entry)) at (toStateIn (t .unknown) (t .mask) new start end mip (decode len (now (run .entry)))) x (now (log .exit)) ⌝ }
+    requires { ⌜ Room (t .write) (now log) at (stepEntries (t .unknown) (t .mask) step mip (decode len (now run))) ⌝ }
+    ensures { λ x. ⌜ Logged 256 (t .index .0) (t .write) (now (log .entry)) at (stepEntries (t .unknown) (t .mask) step mip (decode len (now (run .entry)))) x (now (log .exit)) ⌝ }
 {
     let mut x = 0;
     let mut k = 0;
     while k < len {
         let r = get(run, k);
-        let w = log_overlap(r, start, end, mip, new, t, log, at + x);
-        x += w;
-        k += 1;
-    }
-    x
-}
-
-// One state to each given range.
-pub fn log_given(
-    given: &[u32],
-    len: usize,
-    mip: u32,
-    cur: u32,
-    t: Task,
-    log: &mut [u32],
-    at: usize,
-) -> usize
-    requires { ⌜ RunReady (now given) len mip at ⌝ }
-    requires { ⌜ Room (t .write) (now log) at (fromState (t .unknown) (t .mask) cur mip (decode len (now given))) ⌝ }
-    ensures { λ x. ⌜ Logged 256 (t .index .0) (t .write) (now (log .entry)) at (fromState (t .unknown) (t .mask) cur mip (decode len (now (given .entry)))) x (now (log .exit)) ⌝ }
-{
-    let mut x = 0;
-    let mut k = 0;
-    while k < len {
-        let r = get(given, k);
-        let q = on_mip(mip, r.start, r.end);
-        let w = log_move(q, cur, r.state, t, log, at + x);
+        let w = log_range(r, step, mip, t, log, at + x);
         x += w;
         k += 1;
     }
@@ -156,7 +144,7 @@ pub fn log_pairs(
     let mut k = 0;
     while k < many {
         let r = get(given, k);
-        let w = log_overlaps(run, len, r.start, r.end, mip, r.state, t, log, at + x);
+        let w = log_run(run, len, Step::Within(r), mip, t, log, at + x);
         x += w;
         k += 1;
     }

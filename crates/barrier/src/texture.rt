@@ -2,10 +2,9 @@
 //
 // A texture is held as Many where its word tells COMPLEX (the tracker's table and the given one each have the word), otherwise the word
 // is its one state.
-use crate::many::many_to_many;
-use crate::many::many_to_selector;
-use crate::many::many_to_state;
-use crate::many::state_to_many;
+use crate::many::log_mip_pairs;
+use crate::many::log_mips;
+use crate::mip::Step;
 use crate::transition::Task;
 use crate::transition::log_move;
 use model::Extent;
@@ -13,6 +12,7 @@ use model::Layer;
 use model::LayerRange;
 use model::Mip;
 use model::MipRange;
+use model::Range;
 use model::Selector;
 use model::TrackerIndex;
 use model::UsageFlags;
@@ -26,7 +26,8 @@ ghost use Rattle.model.specs.Representation.{full as fullOf};
 ghost use Rattle.model.specs.Texture.{givenSingle, givenMany, fromHeld, barrier};
 ghost use Rattle.storage.specs.Storage.{numbersOf, endHalf, heldOf};
 ghost use Rattle.barrier.specs.Logged.{Room, Logged};
-ghost use Rattle.barrier.specs.Ready.{Ready, Selects};
+ghost use Rattle.barrier.specs.Ready.{Textured, Selects};
+ghost use Rattle.barrier.specs.Steps.{logTop};
 ghost use Rattle.barrier.specs.Textures.{piece, taskOf};
 
 // The selector of all of a texture.
@@ -70,8 +71,8 @@ pub fn barrier_state(
     at: usize,
     write: bool,
 ) -> usize
-    requires { ⌜ Ready (numbersOf (now table)) endHalf (now table) (now ends) i extent ⌝ }
-    requires { ⌜ at ≤ 4294967296 ⌝ }
+    requires { ⌜ Textured endHalf (now table) (now ends) i extent ⌝ }
+    requires { ⌜ at ≤ logTop ⌝ }
     requires { ⌜ Room write (now log) at (barrier p mask extent (heldOf (numbersOf (now table)) endHalf (now table) (now ends) i) (givenSingle new)) ⌝ }
     ensures { λ x. ⌜ Logged 4096 i write (now (log .entry)) at (barrier p mask extent (heldOf (numbersOf (now (table .entry))) endHalf (now (table .entry)) (now (ends .entry)) i) (givenSingle new)) x (now (log .exit)) ⌝ }
 {
@@ -79,7 +80,18 @@ pub fn barrier_state(
     let flags = flags_of(table);
     let cur = table[END + i];
     if cur == flags.complex {
-        return many_to_state(table, ends, END, i, extent, new, t, log, at);
+        return log_mips(
+            table,
+            ends,
+            END,
+            i,
+            0,
+            extent.mips,
+            Step::To(new),
+            t,
+            log,
+            at,
+        );
     }
     let q = full(extent);
     log_move(q, cur, new, t, log, at)
@@ -99,9 +111,9 @@ pub fn barrier_selector(
     at: usize,
     write: bool,
 ) -> usize
-    requires { ⌜ Ready (numbersOf (now table)) endHalf (now table) (now ends) i extent ⌝ }
+    requires { ⌜ Textured endHalf (now table) (now ends) i extent ⌝ }
     requires { ⌜ Selects q extent ⌝ }
-    requires { ⌜ at ≤ 4294967296 ⌝ }
+    requires { ⌜ at ≤ logTop ⌝ }
     requires { ⌜ Room write (now log) at (barrier p mask extent (heldOf (numbersOf (now table)) endHalf (now table) (now ends) i) (givenMany (piece q new ∷ []))) ⌝ }
     ensures { λ x. ⌜ Logged 4096 i write (now (log .entry)) at (barrier p mask extent (heldOf (numbersOf (now (table .entry))) endHalf (now (table .entry)) (now (ends .entry)) i) (givenMany (piece q new ∷ []))) x (now (log .exit)) ⌝ }
 {
@@ -109,7 +121,23 @@ pub fn barrier_selector(
     let flags = flags_of(table);
     let cur = table[END + i];
     if cur == flags.complex {
-        return many_to_selector(table, ends, END, i, extent, q, new, t, log, at);
+        let g = Range {
+            start: q.layers.start.0,
+            end: q.layers.end.0,
+            state: new,
+        };
+        return log_mips(
+            table,
+            ends,
+            END,
+            i,
+            q.mips.start.0,
+            q.mips.end.0,
+            Step::Within(g),
+            t,
+            log,
+            at,
+        );
     }
     log_move(q, cur, new, t, log, at)
 }
@@ -129,9 +157,9 @@ pub fn barrier_texture(
     at: usize,
     write: bool,
 ) -> usize
-    requires { ⌜ Ready (numbersOf (now table)) endHalf (now table) (now ends) i extent ⌝ }
-    requires { ⌜ Ready (numbersOf (now given)) side (now given) (now pieces) i extent ⌝ }
-    requires { ⌜ at ≤ 4294967296 ⌝ }
+    requires { ⌜ Textured endHalf (now table) (now ends) i extent ⌝ }
+    requires { ⌜ Textured side (now given) (now pieces) i extent ⌝ }
+    requires { ⌜ at ≤ logTop ⌝ }
     requires { ⌜ Room write (now log) at (barrier p mask extent (heldOf (numbersOf (now table)) endHalf (now table) (now ends) i) (fromHeld (heldOf (numbersOf (now given)) side (now given) (now pieces) i))) ⌝ }
     ensures { λ x. ⌜ Logged 1048576 i write (now (log .entry)) at (barrier p mask extent (heldOf (numbersOf (now (table .entry))) endHalf (now (table .entry)) (now (ends .entry)) i) (fromHeld (heldOf (numbersOf (now (given .entry))) side (now (given .entry)) (now (pieces .entry)) i))) x (now (log .exit)) ⌝ }
 {
@@ -144,7 +172,30 @@ pub fn barrier_texture(
     let own = flags_of(table);
     let cur = table[END + i];
     if cur == own.complex {
-        return many_to_many(table, ends, END, given, pieces, side, i, extent, t, log, at);
+        return log_mip_pairs(
+            table,
+            ends,
+            END,
+            given,
+            pieces,
+            side,
+            i,
+            extent.mips,
+            t,
+            log,
+            at,
+        );
     }
-    state_to_many(given, pieces, side, i, extent, cur, t, log, at)
+    log_mips(
+        given,
+        pieces,
+        side,
+        i,
+        0,
+        extent.mips,
+        Step::From(cur),
+        t,
+        log,
+        at,
+    )
 }

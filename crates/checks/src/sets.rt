@@ -36,14 +36,9 @@ pub fn check_owned(table: &Table, given: &Table, index: TrackerIndex) -> Outcome
     if given[OWNED + k] == 0 {
         return Outcome::Done;
     }
-    check_texture(
-        table,
-        index,
-        Extent {
-            mips: given[MIPS + k],
-            layers: given[LAYERS + k],
-        },
-    )
+    let mips = given[MIPS + k];
+    let layers = given[LAYERS + k];
+    check_texture(table, index, Extent { mips, layers })
 }
 
 // 7, 8, 9: a listed index, which is to be below the given set's N.
@@ -87,7 +82,8 @@ pub fn check_sparse(table: &Table, given: &Table, indices: &[u32]) -> Outcome
     }
     let mut k = 0;
     while k < indices.len() {
-        match check_listed(table, given, TrackerIndex(indices[k])) {
+        let i = indices[k];
+        match check_listed(table, given, TrackerIndex(i)) {
             Outcome::Done => k += 1,
             Outcome::Refused(r) => return Outcome::Refused(r),
             Outcome::Conflict(c) => return Outcome::Conflict(c),

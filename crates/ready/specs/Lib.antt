@@ -1,3 +1,4 @@
 pub mod Tested
 pub mod Merges
+pub mod Updates
 pub mod Answers

@@ -5,6 +5,7 @@
 //
 //     Tested    a set that passed the test, index by index
 //     Merges    an owned or new texture in one half, for a use of it and for another set's texture
+//     Updates   an owned texture of a tracker, for a use of it and for its transitions
 //     Answers   what a call answers, and whether it was turned away
 use model::Extent;
 use model::Selector;

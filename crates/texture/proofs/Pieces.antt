@@ -28,7 +28,7 @@ use Rattle.texture.specs.Ready.{MipTiled, ManyReady, Selects, lentPart, 
 use Rattle.texture.specs.Giving.{taken, Tiled, tiles-le, taken-tiled, passes-tiled, pieceOn, piecesFrom, passes-append, Giving, giving-start, giving-word, giving-ready, giving-turn, giving-stop, giving-end, GivenMip, GivenTexture}
 
 -- a range of a tiling lies within its layers
-tiles-at : (s : List Range) (a w k : ℕ) → Tiles a s w → k < length s → (getD s k blank .start < getD s k blank .end) × (getD s k blank .end ≤ w)
+pub tiles-at : (s : List Range) (a w k : ℕ) → Tiles a s w → k < length s → (getD s k blank .start < getD s k blank .end) × (getD s k blank .end ≤ w)
 tiles-at [] a w k t h = absurd (omega arith)
 tiles-at (r ∷ s) a w zero t h = (omega arith, tiles-le s (r .end) w (t .2))
 tiles-at (r ∷ s) a w (suc k) t h = tiles-at s (r .end) w k (t .2) (omega arith)

@@ -73,7 +73,7 @@ pub tiled-of : (w : ℕ) (ss : List (List Range)) → ((k : ℕ) → k < length 
 tiled-of w [] f = tt
 tiled-of w (s ∷ ss) f = (f 0 (omega arith), tiled-of w ss (λ k h. f (suc k) (omega arith)))
 
-on-tiled : (w : ℕ) (q : Selector) (f : List Range → List Range) → ((s : List Range) → Tiles 0 s w → Tiles 0 (f s) w) → (k : ℕ) (ss : List (List Range)) → Tiled w ss → Tiled w (onMips q f k ss)
+pub on-tiled : (w : ℕ) (q : Selector) (f : List Range → List Range) → ((s : List Range) → Tiles 0 s w → Tiles 0 (f s) w) → (k : ℕ) (ss : List (List Range)) → Tiled w ss → Tiled w (onMips q f k ss)
 on-tiled w q f g k [] t = tt
 on-tiled w q f g k (s ∷ ss) t = (by-test (λ (x : List Range). Tiles 0 x w) (inMips q k) (λ b. g s (t .0)) (λ b. t .0), on-tiled w q f g (suc k) ss (t .1))
 

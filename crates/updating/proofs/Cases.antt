@@ -22,16 +22,16 @@ module _ {t s e : List ℕ} {i : ℕ} {sh : Extent} {p : UsageFlags} {new : ℕ}
   plain : new ≡ getD t 5 0 → ⊥
   plain z = r .plain (z ∙ sym (complex-is r))
 
-  start-single : (getD t (200 + i) 0 ≡ p .complex → ⊥) → heldOf (numbersOf t) startHalf t s i ≡ single (getD t (200 + i) 0)
+  pub start-single : (getD t (200 + i) 0 ≡ p .complex → ⊥) → heldOf (numbersOf t) startHalf t s i ≡ single (getD t (200 + i) 0)
   start-single n = held-single (numbersOf t) startHalf t s i (λ z. n (z ∙ sym (complex-is r)))
 
-  end-single : (getD t (1288 + i) 0 ≡ p .complex → ⊥) → heldOf (numbersOf t) endHalf t e i ≡ single (getD t (1288 + i) 0)
+  pub end-single : (getD t (1288 + i) 0 ≡ p .complex → ⊥) → heldOf (numbersOf t) endHalf t e i ≡ single (getD t (1288 + i) 0)
   end-single n = held-single (numbersOf t) endHalf t e i (λ z. n (z ∙ sym (complex-is r)))
 
-  start-many : getD t (200 + i) 0 ≡ p .complex → heldOf (numbersOf t) startHalf t s i ≡ many (mipsOf (numbersOf t) startHalf t s i)
+  pub start-many : getD t (200 + i) 0 ≡ p .complex → heldOf (numbersOf t) startHalf t s i ≡ many (mipsOf (numbersOf t) startHalf t s i)
   start-many c = held-many (numbersOf t) startHalf t s i (mipsOf (numbersOf t) startHalf t s i) (c ∙ complex-is r) refl
 
-  end-many : getD t (1288 + i) 0 ≡ p .complex → heldOf (numbersOf t) endHalf t e i ≡ many (mipsOf (numbersOf t) endHalf t e i)
+  pub end-many : getD t (1288 + i) 0 ≡ p .complex → heldOf (numbersOf t) endHalf t e i ≡ many (mipsOf (numbersOf t) endHalf t e i)
   end-many c = held-many (numbersOf t) endHalf t e i (mipsOf (numbersOf t) endHalf t e i) (c ∙ complex-is r) refl
 
   -- what is held, put into the model's update
@@ -40,7 +40,7 @@ module _ {t s e : List ℕ} {i : ℕ} {sh : Extent} {p : UsageFlags} {new : ℕ}
     held-is z a b u = sym (rw (a, b) u)
 
     -- the end alone changes
-    ended : {y w : Held} {t′ e′ : List ℕ} → heldOf (numbersOf t) endHalf t e i ≡ y → update p sh (record { start = heldOf (numbersOf t) startHalf t s i; end = y }) g ≡ record { start = heldOf (numbersOf t) startHalf t s i; end = w } → HalfBecomes (numbersOf t) endHalf i w t e t′ e′
+    pub ended : {y w : Held} {t′ e′ : List ℕ} → heldOf (numbersOf t) endHalf t e i ≡ y → update p sh (record { start = heldOf (numbersOf t) startHalf t s i; end = y }) g ≡ record { start = heldOf (numbersOf t) startHalf t s i; end = w } → HalfBecomes (numbersOf t) endHalf i w t e t′ e′
         → BothBecome (numbersOf t) i (update p sh (endsOf (numbersOf t) t s e i) g) t s e t′ s e′
     ended {y} {w} {t′} {e′} b u h =
         subst (λ (x : Ends Held). BothBecome (numbersOf t) i x t s e t′ s e′) (held-is (record { start = heldOf (numbersOf t) startHalf t s i; end = w }) refl b u) (end-alone (r .starts) (r .ends) (r .texture) h)

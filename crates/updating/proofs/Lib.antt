@@ -2,3 +2,6 @@ pub mod Pairs
 pub mod Lessons
 pub mod Turns
 pub mod Cases
+pub mod PieceCases
+pub mod Takes
+pub mod SetCases

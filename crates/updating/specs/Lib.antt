@@ -2,3 +2,5 @@ pub mod Pair
 pub mod Both
 pub mod Learning
 pub mod Update
+pub mod Pieces
+pub mod FromSet

@@ -1,7 +1,8 @@
 -- `log_pairs` takes the given ranges one by one, each against all of the run.
 use native.Mathlib.Omega.{arith}
 use borrow.Author.Needs.{needs}
-use Rattle.barrier.specs.Steps.{toStateIn}
+use Rattle.barrier.specs.Steps.{stepEntries}
+use Rattle.barrier.specs.declared.mip.Step.the-variants.{Within}
 use Rattle.ranges.specs.View.{decode}
 use Rattle.model.specs.declared.Range.{Range}
 use Rattle.barrier.proofs.Running.{Running, run-start, run-room, run-turn, run-end}
@@ -11,7 +12,7 @@ use Rattle.barrier.proofs.mip.log_pairs.Tie as tie
 
 abbrev Inv-loop : tie.InvT-loop
 Inv-loop run len given many mip t log₀ at x₀ k₀ log x k =
-    Running (256 * k) (t .index .0) (t .write) (λ (r : Range). toStateIn (t .unknown) (t .mask) (r .state) (r .start) (r .end) mip (decode len run)) given many log₀ at x k log
+    Running (256 * k) (t .index .0) (t .write) (λ (g : Range). stepEntries (t .unknown) (t .mask) (Within g) mip (decode len run)) given many log₀ at x k log
 
 abbrev μ-loop : tie.MeasureT-loop
 μ-loop run len given many mip t log₀ at x₀ k₀ log x k = many - k
@@ -22,11 +23,11 @@ loop-holds c = run-start _ _ _ _ _ _ _
 get-requires : tie.Need-get-requires Inv-loop μ-loop
 get-requires c κs = search needs
 
-add-log-overlaps : tie.Need-add-log-overlaps Inv-loop μ-loop
-add-log-overlaps c = search needs
+add-log-run : tie.Need-add-log-run Inv-loop μ-loop
+add-log-run c = search needs
 
-log-overlaps-requires : tie.Need-log-overlaps-requires Inv-loop μ-loop
-log-overlaps-requires c κs = (record { room = (c .before .before .before .before .before .before .before .pre) .0 .held .room; few = (c .before .before .before .before .before .before .before .pre) .0 .held .few; level = (c .before .before .before .before .before .before .before .pre) .0 .held .level; low = omega arith }, run-room _ (c .before .before .before .loop .inv) ((c .before .before .before .before .before .before .before .pre) .0 .room) ((c .before .before .before .before .before .before .before .pre) .1) (c .before .before .loop-test .taken) (c .before .get .ensures))
+log-run-requires : tie.Need-log-run-requires Inv-loop μ-loop
+log-run-requires c κs = (record { room = (c .before .before .before .before .before .before .before .pre) .0 .held .room; few = (c .before .before .before .before .before .before .before .pre) .0 .held .few; level = (c .before .before .before .before .before .before .before .pre) .0 .held .level; low = omega arith }, run-room _ (c .before .before .before .loop .inv) ((c .before .before .before .before .before .before .before .pre) .0 .room) ((c .before .before .before .before .before .before .before .pre) .1) (c .before .before .loop-test .taken) (c .before .get .ensures))
 
 add-x : tie.Need-add-x Inv-loop μ-loop
 add-x c = search needs
@@ -38,7 +39,7 @@ loop-less : tie.Need-loop-less Inv-loop μ-loop
 loop-less c = search needs
 
 loop-again : tie.Need-loop-again Inv-loop μ-loop
-loop-again c = run-turn _ (c .before .before .before .before .before .before .loop .inv) ((c .before .before .before .before .before .before .before .before .before .before .pre) .0 .room) ((c .before .before .before .before .before .before .before .before .before .before .pre) .1) (c .before .before .before .before .before .loop-test .taken) (c .before .before .before .before .get .ensures) (omega arith) (c .before .before .log-overlaps .ensures)
+loop-again c = run-turn _ (c .before .before .before .before .before .before .loop .inv) ((c .before .before .before .before .before .before .before .before .before .before .pre) .0 .room) ((c .before .before .before .before .before .before .before .before .before .before .pre) .1) (c .before .before .before .before .before .loop-test .taken) (c .before .before .before .before .get .ensures) (omega arith) (c .before .before .log-run .ensures)
 
 same-length : tie.Need-same-length Inv-loop μ-loop
 same-length c = search needs
@@ -54,8 +55,8 @@ log-pairs-spec =
     μ-loop
     loop-holds
     get-requires
-    add-log-overlaps
-    log-overlaps-requires
+    add-log-run
+    log-run-requires
     add-x
     add-k
     loop-less

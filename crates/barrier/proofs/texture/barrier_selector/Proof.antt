@@ -1,9 +1,10 @@
 -- `barrier_selector` goes by the texture's word: mip by mip where it is Many, otherwise one transition over the selector.
-use native.Mathlib.Omega.{arith}
-use Rattle.barrier.specs.Logged.{logged-within}
 use Rattle.barrier.proofs.Holding.{piece-many, piece-single}
-use mathlib.Core.Path.{sym, ap, _∙_}
+use Rattle.barrier.specs.Ready.{ready}
+use Rattle.barrier.specs.Logged.{logged-within}
 use Rattle.model.specs.declared.UsageFlags.{UsageFlags}
+use mathlib.Core.Path.{sym, ap, _∙_}
+use native.Mathlib.Omega.{arith}
 use borrow.Author.Needs.{needs}
 use Rattle.barrier.proofs.texture.barrier_selector.Statement.{statement}
 use Rattle.barrier.proofs.texture.barrier_selector.Tie as tie
@@ -23,14 +24,14 @@ mul-cur c = search needs
 element-copy-out-cur : tie.Need-element-copy-out-cur
 element-copy-out-cur c = search needs
 
-many-to-selector-requires : tie.Need-many-to-selector-requires
-many-to-selector-requires c κs = ((c .before .before .before .before .before .before .before .before .pre) .0, ((c .before .before .before .before .before .before .before .before .pre) .1 .0, ((c .before .before .before .before .before .before .before .before .pre) .1 .1 .0, rw (c .before .before .before .before .before .task-of .ensures) (rw (piece-many ((c .before .before .before .before .before .before .before .before .pre) .0) (c .before .before .before .before .before .before .before .before .args .p) (c .before .before .before .before .before .before .before .before .args .mask) (c .before .before .before .before .before .before .before .before .args .q) (c .before .before .before .before .before .before .before .before .args .new) ((c .before .before .before .before .before .before .before .before .pre) .1 .0) ((c .before .if1 .taken) ∙ ap (λ (f : UsageFlags). f .complex) (c .before .before .before .before .flags-of .ensures))) at ((c .before .before .before .before .before .before .before .before .pre) .1 .1 .1)))))
+log-mips-requires : tie.Need-log-mips-requires
+log-mips-requires c κs = (ready ((c .before .before .before .before .before .before .before .before .pre) .0) ((c .before .if1 .taken) ∙ ap (λ (f : UsageFlags). f .complex) (c .before .before .before .before .flags-of .ensures)) _ ((c .before .before .before .before .before .before .before .before .pre) .1 .0 .inside), ((c .before .before .before .before .before .before .before .before .pre) .1 .0 .order, (((c .before .before .before .before .before .before .before .before .pre) .1 .1 .0), rw (c .before .before .before .before .before .task-of .ensures) (rw (piece-many ((c .before .before .before .before .before .before .before .before .pre) .0) (c .before .before .before .before .before .before .before .before .args .p) (c .before .before .before .before .before .before .before .before .args .mask) (c .before .before .before .before .before .before .before .before .args .q) (c .before .before .before .before .before .before .before .before .args .new) ((c .before .before .before .before .before .before .before .before .pre) .1 .0) ((c .before .if1 .taken) ∙ ap (λ (f : UsageFlags). f .complex) (c .before .before .before .before .flags-of .ensures))) at ((c .before .before .before .before .before .before .before .before .pre) .1 .1 .1)))))
 
 same-length : tie.Need-same-length
 same-length c = search needs
 
 returns : tie.Need-returns
-returns c = rw (piece-many ((c .before .before .before .before .before .before .before .before .before .before .before .pre) .0) (c .before .before .before .before .before .before .before .before .before .before .before .args .p) (c .before .before .before .before .before .before .before .before .before .before .before .args .mask) (c .before .before .before .before .before .before .before .before .before .before .before .args .q) (c .before .before .before .before .before .before .before .before .before .before .before .args .new) ((c .before .before .before .before .before .before .before .before .before .before .before .pre) .1 .0) ((c .before .before .before .before .if1 .taken) ∙ ap (λ (f : UsageFlags). f .complex) (c .before .before .before .before .before .before .before .flags-of .ensures))) (rw (c .before .before .before .before .before .before .before .before .task-of .ensures) at (c .before .before .many-to-selector .ensures))
+returns c = rw (piece-many ((c .before .before .before .before .before .before .before .before .before .before .before .pre) .0) (c .before .before .before .before .before .before .before .before .before .before .before .args .p) (c .before .before .before .before .before .before .before .before .before .before .before .args .mask) (c .before .before .before .before .before .before .before .before .before .before .before .args .q) (c .before .before .before .before .before .before .before .before .before .before .before .args .new) ((c .before .before .before .before .before .before .before .before .before .before .before .pre) .1 .0) ((c .before .before .before .before .if1 .taken) ∙ ap (λ (f : UsageFlags). f .complex) (c .before .before .before .before .before .before .before .flags-of .ensures))) (rw (c .before .before .before .before .before .before .before .before .task-of .ensures) at (c .before .before .log-mips .ensures))
 
 log-move-requires : tie.Need-log-move-requires
 log-move-requires c κs = rw (c .before .before .before .before .before .task-of .ensures) (rw (piece-single ((c .before .before .before .before .before .before .before .before .pre) .0) (c .before .before .before .before .before .before .before .before .args .p) (c .before .before .before .before .before .before .before .before .args .mask) (c .before .before .before .before .before .before .before .before .args .q) (c .before .before .before .before .before .before .before .before .args .new) (λ z. (c .before .if1 .left) (z ∙ sym (ap (λ (f : UsageFlags). f .complex) (c .before .before .before .before .flags-of .ensures))))) at ((c .before .before .before .before .before .before .before .before .pre) .1 .1 .1))
@@ -50,7 +51,7 @@ barrier-selector-spec =
     add-cur
     mul-cur
     element-copy-out-cur
-    many-to-selector-requires
+    log-mips-requires
     same-length
     returns
     log-move-requires

@@ -1,9 +1,10 @@
 -- `barrier_state` goes by the texture's word: mip by mip where it is Many, otherwise one transition over the full extent.
-use native.Mathlib.Omega.{arith}
-use Rattle.barrier.specs.Logged.{logged-within}
 use Rattle.barrier.proofs.Holding.{state-many, state-single}
-use mathlib.Core.Path.{sym, ap, _∙_}
+use Rattle.barrier.specs.Ready.{ready}
+use Rattle.barrier.specs.Logged.{logged-within}
 use Rattle.model.specs.declared.UsageFlags.{UsageFlags}
+use mathlib.Core.Path.{sym, ap, _∙_}
+use native.Mathlib.Omega.{arith}
 use borrow.Author.Needs.{needs}
 use Rattle.barrier.proofs.texture.barrier_state.Statement.{statement}
 use Rattle.barrier.proofs.texture.barrier_state.Tie as tie
@@ -23,14 +24,14 @@ mul-cur c = search needs
 element-copy-out-cur : tie.Need-element-copy-out-cur
 element-copy-out-cur c = search needs
 
-many-to-state-requires : tie.Need-many-to-state-requires
-many-to-state-requires c κs = ((c .before .before .before .before .before .before .before .before .pre) .0, ((c .before .before .before .before .before .before .before .before .pre) .1 .0, rw (c .before .before .before .before .before .task-of .ensures) (rw (state-many ((c .before .before .before .before .before .before .before .before .pre) .0) (c .before .before .before .before .before .before .before .before .args .p) (c .before .before .before .before .before .before .before .before .args .mask) (c .before .before .before .before .before .before .before .before .args .new) ((c .before .if1 .taken) ∙ ap (λ (f : UsageFlags). f .complex) (c .before .before .before .before .flags-of .ensures))) at ((c .before .before .before .before .before .before .before .before .pre) .1 .1))))
+log-mips-requires : tie.Need-log-mips-requires
+log-mips-requires c κs = (ready ((c .before .before .before .before .before .before .before .before .pre) .0) ((c .before .if1 .taken) ∙ ap (λ (f : UsageFlags). f .complex) (c .before .before .before .before .flags-of .ensures)) _ (omega arith), (omega arith, (((c .before .before .before .before .before .before .before .before .pre) .1 .0), rw (c .before .before .before .before .before .task-of .ensures) (rw (state-many ((c .before .before .before .before .before .before .before .before .pre) .0) (c .before .before .before .before .before .before .before .before .args .p) (c .before .before .before .before .before .before .before .before .args .mask) (c .before .before .before .before .before .before .before .before .args .new) ((c .before .if1 .taken) ∙ ap (λ (f : UsageFlags). f .complex) (c .before .before .before .before .flags-of .ensures))) at ((c .before .before .before .before .before .before .before .before .pre) .1 .1)))))
 
 same-length : tie.Need-same-length
 same-length c = search needs
 
 returns : tie.Need-returns
-returns c = rw (state-many ((c .before .before .before .before .before .before .before .before .before .before .before .pre) .0) (c .before .before .before .before .before .before .before .before .before .before .before .args .p) (c .before .before .before .before .before .before .before .before .before .before .before .args .mask) (c .before .before .before .before .before .before .before .before .before .before .before .args .new) ((c .before .before .before .before .if1 .taken) ∙ ap (λ (f : UsageFlags). f .complex) (c .before .before .before .before .before .before .before .flags-of .ensures))) (rw (c .before .before .before .before .before .before .before .before .task-of .ensures) at (c .before .before .many-to-state .ensures))
+returns c = rw (state-many ((c .before .before .before .before .before .before .before .before .before .before .before .pre) .0) (c .before .before .before .before .before .before .before .before .before .before .before .args .p) (c .before .before .before .before .before .before .before .before .before .before .before .args .mask) (c .before .before .before .before .before .before .before .before .before .before .before .args .new) ((c .before .before .before .before .if1 .taken) ∙ ap (λ (f : UsageFlags). f .complex) (c .before .before .before .before .before .before .before .flags-of .ensures))) (rw (c .before .before .before .before .before .before .before .before .task-of .ensures) at (c .before .before .log-mips .ensures))
 
 full-requires : tie.Need-full-requires
 full-requires c κs = search needs
@@ -53,7 +54,7 @@ barrier-state-spec =
     add-cur
     mul-cur
     element-copy-out-cur
-    many-to-state-requires
+    log-mips-requires
     same-length
     returns
     full-requires

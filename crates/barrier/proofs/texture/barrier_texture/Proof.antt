@@ -1,9 +1,10 @@
 -- `barrier_texture` goes by the given texture's word and then by its own.
-use native.Mathlib.Omega.{arith}
-use Rattle.barrier.specs.Logged.{logged-within}
 use Rattle.barrier.proofs.Holding.{given-single, given-many, given-from}
-use mathlib.Core.Path.{sym, ap, _∙_}
+use Rattle.barrier.specs.Ready.{ready}
+use Rattle.barrier.specs.Logged.{logged-within}
 use Rattle.model.specs.declared.UsageFlags.{UsageFlags}
+use mathlib.Core.Path.{sym, ap, _∙_}
+use native.Mathlib.Omega.{arith}
 use borrow.Author.Needs.{needs}
 use Rattle.barrier.proofs.texture.barrier_texture.Statement.{statement}
 use Rattle.barrier.proofs.texture.barrier_texture.Tie as tie
@@ -21,7 +22,7 @@ element-copy-out-new : tie.Need-element-copy-out-new
 element-copy-out-new c = search needs
 
 barrier-state-requires : tie.Need-barrier-state-requires
-barrier-state-requires c κs = ((c .before .before .before .before .before .before .before .before .pre) .0, ((c .before .before .before .before .before .before .before .before .pre) .1 .1 .0, rw (given-single ((c .before .before .before .before .before .before .before .before .pre) .0) (c .before .before .before .before .before .before .before .before .args .p) (c .before .before .before .before .before .before .before .before .args .mask) ((c .before .before .before .before .before .before .before .before .pre) .1 .0) (λ z. (c .before .if1 .taken) (z ∙ sym (ap (λ (f : UsageFlags). f .complex) (c .before .before .before .before .flags-of .ensures))))) at ((c .before .before .before .before .before .before .before .before .pre) .1 .1 .1)))
+barrier-state-requires c κs = (((c .before .before .before .before .before .before .before .before .pre) .0), (((c .before .before .before .before .before .before .before .before .pre) .1 .1 .0), rw (given-single ((c .before .before .before .before .before .before .before .before .pre) .0) (c .before .before .before .before .before .before .before .before .args .p) (c .before .before .before .before .before .before .before .before .args .mask) ((c .before .before .before .before .before .before .before .before .pre) .1 .0) (λ z. (c .before .if1 .taken) (z ∙ sym (ap (λ (f : UsageFlags). f .complex) (c .before .before .before .before .flags-of .ensures))))) at ((c .before .before .before .before .before .before .before .before .pre) .1 .1 .1)))
 
 same-length : tie.Need-same-length
 same-length c = search needs
@@ -44,23 +45,23 @@ mul-cur c = search needs
 element-copy-out-cur : tie.Need-element-copy-out-cur
 element-copy-out-cur c = search needs
 
-many-to-many-requires : tie.Need-many-to-many-requires
-many-to-many-requires c κs = ((c .before .before .before .before .before .before .before .before .before .before .before .before .before .pre) .0, ((c .before .before .before .before .before .before .before .before .before .before .before .before .before .pre) .1 .0, ((c .before .before .before .before .before .before .before .before .before .before .before .before .before .pre) .1 .1 .0, rw (c .before .before .before .before .before .task-of .ensures) (rw (given-many ((c .before .before .before .before .before .before .before .before .before .before .before .before .before .pre) .0) (c .before .before .before .before .before .before .before .before .before .before .before .before .before .args .p) (c .before .before .before .before .before .before .before .before .before .before .before .before .before .args .mask) ((c .before .before .before .before .before .before .before .before .before .before .before .before .before .pre) .1 .0) ((c .before .before .before .before .before .before .if1 .left) ∙ ap (λ (f : UsageFlags). f .complex) (c .before .before .before .before .before .before .before .before .before .flags-of .ensures)) ((c .before .if2 .taken) ∙ ap (λ (f : UsageFlags). f .complex) (c .before .before .before .before .flags-of2 .ensures))) at ((c .before .before .before .before .before .before .before .before .before .before .before .before .before .pre) .1 .1 .1)))))
+log-mip-pairs-requires : tie.Need-log-mip-pairs-requires
+log-mip-pairs-requires c κs = (ready ((c .before .before .before .before .before .before .before .before .before .before .before .before .before .pre) .0) ((c .before .if2 .taken) ∙ ap (λ (f : UsageFlags). f .complex) (c .before .before .before .before .flags-of2 .ensures)) _ (omega arith), (ready ((c .before .before .before .before .before .before .before .before .before .before .before .before .before .pre) .1 .0) ((c .before .before .before .before .before .before .if1 .left) ∙ ap (λ (f : UsageFlags). f .complex) (c .before .before .before .before .before .before .before .before .before .flags-of .ensures)) _ (omega arith), (((c .before .before .before .before .before .before .before .before .before .before .before .before .before .pre) .1 .1 .0), rw (c .before .before .before .before .before .task-of .ensures) (rw (given-many ((c .before .before .before .before .before .before .before .before .before .before .before .before .before .pre) .0) (c .before .before .before .before .before .before .before .before .before .before .before .before .before .args .p) (c .before .before .before .before .before .before .before .before .before .before .before .before .before .args .mask) ((c .before .before .before .before .before .before .before .before .before .before .before .before .before .pre) .1 .0) ((c .before .before .before .before .before .before .if1 .left) ∙ ap (λ (f : UsageFlags). f .complex) (c .before .before .before .before .before .before .before .before .before .flags-of .ensures)) ((c .before .if2 .taken) ∙ ap (λ (f : UsageFlags). f .complex) (c .before .before .before .before .flags-of2 .ensures))) at ((c .before .before .before .before .before .before .before .before .before .before .before .before .before .pre) .1 .1 .1)))))
 
 same-length-2 : tie.Need-same-length-2
 same-length-2 c = search needs
 
 returns-2 : tie.Need-returns-2
-returns-2 c = rw (given-many ((c .before .before .before .before .before .before .before .before .before .before .before .before .before .before .before .before .pre) .0) (c .before .before .before .before .before .before .before .before .before .before .before .before .before .before .before .before .args .p) (c .before .before .before .before .before .before .before .before .before .before .before .before .before .before .before .before .args .mask) ((c .before .before .before .before .before .before .before .before .before .before .before .before .before .before .before .before .pre) .1 .0) ((c .before .before .before .before .before .before .before .before .before .if1 .left) ∙ ap (λ (f : UsageFlags). f .complex) (c .before .before .before .before .before .before .before .before .before .before .before .before .flags-of .ensures)) ((c .before .before .before .before .if2 .taken) ∙ ap (λ (f : UsageFlags). f .complex) (c .before .before .before .before .before .before .before .flags-of2 .ensures))) (rw (c .before .before .before .before .before .before .before .before .task-of .ensures) at (c .before .before .many-to-many .ensures))
+returns-2 c = rw (given-many ((c .before .before .before .before .before .before .before .before .before .before .before .before .before .before .before .before .pre) .0) (c .before .before .before .before .before .before .before .before .before .before .before .before .before .before .before .before .args .p) (c .before .before .before .before .before .before .before .before .before .before .before .before .before .before .before .before .args .mask) ((c .before .before .before .before .before .before .before .before .before .before .before .before .before .before .before .before .pre) .1 .0) ((c .before .before .before .before .before .before .before .before .before .if1 .left) ∙ ap (λ (f : UsageFlags). f .complex) (c .before .before .before .before .before .before .before .before .before .before .before .before .flags-of .ensures)) ((c .before .before .before .before .if2 .taken) ∙ ap (λ (f : UsageFlags). f .complex) (c .before .before .before .before .before .before .before .flags-of2 .ensures))) (rw (c .before .before .before .before .before .before .before .before .task-of .ensures) at (c .before .before .log-mip-pairs .ensures))
 
-state-to-many-requires : tie.Need-state-to-many-requires
-state-to-many-requires c κs = ((c .before .before .before .before .before .before .before .before .before .before .before .before .before .pre) .1 .0, ((c .before .before .before .before .before .before .before .before .before .before .before .before .before .pre) .1 .1 .0, rw (c .before .before .before .before .before .task-of .ensures) (rw (given-from ((c .before .before .before .before .before .before .before .before .before .before .before .before .before .pre) .0) (c .before .before .before .before .before .before .before .before .before .before .before .before .before .args .p) (c .before .before .before .before .before .before .before .before .before .before .before .before .before .args .mask) ((c .before .before .before .before .before .before .before .before .before .before .before .before .before .pre) .1 .0) ((c .before .before .before .before .before .before .if1 .left) ∙ ap (λ (f : UsageFlags). f .complex) (c .before .before .before .before .before .before .before .before .before .flags-of .ensures)) (λ z. (c .before .if2 .left) (z ∙ sym (ap (λ (f : UsageFlags). f .complex) (c .before .before .before .before .flags-of2 .ensures))))) at ((c .before .before .before .before .before .before .before .before .before .before .before .before .before .pre) .1 .1 .1))))
+log-mips-requires : tie.Need-log-mips-requires
+log-mips-requires c κs = (ready ((c .before .before .before .before .before .before .before .before .before .before .before .before .before .pre) .1 .0) ((c .before .before .before .before .before .before .if1 .left) ∙ ap (λ (f : UsageFlags). f .complex) (c .before .before .before .before .before .before .before .before .before .flags-of .ensures)) _ (omega arith), (omega arith, (((c .before .before .before .before .before .before .before .before .before .before .before .before .before .pre) .1 .1 .0), rw (c .before .before .before .before .before .task-of .ensures) (rw (given-from ((c .before .before .before .before .before .before .before .before .before .before .before .before .before .pre) .0) (c .before .before .before .before .before .before .before .before .before .before .before .before .before .args .p) (c .before .before .before .before .before .before .before .before .before .before .before .before .before .args .mask) ((c .before .before .before .before .before .before .before .before .before .before .before .before .before .pre) .1 .0) ((c .before .before .before .before .before .before .if1 .left) ∙ ap (λ (f : UsageFlags). f .complex) (c .before .before .before .before .before .before .before .before .before .flags-of .ensures)) (λ z. (c .before .if2 .left) (z ∙ sym (ap (λ (f : UsageFlags). f .complex) (c .before .before .before .before .flags-of2 .ensures))))) at ((c .before .before .before .before .before .before .before .before .before .before .before .before .before .pre) .1 .1 .1)))))
 
 same-length-3 : tie.Need-same-length-3
 same-length-3 c = search needs
 
 returns-3 : tie.Need-returns-3
-returns-3 c = rw (given-from ((c .before .before .before .before .before .before .before .before .before .before .before .before .before .before .before .before .pre) .0) (c .before .before .before .before .before .before .before .before .before .before .before .before .before .before .before .before .args .p) (c .before .before .before .before .before .before .before .before .before .before .before .before .before .before .before .before .args .mask) ((c .before .before .before .before .before .before .before .before .before .before .before .before .before .before .before .before .pre) .1 .0) ((c .before .before .before .before .before .before .before .before .before .if1 .left) ∙ ap (λ (f : UsageFlags). f .complex) (c .before .before .before .before .before .before .before .before .before .before .before .before .flags-of .ensures)) (λ z. (c .before .before .before .before .if2 .left) (z ∙ sym (ap (λ (f : UsageFlags). f .complex) (c .before .before .before .before .before .before .before .flags-of2 .ensures))))) (logged-within 1048576 (omega arith) (rw (c .before .before .before .before .before .before .before .before .task-of .ensures) at (c .before .before .state-to-many .ensures)))
+returns-3 c = rw (given-from ((c .before .before .before .before .before .before .before .before .before .before .before .before .before .before .before .before .pre) .0) (c .before .before .before .before .before .before .before .before .before .before .before .before .before .before .before .before .args .p) (c .before .before .before .before .before .before .before .before .before .before .before .before .before .before .before .before .args .mask) ((c .before .before .before .before .before .before .before .before .before .before .before .before .before .before .before .before .pre) .1 .0) ((c .before .before .before .before .before .before .before .before .before .if1 .left) ∙ ap (λ (f : UsageFlags). f .complex) (c .before .before .before .before .before .before .before .before .before .before .before .before .flags-of .ensures)) (λ z. (c .before .before .before .before .if2 .left) (z ∙ sym (ap (λ (f : UsageFlags). f .complex) (c .before .before .before .before .before .before .before .flags-of2 .ensures))))) (logged-within 1048576 (omega arith) (rw (c .before .before .before .before .before .before .before .before .task-of .ensures) at (c .before .before .log-mips .ensures)))
 
 pub barrier-texture-spec : {M : Type 1} → statement M
 barrier-texture-spec =
@@ -78,9 +79,9 @@ barrier-texture-spec =
     add-cur
     mul-cur
     element-copy-out-cur
-    many-to-many-requires
+    log-mip-pairs-requires
     same-length-2
     returns-2
-    state-to-many-requires
+    log-mips-requires
     same-length-3
     returns-3)

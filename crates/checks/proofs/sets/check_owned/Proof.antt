@@ -19,23 +19,23 @@ element-copy-out-if1 c = search needs
 returns : tie.Need-returns
 returns c = other-tells _ _ _ (rw ((c .before .before .wide .ensures) .0) at (c .if1 .taken))
 
-add-t5 : tie.Need-add-t5
-add-t5 c = search needs
+add-mips : tie.Need-add-mips
+add-mips c = search needs
 
-mul-t6 : tie.Need-mul-t6
-mul-t6 c = search needs
+mul-mips : tie.Need-mul-mips
+mul-mips c = search needs
 
-element-copy-out-t9 : tie.Need-element-copy-out-t9
-element-copy-out-t9 c = search needs
+element-copy-out-mips : tie.Need-element-copy-out-mips
+element-copy-out-mips c = search needs
 
-add-t13 : tie.Need-add-t13
-add-t13 c = search needs
+add-layers : tie.Need-add-layers
+add-layers c = search needs
 
-mul-t14 : tie.Need-mul-t14
-mul-t14 c = search needs
+mul-layers : tie.Need-mul-layers
+mul-layers c = search needs
 
-element-copy-out-t17 : tie.Need-element-copy-out-t17
-element-copy-out-t17 c = search needs
+element-copy-out-layers : tie.Need-element-copy-out-layers
+element-copy-out-layers c = search needs
 
 check-texture-requires : tie.Need-check-texture-requires
 check-texture-requires c κs = search needs
@@ -52,11 +52,11 @@ check-owned-spec =
     mul-if1
     element-copy-out-if1
     returns
-    add-t5
-    mul-t6
-    element-copy-out-t9
-    add-t13
-    mul-t14
-    element-copy-out-t17
+    add-mips
+    mul-mips
+    element-copy-out-mips
+    add-layers
+    mul-layers
+    element-copy-out-layers
     check-texture-requires
     returns-2)

@@ -26,11 +26,11 @@ returns c = sparse-differs _ _ _ (sym (c .before .same-flags .ensures) ∙ not-t
 loop-holds : tie.Need-loop-holds Inv-loop μ-loop
 loop-holds c = sparse-begins _ _ (c .before .before .before .args .indices .now) (sym (c .before .same-flags .ensures) ∙ not-false _ (c .if1 .left))
 
-mul-t10 : tie.Need-mul-t10 Inv-loop μ-loop
-mul-t10 c = search needs
+mul-i : tie.Need-mul-i Inv-loop μ-loop
+mul-i c = search needs
 
-shared-slice-read-t14 : tie.Need-shared-slice-read-t14 Inv-loop μ-loop
-shared-slice-read-t14 c = search needs
+shared-slice-read-i : tie.Need-shared-slice-read-i Inv-loop μ-loop
+shared-slice-read-i c = search needs
 
 check-listed-requires : tie.Need-check-listed-requires Inv-loop μ-loop
 check-listed-requires c κs = search needs
@@ -71,8 +71,8 @@ check-sparse-spec =
     same-flags-requires
     returns
     loop-holds
-    mul-t10
-    shared-slice-read-t14
+    mul-i
+    shared-slice-read-i
     check-listed-requires
     enum-told
     add-k

@@ -1,0 +1,39 @@
+-- THE CONTRACT of a tracker's call: the answer, and the content of what was lent.
+use Prim.Native.Nat.{ℕ}
+use mathlib.Core.Path.{_≡_}
+use mathlib.Core.Bool.{Bool, true}
+use mathlib.Core.List.{List}
+use lib.ListN.{length}
+use Rattle.model.specs.declared.InvalidUse.{InvalidUse}
+use Rattle.model.specs.declared.LogHead.{LogHead}
+use Rattle.model.specs.Sets.{Tracker}
+use Rattle.model.specs.Calls.{CallResult}
+use Rattle.model.specs.Log.{Log, Logged, outcomeOf, logging}
+use Rattle.model.specs.Texture.{Held, Entry}
+use Rattle.storage.specs.Storage.{trackerOf}
+use Rattle.barrier.specs.Entries.{entriesOf, unused}
+use Rattle.ready.specs.Answers.{turnedAway}
+use Rattle.setting.specs.declared.Answered.{Answered}
+
+-- a borrowed log, with the head that its caller tells
+abbrev pub logOf : List ℕ → LogHead → Log
+logOf l h = record { entries = entriesOf l; head = h }
+
+-- the answer, the head and the entries are those of c; the numbers after the last full entry stay
+pub record Logs {X : Type 0} (c : Logged X) (l : List ℕ) (x : Answered) (l′ : List ℕ) : Type 0 where
+  pub answer : x .outcome ≡ outcomeOf (c .answer)
+  pub head : x .head ≡ c .log .head
+  pub entries : entriesOf l′ ≡ c .log .entries
+  pub unused : unused l′ ≡ unused l
+  pub long : length l′ ≡ length l
+
+-- `fits` says whether every set that was handed in is well formed, and `m` is the model's call. Free, and in no view, are the counts and
+-- the ranges of a Single half and the ranges past a count: they may change, and the slices stay as long as they were.
+pub record Tracked (fits : Bool) (m : CallResult InvalidUse (List Entry) (Tracker Held)) (h : LogHead) (t s e l : List ℕ) (x : Answered) (t′ s′ e′ l′ : List ℕ) : Type 0 where
+  pub log : Logs (logging fits (logOf l h) (trackerOf t s e) m) l x l′
+  pub view : trackerOf t′ s′ e′ ≡ (logging fits (logOf l h) (trackerOf t s e) m) .after
+  -- "Everything lent stays."
+  pub kept : turnedAway (x .outcome) ≡ true → (t′ ≡ t) × ((s′ ≡ s) × ((e′ ≡ e) × (l′ ≡ l)))
+  pub start-long : length s′ ≡ length s
+  pub end-long : length e′ ≡ length e
+  pub table : length t′ ≡ length t

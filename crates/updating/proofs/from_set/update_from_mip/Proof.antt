@@ -1,0 +1,66 @@
+-- `update_from_mip`: each lap gives one range, and what is left decides.
+use native.Mathlib.Omega.{arith}
+use borrow.Author.Needs.{needs}
+use Prim.Native.Nat.{_-_, _≤_}
+use mathlib.Core.List.{map}
+use lib.ListN.{drop}
+use Rattle.ranges.specs.View.{decode}
+use Rattle.storage.specs.Storage.{numbersOf, endsOf}
+use Rattle.texture.specs.Giving.{pieceOn}
+use Rattle.updating.specs.Pieces.{updates}
+use Rattle.updating.proofs.Takes.{Taking, range-start, range-small, range-selects, range-turn, range-done}
+use Rattle.updating.proofs.from_set.update_from_mip.Statement.{statement}
+use Rattle.updating.proofs.from_set.update_from_mip.Tie as tie
+
+abbrev Inv-loop : tie.InvT-loop
+Inv-loop table₀ starts₀ ends₀ i m part len p k₀ table starts ends k = (k ≤ len) × Taking i p (updates (p .unknown) (map (pieceOn m) (decode len part)) (endsOf (numbersOf table₀) table₀ starts₀ ends₀ i)) table₀ starts₀ ends₀ (updates (p .unknown) (map (pieceOn m) (drop k (decode len part)))) table starts ends
+
+abbrev μ-loop : tie.MeasureT-loop
+μ-loop table₀ starts₀ ends₀ i m part len p k₀ table starts ends k = len - k
+
+loop-holds : tie.Need-loop-holds Inv-loop μ-loop
+loop-holds c = let p = (c .before .before .before .pre) in (omega arith, range-start (p .0) (p .1))
+
+get-requires : tie.Need-get-requires Inv-loop μ-loop
+get-requires c κs = search needs
+
+piece-at-requires : tie.Need-piece-at-requires Inv-loop μ-loop
+piece-at-requires c κs = let p = (c .before .before .before .before .before .before .pre) in range-small (p .0) (p .1)
+
+update-piece-requires : tie.Need-update-piece-requires Inv-loop μ-loop
+update-piece-requires c κs = let p = (c .before .before .before .before .before .before .before .before .before .before .pre) in let w = (c .before .before .before .before .before .before .loop .inv) in rw (c .before .before .before .piece-at .ensures) (w .1 .ready, range-selects (p .0) (p .1) (w .1) (c .before .before .before .before .before .loop-test .taken) (c .before .before .before .before .get .ensures))
+
+add-k : tie.Need-add-k Inv-loop μ-loop
+add-k c = search needs
+
+loop-less : tie.Need-loop-less Inv-loop μ-loop
+loop-less c = search needs
+
+loop-again : tie.Need-loop-again Inv-loop μ-loop
+loop-again c = let p = (c .before .before .before .before .before .before .before .before .before .before .before .before .before .before .before .pre) in let w = (c .before .before .before .before .before .before .before .before .before .before .before .loop .inv) in (omega arith, range-turn (p .0) (p .1) (w .1) (c .before .before .before .before .before .before .before .before .before .before .loop-test .taken) (c .before .before .before .before .before .before .before .before .before .get .ensures) (rw (c .before .before .before .before .before .before .before .before .piece-at .ensures) at (c .before .before .before .before .update-piece .ensures)))
+
+same-length : tie.Need-same-length Inv-loop μ-loop
+same-length c = search needs
+
+same-length-2 : tie.Need-same-length-2 Inv-loop μ-loop
+same-length-2 c = search needs
+
+returns : tie.Need-returns Inv-loop μ-loop
+returns c = let p = (c .before .before .before .before .before .pre) in let w = (c .before .loop .inv) in range-done (p .0) (p .1) (w .1) (c .loop-test .left)
+
+pub update-from-mip-spec : {M : Type 1} → statement M
+update-from-mip-spec =
+    tie.close
+    (tie.spec
+    Inv-loop
+    μ-loop
+    loop-holds
+    get-requires
+    piece-at-requires
+    update-piece-requires
+    add-k
+    loop-less
+    loop-again
+    same-length
+    same-length-2
+    returns)
