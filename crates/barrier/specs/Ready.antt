@@ -49,11 +49,15 @@ mipsEntries f h t r i lo hi = eachAt f lo (listFrom (mipOf (numbersOf t) h t r i
 abbrev pub pairEntries : ℕ → ℕ → ℕ → List ℕ → List ℕ → ℕ → List ℕ → List ℕ → ℕ → ℕ → List Entry
 pairEntries unknown mask h t r g u v i n = mipsEntries (λ k s. toRanges unknown mask (mipOf (numbersOf t) h t r i k) k s) g u v i 0 n
 
+-- the mips that are read are those that the extent tells
+pub mips-read : (t : List ℕ) (i : ℕ) (sh : Extent) → getD t (72 + i) 0 ≡ sh .mips → sh .mips ≤ numbersOf t .mips → mipsIn (numbersOf t) t i ≡ sh .mips
+unfolding mipsIn
+mips-read t i sh e top = rw e (min-eq-left top)
+
 -- ---- A texture that is Many
 module _ {h : ℕ} {t r : List ℕ} {i : ℕ} {sh : Extent} (q : Textured h t r i sh) where
   pub mips-are : mipsIn (numbersOf t) t i ≡ sh .mips
-  unfolding mipsIn
-  mips-are = rw (q .mips) (min-eq-left (q .top))
+  mips-are = mips-read t i sh (q .mips) (q .top)
 
   pub ready : getD t (h + i) 0 ≡ getD t 5 0 → (n : ℕ) → n ≤ sh .mips → Ready h t r i n
   ready c n l = record {

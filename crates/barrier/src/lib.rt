@@ -7,7 +7,7 @@
 //
 //     entries      a log, seven numbers an entry
 //     transition   one transition
-//     mip          the ranges of one mip
+//     mip          the ranges of one mip, each by the same step
 //     many         a texture that is held, or given, as Many: mip by mip
 //     texture      one texture, to a state, to a state of what a selector names, to what another set holds
 //
@@ -15,7 +15,7 @@
 // entries of the log and every other number of it is as it was, and without it no number changes; room is required only where they are
 // written (`Logged` and `Room`, specs/Logged). Only `put_entry` and `get_entry` know where an entry's numbers stand: `entriesOf`
 // (specs/Entries) is the view of a log, and through it what is written is the model's `added`. The bounds in the contracts are crude and
-// are there so that no sum is too large.
+// are there so that no sum is too large; `logTop` (specs/Steps) is past the entries of any log, so a caller always meets it.
 pub mod entries;
 pub mod many;
 pub mod mip;

@@ -46,6 +46,7 @@ fn full(extent: Extent) -> Selector
     }
 }
 
+// What stays the same during one `barrier` of texture i.
 fn task_of(i: usize, p: UsageFlags, mask: u32, write: bool) -> Task
     requires { ⌜ i < 64 ⌝ }
     ensures { λ t. ⌜ t ≡ taskOf i p mask write ⌝ }
@@ -80,18 +81,8 @@ pub fn barrier_state(
     let flags = flags_of(table);
     let cur = table[END + i];
     if cur == flags.complex {
-        return log_mips(
-            table,
-            ends,
-            END,
-            i,
-            0,
-            extent.mips,
-            Step::To(new),
-            t,
-            log,
-            at,
-        );
+        let top = extent.mips;
+        return log_mips(table, ends, END, i, 0, top, Step::To(new), t, log, at);
     }
     let q = full(extent);
     log_move(q, cur, new, t, log, at)
@@ -121,23 +112,14 @@ pub fn barrier_selector(
     let flags = flags_of(table);
     let cur = table[END + i];
     if cur == flags.complex {
-        let g = Range {
+        let low = q.mips.start.0;
+        let high = q.mips.end.0;
+        let step = Step::Within(Range {
             start: q.layers.start.0,
             end: q.layers.end.0,
             state: new,
-        };
-        return log_mips(
-            table,
-            ends,
-            END,
-            i,
-            q.mips.start.0,
-            q.mips.end.0,
-            Step::Within(g),
-            t,
-            log,
-            at,
-        );
+        });
+        return log_mips(table, ends, END, i, low, high, step, t, log, at);
     }
     log_move(q, cur, new, t, log, at)
 }
@@ -171,31 +153,9 @@ pub fn barrier_texture(
     let t = task_of(i, p, mask, write);
     let own = flags_of(table);
     let cur = table[END + i];
+    let top = extent.mips;
     if cur == own.complex {
-        return log_mip_pairs(
-            table,
-            ends,
-            END,
-            given,
-            pieces,
-            side,
-            i,
-            extent.mips,
-            t,
-            log,
-            at,
-        );
+        return log_mip_pairs(table, ends, END, given, pieces, side, i, top, t, log, at);
     }
-    log_mips(
-        given,
-        pieces,
-        side,
-        i,
-        0,
-        extent.mips,
-        Step::From(cur),
-        t,
-        log,
-        at,
-    )
+    log_mips(given, pieces, side, i, 0, top, Step::From(cur), t, log, at)
 }

@@ -1,12 +1,10 @@
--- A merge that is turned away, and one that is done: from what the code found to the contract.
-use Prim.Native.Nat.{ℕ, _/_, _≤_, _<_}
-use native.Mathlib.Omega.{arith}
+-- `merge_single`, and any merge that is turned away: from what the code found to the contract.
+use Prim.Native.Nat.{ℕ, _<_}
 use mathlib.Core.Path.{_≡_, refl, sym, ap, subst, _∙_}
-use mathlib.Core.Logic.{_⊎_, inl, inr}
 use mathlib.Core.Bool.{Bool, true, false, false≢true}
 use mathlib.Core.List.{List}
 use mathlib.Core.Option.{Option, none, some}
-use lib.ListN.{length, getD, set}
+use lib.ListN.{getD, set}
 use Rattle.model.specs.declared.UsageFlags.{UsageFlags}
 use Rattle.model.specs.declared.Extent.{Extent}
 use Rattle.model.specs.declared.Selection.{Selection}
@@ -14,39 +12,36 @@ use Rattle.model.specs.declared.InvalidUse.{InvalidUse}
 use Rattle.model.specs.declared.Conflict.{Conflict}
 use Rattle.model.specs.declared.Refusal.{Refusal}
 use Rattle.model.specs.declared.Refusal.the-variants.{NotWellFormed}
-use Rattle.model.specs.declared.Outcome.{Outcome}
 use Rattle.model.specs.declared.Outcome.the-variants as outcome
 use Rattle.model.specs.Base.{Stop}
-use Rattle.model.specs.Sets.{Slot, Set, Head, slotAt, withSlots, emptySlot, headOf}
+use Rattle.model.specs.Sets.{Slot, Set, Head, slotAt, withSlots, emptySlot}
 use Rattle.model.specs.Refusals.{firstFailing, singleRefusal}
-use Rattle.model.specs.Calls.{Indexed, CallResult, Result, answer, turnedAway, unless, mergeSlot, mergeSingle}
+use Rattle.model.specs.Calls.{Indexed, CallResult, answer, turnedAway, unless, mergeSlot, mergeSingle}
 use Rattle.model.specs.Log.{outcomeOf, merging}
 use Rattle.model.specs.Texture.{Held, single, Entry, fromUse, ranged}
-use Rattle.model.specs.WellFormed.{wellFormedScope}
-use Rattle.storage.specs.Storage.{numbersOf, flagsOf, scopeOf, slotWith, heldOf, startHalf}
+use Rattle.storage.specs.Storage.{flagsOf, scopeOf, startHalf}
 use Rattle.storage.specs.Lists.{list-at}
 use Rattle.texture.specs.declared.Stopped.{Stopped}
 use Rattle.texture.specs.declared.Stopped.the-variants.{Nowhere, At}
-use Rattle.texture.specs.Uses.{useOf}
-use Rattle.checks.specs.Head.{selectorOf, headIn, useRefusal, scope-head, UseTold}
+use Rattle.checks.specs.Head.{selectorOf, useRefusal, scope-head, UseTold}
 use Rattle.checks.specs.Told.{use-done, use-refused, use-never}
 use Rattle.checks.specs.Passed.{StatePassed, use-passed, texture-passed, state-passed}
-use Rattle.ready.specs.Tested.{ScopeTested, scope-tested, half-fits}
+use Rattle.ready.specs.Tested.{ScopeTested, half-fits}
 use Rattle.ready.specs.Answers.{toldOf}
 use Rattle.merging.specs.declared.single.Use.{Use}
 use Rattle.merging.specs.Merged.{Merged}
-use Rattle.merging.specs.Slot.{slotOf, SlotReady, TakenUse, SlotMerged, slot-view}
+use Rattle.merging.specs.Slot.{slotOf, SlotReady, TakenUse, SlotMerged, slot-view, slot-unread}
 use Rattle.merging.specs.Single.{UseIs}
 
 -- ---- The test of the sets comes first
-abbrev ScopeResult : Type 0
+abbrev pub ScopeResult : Type 0
 ScopeResult = CallResult InvalidUse (List Entry) (Set Held)
 
 unfit : (was : Set Held) (m : ScopeResult) → merging false was m ≡ turnedAway NotWellFormed was
 unfolding merging firstFailing
 unfit was m = refl
 
-fit : (was : Set Held) (m : ScopeResult) → merging true was m ≡ m
+pub fit : (was : Set Held) (m : ScopeResult) → merging true was m ≡ m
 unfolding merging firstFailing
 fit was m = refl
 
@@ -71,10 +66,6 @@ away {fits} {m} {t} {r} x e z = stays x (rw e (fit (scopeOf t r) m ∙ z))
 told-on : (i : ℕ) (x : Stopped) → Rattle.ready.specs.Answers.turnedAway (toldOf i x) ≡ true → ⊥
 told-on i Nowhere e = false≢true e
 told-on i (At c) e = false≢true e
-
-unread-of : {t r t′ r′ : List ℕ} {i : ℕ} {w : Stop (Indexed InvalidUse) (Slot Held)} {x : Stopped} → SlotMerged t r i w x t′ r′ → (y : ℕ) → (y < 8) ⊎ (1288 ≤ y) → getD t′ y 0 ≡ getD t y 0
-unread-of q y (inl k) = q .frame .head y k
-unread-of q y (inr k) = q .past y k
 
 -- ---- `merge_single`
 module _ (t r : List ℕ) (i : ℕ) (sh : Extent) (s : Selection) (st : ℕ) where
@@ -117,9 +108,9 @@ module _ {t r : List ℕ} {i : ℕ} {sh : Extent} {s : Selection} {st : ℕ} {fi
       rw e (fit (scopeOf t r) (mergeSingle ranged (scopeOf t r) i sh (selectorOf s) st) ∙ changed-is t r i sh s st h z) in
       record {
         answer = ap (λ (o : Option (Indexed InvalidUse)). outcomeOf (answer o)) (q .conflict) ∙ ap (λ (y : ScopeResult). outcomeOf (y .answer)) (sym c);
-        view = slot-view h q ∙ ap (λ (y : ScopeResult). y .after) (sym c);
+        view = slot-view q ∙ ap (λ (y : ScopeResult). y .after) (sym c);
         kept = λ k. absurd (told-on i x k);
-        unread = unread-of q;
+        unread = slot-unread q;
         long = q .long;
         table = q .table;
       }

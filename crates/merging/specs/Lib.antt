@@ -1,3 +1,4 @@
 pub mod Merged
 pub mod Slot
 pub mod Single
+pub mod Scope

@@ -3,10 +3,11 @@ use Prim.Native.Nat.{ℕ, _+_, _≤_, _<_}
 use native.Mathlib.Omega.{arith}
 use mathlib.Core.Path.{_≡_, refl, sym, ap, subst, _∙_}
 use mathlib.Core.Logic.{_⊎_, inl, inr}
-use mathlib.Core.Bool.{Bool, true, false}
+use mathlib.Core.Bool.{Bool, true}
 use mathlib.Core.List.{List}
-use mathlib.Core.Option.{Option, none, some, Option·map}
-use lib.ListN.{length, getD}
+use mathlib.Core.Option.{Option, none, Option·map}
+use lib.ListN.{length, getD, set}
+use lib.Seq.{set-out}
 use borrow.Author.Tests.{ne-eqb, eq-eqb}
 use Rattle.model.specs.declared.UsageFlags.{UsageFlags}
 use Rattle.model.specs.declared.Extent.{Extent}
@@ -14,19 +15,22 @@ use Rattle.model.specs.declared.Selector.{Selector}
 use Rattle.model.specs.declared.InvalidUse.{InvalidUse}
 use Rattle.model.specs.Base.{Stop}
 use Rattle.model.specs.Representation.{full}
-use Rattle.model.specs.Sets.{Numbers, Slot, Set, withSlots}
-use Rattle.model.specs.Calls.{Indexed, owning, mergeSlot}
-use Rattle.model.specs.Texture.{Held, Given, insert, merge, ranged}
-use Rattle.storage.specs.Storage.{numbersOf, flagsOf, extentOf, ownedOf, startHalf, heldOf, slotWith, setWith, scopeOf}
-use Rattle.storage.specs.Frames.{Measured, HalfFrame}
-use Rattle.storage.specs.Slots.{SlotFrame, HalfBecomes, ownWords, slot-then, slot-owned, set-becomes, scope-half, scope-own, half-low, own-owned, own-word}
+use Rattle.model.specs.Sets.{Numbers, Slot, withSlots}
+use Rattle.model.specs.Calls.{Indexed, owning, mergeSlot, mergeGiven}
+use Rattle.model.specs.Texture.{Held, Given, fromHeld, insert, merge, ranged}
+use Rattle.storage.specs.Storage.{numbersOf, flagsOf, extentOf, ownedOf, startHalf, heldOf, slotWith, setWith, scopeOf, listFrom}
+use Rattle.storage.specs.Part.{by-lt}
+use Rattle.storage.specs.Lists.{list-ext, list-long}
+use Rattle.storage.specs.Frames.{Measured}
+use Rattle.storage.specs.Slots.{SlotFrame, HalfBecomes, ownWords, slot-refl, slot-then, slot-owned, set-becomes, scope-half, scope-own, half-low, own-owned, own-word}
 use Rattle.texture.specs.declared.Stopped.{Stopped}
 use Rattle.texture.specs.declared.Stopped.the-variants.{Nowhere}
-use Rattle.texture.specs.Walks.{stoppedOf}
 use Rattle.texture.specs.Uses.{UseReady, HeldReady, HalfMerged}
+use Rattle.texture.specs.FromSet.{SetReady, MergeReady}
 use Rattle.checks.specs.Passed.{TexturePassed, SelectorPassed, StatePassed}
+use Rattle.agreement.specs.Fits.{ExtentFits}
 use Rattle.ready.specs.Tested.{HalfFits}
-use Rattle.ready.specs.Merges.{own-numbers, own-flags, own-extent, own-passed, own-measured, use-ready, held-ready}
+use Rattle.ready.specs.Merges.{own-numbers, own-flags, own-extent, own-passed, own-measured, use-ready, held-ready, set-ready, merge-ready}
 use Rattle.ready.specs.Answers.{indexed, metAt}
 
 -- texture i of a scope, as the view has it
@@ -45,6 +49,22 @@ pub record TakenUse (t : List ℕ) (sh : Extent) (all : Bool) (q : Selector) (p 
   pub selector : SelectorPassed sh q
   pub whole : all ≡ true → q ≡ full sh
   pub state : StatePassed p new
+
+-- the texture that a given scope holds at the same index, from a scope that passed the test and the checks
+pub record TakenTexture (t : List ℕ) (i : ℕ) (sh : Extent) (g l : List ℕ) (p : UsageFlags) : Type 0 where
+  pub flags : p ≡ flagsOf t
+  pub same : flagsOf g ≡ flagsOf t
+  pub extent : extentOf g i ≡ sh
+  pub measured : Measured (numbersOf g) startHalf g l
+  pub texture : i < getD g 0 0
+  pub fits : ExtentFits (numbersOf g) sh
+  pub held : HalfFits startHalf g l i
+
+-- both, if the given scope owns the index
+pub record OwnedReady (t r : List ℕ) (i : ℕ) (g l : List ℕ) (p : UsageFlags) : Type 0 where
+  pub index : i < 64
+  pub slot : ownedOf g i ≡ true → SlotReady t r i (extentOf g i)
+  pub given : ownedOf g i ≡ true → TakenTexture t i (extentOf g i) g l p
 
 -- THE CONTRACT: texture i becomes what the model's merge of it gives, and nothing else of the scope is touched
 pub record SlotMerged (t r : List ℕ) (i : ℕ) (w : Stop (Indexed InvalidUse) (Slot Held)) (x : Stopped) (t′ r′ : List ℕ) : Type 0 where
@@ -117,9 +137,69 @@ module _ {t r : List ℕ} {i : ℕ} {sh : Extent} {all : Bool} {q : Selector} {p
     pub old-held : HeldReady startHalf t r i sh new
     old-held = held-ready (s .measured) (s .texture) (s .texture .own is-owned) (s .held is-owned) state-is
 
--- THE VIEW after it
-pub slot-view : {t r t′ r′ : List ℕ} {i : ℕ} {w : Stop (Indexed InvalidUse) (Slot Held)} {x : Stopped} → i < getD t 0 0 → SlotMerged t r i w x t′ r′ → scopeOf t′ r′ ≡ withSlots (scopeOf t r) (lib.ListN.set (scopeOf t r .slots) i (w .value))
-unfolding scopeOf
-slot-view {t} {r} {t′} {r′} {i} {w} h q =
-    let d : numbersOf t′ ≡ numbersOf t = rw (q .frame .head 0 (omega arith), q .frame .head 1 (omega arith), q .frame .head 2 (omega arith)) in
-    ap (λ (n : Numbers). setWith (heldOf n startHalf t′ r′) t′) d ∙ set-becomes (w .value) h (q .frame) (q .slot)
+-- ---- What a given scope holds at its index
+module _ {t r : List ℕ} {i : ℕ} {sh : Extent} {g l : List ℕ} {p : UsageFlags} (s : SlotReady t r i sh) (u : TakenTexture t i sh g l p) where
+  -- once the texture is owned
+  pub new-given : SetReady startHalf (ownWords t i sh) r i sh startHalf g l p
+  new-given =
+      let m = s .measured in let x = s .texture in let e = sym (own-flags m x) in
+      subst (λ (f : UsageFlags). SetReady startHalf (ownWords t i sh) r i sh startHalf g l f) (sym (u .flags ∙ e))
+      (set-ready (own-measured m x) (own-passed m x) (own-extent m x) (u .same ∙ e) (u .extent) (u .held) (u .measured) (u .texture) (u .fits))
+
+  module _ (own : getD t (8 + i) 0 ≡ 0 → ⊥) where
+    was-owned : ownedOf t i ≡ true
+    was-owned = rw (ne-eqb (getD t (8 + i) 0) 0 own)
+
+    pub old-given : SetReady startHalf t r i sh startHalf g l p
+    old-given =
+        subst (λ (f : UsageFlags). SetReady startHalf t r i sh startHalf g l f) (sym (u .flags))
+        (set-ready (s .measured) (s .texture) (s .texture .own was-owned) (u .same) (u .extent) (u .held) (u .measured) (u .texture) (u .fits))
+
+    pub old-merge : MergeReady startHalf t r i sh startHalf g p
+    old-merge =
+        subst (λ (f : UsageFlags). MergeReady startHalf t r i sh startHalf g f) (sym (u .flags))
+        (merge-ready (s .measured) (s .texture) (s .texture .own was-owned) (u .same) (u .extent) (u .held) (s .held was-owned))
+
+-- ---- The given scope may own the index
+module _ {t r : List ℕ} {i : ℕ} {g l : List ℕ} {p : UsageFlags} (o : OwnedReady t r i g l p) where
+  -- it does not: the texture stays
+  pub slot-stays : getD g (8 + i) 0 ≡ 0 → SlotMerged t r i (mergeGiven ranged p i (slotOf t r i) (slotOf g l i)) Nowhere t r
+  slot-stays free =
+      rw (eq-eqb (getD g (8 + i) 0) 0 free) (record { conflict = refl; slot = refl; frame = slot-refl (getD t 0 0) i (heldOf (numbersOf t) startHalf t r) t; past = λ y b. refl; long = refl; table = refl })
+
+  module _ (own : getD g (8 + i) 0 ≡ 0 → ⊥) where
+    pub taken-ready : SlotReady t r i (extentOf g i) × TakenTexture t i (extentOf g i) g l p
+    taken-ready = let e : ownedOf g i ≡ true = rw (ne-eqb (getD g (8 + i) 0) 0 own) in (o .slot e, o .given e)
+
+    -- it does: the texture took what it holds
+    pub slot-taken : {x : Stopped} {t′ r′ : List ℕ} → SlotMerged t r i (mergeSlot ranged p (extentOf g i) (fromHeld (heldOf (numbersOf g) startHalf g l i)) i (slotOf t r i)) x t′ r′ → SlotMerged t r i (mergeGiven ranged p i (slotOf t r i) (slotOf g l i)) x t′ r′
+    slot-taken q = rw (ne-eqb (getD g (8 + i) 0) 0 own) q
+
+-- a change past the last texture is none
+set-stays : {H : Type 0} {i : ℕ} {held held′ : ℕ → H} {t t′ : List ℕ} (s : Slot H) → getD t 0 0 ≤ i → SlotFrame (getD t 0 0) i held held′ t t′ → setWith held′ t′ ≡ withSlots (setWith held t) (set (setWith held t .slots) i s)
+set-stays {H} {i} {held} {held′} {t} {t′} s h f =
+    let q : listFrom (slotWith held′ t′) 0 (getD t 0 0) ≡ set (listFrom (slotWith held t) 0 (getD t 0 0)) i s =
+    list-ext (slotWith held t) (slotWith held′ t′) 0 (getD t 0 0) (λ x a b. f .others x (omega arith) (λ w. omega arith))
+    ∙ sym (set-out (listFrom (slotWith held t) 0 (getD t 0 0)) i s (rw (list-long (slotWith held t) 0 (getD t 0 0)) h)) in
+    rw (f .head 0 (omega arith), f .head 1 (omega arith), f .head 2 (omega arith), f .head 3 (omega arith), f .head 4 (omega arith), f .head 5 (omega arith), f .head 6 (omega arith), q)
+
+-- ---- After it
+module _ {t r t′ r′ : List ℕ} {i : ℕ} {w : Stop (Indexed InvalidUse) (Slot Held)} {x : Stopped} (q : SlotMerged t r i w x t′ r′) where
+  numbers-stay : numbersOf t′ ≡ numbersOf t
+  numbers-stay = rw (q .frame .head 0 (omega arith), q .frame .head 1 (omega arith), q .frame .head 2 (omega arith))
+
+  -- THE VIEW
+  pub slot-view : scopeOf t′ r′ ≡ withSlots (scopeOf t r) (set (scopeOf t r .slots) i (w .value))
+  unfolding scopeOf
+  slot-view =
+      ap (λ (n : Numbers). setWith (heldOf n startHalf t′ r′) t′) numbers-stay
+      ∙ by-lt i (getD t 0 0) (λ h. set-becomes (w .value) h (q .frame) (q .slot)) (λ h. set-stays (w .value) h (q .frame))
+
+  -- another texture
+  pub slot-other : (j : ℕ) → j < getD t 0 0 → (j ≡ i → ⊥) → slotOf t′ r′ j ≡ slotOf t r j
+  slot-other j h ne = ap (λ (n : Numbers). slotWith (heldOf n startHalf t′ r′) t′ j) numbers-stay ∙ q .frame .others j h ne
+
+  -- the words that a scope does not read
+  pub slot-unread : (y : ℕ) → (y < 8) ⊎ (1288 ≤ y) → getD t′ y 0 ≡ getD t y 0
+  slot-unread y (inl k) = q .frame .head y k
+  slot-unread y (inr k) = q .past y k

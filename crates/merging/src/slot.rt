@@ -2,17 +2,22 @@
 use model::Extent;
 use model::Selector;
 use model::UsageFlags;
+use storage::LAYERS;
+use storage::MIPS;
 use storage::OWNED;
 use storage::START;
 use storage::Table;
 use texture::Stopped;
+use texture::from_set::insert_given;
+use texture::from_set::merge_given;
 use texture::using::insert_use;
 use texture::using::merge_use;
 use texture::using::own;
-ghost use Rattle.model.specs.Calls.{mergeSlot};
-ghost use Rattle.model.specs.Texture.{ranged};
+ghost use Rattle.model.specs.Calls.{mergeSlot, mergeGiven};
+ghost use Rattle.model.specs.Texture.{fromHeld, ranged};
+ghost use Rattle.storage.specs.Storage.{numbersOf, startHalf, heldOf};
 ghost use Rattle.texture.specs.Uses.{useOf};
-ghost use Rattle.merging.specs.Slot.{slotOf, SlotReady, TakenUse, SlotMerged};
+ghost use Rattle.merging.specs.Slot.{slotOf, SlotReady, TakenUse, TakenTexture, OwnedReady, SlotMerged};
 
 // A use of the texture.
 pub fn merge_use_at(
@@ -35,4 +40,48 @@ pub fn merge_use_at(
         return Stopped::Nowhere;
     }
     merge_use(table, ranges, START, i, extent, all, q, p, new)
+}
+
+// What the given scope holds at the same index.
+pub fn merge_given_at(
+    table: &mut Table,
+    ranges: &mut [u32],
+    i: usize,
+    extent: Extent,
+    given: &Table,
+    lent: &[u32],
+    p: UsageFlags,
+) -> Stopped
+    requires { ⌜ SlotReady (now table) (now ranges) i extent ⌝ }
+    requires { ⌜ TakenTexture (now table) i extent (now given) (now lent) p ⌝ }
+    ensures { λ x. ⌜ SlotMerged (now (table .entry)) (now (ranges .entry)) i (mergeSlot ranged p extent (fromHeld (heldOf (numbersOf (now (given .entry))) startHalf (now (given .entry)) (now (lent .entry)) i)) i (slotOf (now (table .entry)) (now (ranges .entry)) i)) x (now (table .exit)) (now (ranges .exit)) ⌝ }
+{
+    if table[OWNED + i] == 0 {
+        own(table, i, extent);
+        insert_given(table, ranges, START, i, extent, given, lent, START, p);
+        return Stopped::Nowhere;
+    }
+    merge_given(table, ranges, START, i, extent, given, lent, START, p)
+}
+
+// The same if the given scope owns the index; otherwise the texture stays.
+pub fn merge_owned_at(
+    table: &mut Table,
+    ranges: &mut [u32],
+    i: usize,
+    given: &Table,
+    lent: &[u32],
+    p: UsageFlags,
+) -> Stopped
+    requires { ⌜ OwnedReady (now table) (now ranges) i (now given) (now lent) p ⌝ }
+    ensures { λ x. ⌜ SlotMerged (now (table .entry)) (now (ranges .entry)) i (mergeGiven ranged p i (slotOf (now (table .entry)) (now (ranges .entry)) i) (slotOf (now (given .entry)) (now (lent .entry)) i)) x (now (table .exit)) (now (ranges .exit)) ⌝ }
+{
+    if given[OWNED + i] == 0 {
+        return Stopped::Nowhere;
+    }
+    let extent = Extent {
+        mips: given[MIPS + i],
+        layers: given[LAYERS + i],
+    };
+    merge_given_at(table, ranges, i, extent, given, lent, p)
 }

@@ -1,4 +1,5 @@
 pub mod Tested
+pub mod Selectors
 pub mod Merges
 pub mod Updates
 pub mod Answers

@@ -1,2 +1,5 @@
 pub mod Tracked
 pub mod Slot
+pub mod Single
+pub mod Logging
+pub mod Changed

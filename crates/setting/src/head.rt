@@ -1,1 +1,54 @@
-// stub
+// The head of the log: what is written and what is free.
+use crate::Answered;
+use model::LogHead;
+use model::Outcome;
+use model::Refusal;
+ghost use mathlib.Core.Path.{_≡_};
+ghost use Prim.Native.Nat.{_+_, _/_, _≤_, _<_};
+ghost use lib.ListN.{length};
+ghost use Rattle.setting.specs.Logging.{headFits, refusedWith, movedOn};
+
+// How many entries were lent. Tells a proof that their numbers can be counted.
+pub fn lent_entries(log: &[u32]) -> usize
+    ensures { λ r. ⌜ (r ≡ length (now (log .entry)) / 7) × (length (now (log .entry)) < 18446744073709551616) ⌝ }
+{
+    log.len() / 7
+}
+
+// 5: whether the head tells no more entries, written and free together, than were lent.
+pub fn head_fits(lent: usize, head: LogHead) -> bool
+    ensures { λ r. ⌜ r ≡ headFits lent head ⌝ }
+{
+    if lent < head.written {
+        return false;
+    }
+    if lent - head.written < head.free {
+        return false;
+    }
+    true
+}
+
+// A call that is turned away: the head stays.
+pub fn refused(r: Refusal, head: LogHead) -> Answered
+    ensures { λ x. ⌜ x ≡ refusedWith r head ⌝ }
+{
+    Answered {
+        outcome: Outcome::Refused(r),
+        head,
+    }
+}
+
+// A call that added n entries.
+pub fn moved_on(head: LogHead, n: usize) -> Answered
+    requires { ⌜ n ≤ head .free ⌝ }
+    requires { ⌜ head .written + head .free < 18446744073709551616 ⌝ }
+    ensures { λ x. ⌜ x ≡ movedOn head n ⌝ }
+{
+    Answered {
+        outcome: Outcome::Done,
+        head: LogHead {
+            written: head.written + n,
+            free: head.free - n,
+        },
+    }
+}

@@ -17,7 +17,7 @@ pub mod slot;
 
 use model::LogHead;
 use model::Outcome;
-//Xpub use single::set_single;
+pub use single::set_single;
 
 // What a tracker's call answers: the outcome, and the head of the log after it.
 pub struct Answered {

@@ -1,4 +1,4 @@
-use native.Mathlib.Omega.{arith}
+-- `merge_single`: the test, the checks, then the merge of one texture.
 use mathlib.Core.Path.{sym, _∙_}
 use borrow.Author.Tests.{not-true, not-false}
 use Rattle.ready.specs.Tested.{scope-tested}
@@ -6,90 +6,61 @@ use Rattle.merging.proofs.Calls.{not-fitting, single-away, single-never
 use borrow.Author.Needs.{needs}
 use Rattle.merging.proofs.single.merge_single.Statement.{statement}
 use Rattle.merging.proofs.single.merge_single.Tie as tie
-use Rattle.merging.proofs.single.merge_single.Reads as reads
-use Rattle.merging.proofs.single.merge_single.Lts as lts
-use Rattle.checks.proofs.check_single.Reads as check-single-reads
-use Rattle.merging.proofs.single.told.Reads as told-reads
-use Rattle.merging.proofs.single.use_of.Reads as use-of-reads
-use Rattle.merging.proofs.slot.merge_use_at.Reads as merge-use-at-reads
-use Rattle.storage.proofs.flags_of.Reads as flags-of-reads
-use Rattle.storage.proofs.table_len.Reads as table-len-reads
-use Rattle.storage.proofs.wide.Reads as wide-reads
-use Rattle.wellformed.proofs.scope_fits.Reads as scope-fits-reads
 
--- src/single.rt:74:5
 table-len-requires : tie.Need-table-len-requires
 table-len-requires c κs = search needs
 
--- src/single.rt:75:9
 scope-fits-requires : tie.Need-scope-fits-requires
 scope-fits-requires c κs = search needs
 
--- src/single.rt:76:9
 same-length : tie.Need-same-length
 same-length c = search needs
 
--- src/single.rt:76:9
 returns : tie.Need-returns
 returns c = not-fitting (sym (c .before .scope-fits .ensures) ∙ not-true _ (c .if1 .taken))
 
--- src/single.rt:79:11
 check-single-requires : tie.Need-check-single-requires
 check-single-requires c κs = (scope-tested _ _ ((c .before .before .before .before .before .table-len .ensures) .1) (sym (c .before .before .scope-fits .ensures) ∙ not-false _ (c .before .if1 .left))) .measured .textures
 
--- src/single.rt:81:17
 enum-told : tie.Need-enum-told
 enum-told c = search needs
 
--- src/single.rt:81:17
 use-of-requires : tie.Need-use-of-requires
 use-of-requires c κs = search needs
 
--- src/single.rt:82:17
 flags-of-requires : tie.Need-flags-of-requires
 flags-of-requires c κs = search needs
 
--- src/single.rt:83:17
 wide-requires : tie.Need-wide-requires
 wide-requires c κs = search needs
 
--- src/single.rt:84:17
 merge-use-at-requires : tie.Need-merge-use-at-requires
 merge-use-at-requires c κs = let z = (rw (((c .before .before .before .before .before .before .enum-told .given)) .1) at (c .before .before .before .before .before .before .before .before .check-single .ensures)) in rw ((c .before .before .wide .ensures) .0) (single-ready z (scope-tested _ _ ((c .before .before .before .before .before .before .before .before .before .before .before .before .before .before .table-len .ensures) .1) (sym (c .before .before .before .before .before .before .before .before .before .before .before .scope-fits .ensures) ∙ not-false _ (c .before .before .before .before .before .before .before .before .before .before .if1 .left))), single-use z (c .before .before .before .before .before .use-of .ensures) (c .before .before .before .flags-of .ensures))
 
--- src/single.rt:85:13
 told-requires : tie.Need-told-requires
 told-requires c κs = search needs
 
--- src/single.rt:87:26
 enum-known-r : tie.Need-enum-known-r
 enum-known-r c = search needs
 
--- src/single.rt:88:27
 enum-known-k : tie.Need-enum-known-k
 enum-known-k c = search needs
 
--- src/single.rt:64:1
 same-length-2 : tie.Need-same-length-2
 same-length-2 c = search needs
 
--- src/single.rt:64:1
 returns-2 : tie.Need-returns-2
 returns-2 c = let z = (rw (((c .before .before .before .before .before .before .before .before .before .before .enum-told .given)) .1) at (c .before .before .before .before .before .before .before .before .before .before .before .before .check-single .ensures)) in rw ((c .told .ensures)) (single-done (sym (c .before .before .before .before .before .before .before .before .before .before .before .before .before .before .before .scope-fits .ensures) ∙ not-false _ (c .before .before .before .before .before .before .before .before .before .before .before .before .before .before .if1 .left)) z (rw ((c .before .before .before .before .before .before .wide .ensures) .0, (c .before .before .before .before .before .before .before .flags-of .ensures), ← (c .before .before .before .before .before .before .before .before .before .use-of .ensures) .given _) at (c .before .before .before .merge-use-at .ensures)))
 
--- src/single.rt:64:1
 same-length-3 : tie.Need-same-length-3
 same-length-3 c = search needs
 
--- src/single.rt:64:1
 returns-3 : tie.Need-returns-3
 returns-3 c = single-away (sym (c .before .before .before .before .before .before .scope-fits .ensures) ∙ not-false _ (c .before .before .before .before .before .if1 .left)) (rw (((c .before .r .given)) .1) at (c .before .before .before .check-single .ensures))
 
--- src/single.rt:64:1
 same-length-4 : tie.Need-same-length-4
 same-length-4 c = search needs
 
--- src/single.rt:64:1
 returns-4 : tie.Need-returns-4
 returns-4 c = single-never (sym (c .before .before .before .before .before .before .scope-fits .ensures) ∙ not-false _ (c .before .before .before .before .before .if1 .left)) (rw (((c .before .k .given)) .1) at (c .before .before .before .check-single .ensures))
 

@@ -1,51 +1,36 @@
-use native.Mathlib.Omega.{arith}
+-- `merge_use_at`: an unowned texture is owned and inserted, an owned one merged.
 use Rattle.merging.specs.Slot.{slot-new, slot-old, new-use, old-use, old-held}
 use borrow.Author.Needs.{needs}
 use Rattle.merging.proofs.slot.merge_use_at.Statement.{statement}
 use Rattle.merging.proofs.slot.merge_use_at.Tie as tie
-use Rattle.merging.proofs.slot.merge_use_at.Reads as reads
-use Rattle.merging.proofs.slot.merge_use_at.Lts as lts
-use Rattle.texture.proofs.using.insert_use.Reads as insert-use-reads
-use Rattle.texture.proofs.using.merge_use.Reads as merge-use-reads
-use Rattle.texture.proofs.using.own.Reads as own-reads
 
--- src/slot.rt:32:14
 add-if1 : tie.Need-add-if1
 add-if1 c = search needs
 
--- src/slot.rt:32:8
 mul-if1 : tie.Need-mul-if1
 mul-if1 c = search needs
 
--- src/slot.rt:32:8
 element-copy-out-if1 : tie.Need-element-copy-out-if1
 element-copy-out-if1 c = search needs
 
--- src/slot.rt:33:9
 own-requires : tie.Need-own-requires
 own-requires c κs = search needs
 
--- src/slot.rt:34:9
 insert-use-requires : tie.Need-insert-use-requires
 insert-use-requires c κs = rw ((c .before .before .own .ensures)) (new-use ((c .before .before .before .before .before .before .before .pre) .0) ((c .before .before .before .before .before .before .before .pre) .1))
 
--- src/slot.rt:35:9
 same-length : tie.Need-same-length
 same-length c = search needs
 
--- src/slot.rt:35:9
 returns : tie.Need-returns
 returns c = slot-new ((c .before .before .before .before .before .before .before .before .before .before .pre) .0) _ _ (c .before .before .before .before .before .before .before .if1 .taken) (rw ((c .before .before .before .before .before .own .ensures)) at (c .before .before .insert-use .ensures))
 
--- src/slot.rt:37:5
 merge-use-requires : tie.Need-merge-use-requires
 merge-use-requires c κs = let p = (c .before .before .before .before .before .pre) in let o = (c .before .before .if1 .left) in (old-use (p .0) (p .1) o, old-held (p .0) (p .1) o)
 
--- src/slot.rt:18:1
 same-length-2 : tie.Need-same-length-2
 same-length-2 c = search needs
 
--- src/slot.rt:18:1
 returns-2 : tie.Need-returns-2
 returns-2 c = slot-old ((c .before .before .before .before .before .before .before .before .pre) .0) _ _ (c .before .before .before .before .before .if1 .left) (c .before .before .merge-use .ensures)
 

@@ -1,0 +1,36 @@
+-- Every texture of a given scope, merged into a scope: what is asked for, and the contract of the walk.
+use Prim.Native.Nat.{ℕ, _≤_, _<_}
+use mathlib.Core.Path.{_≡_}
+use mathlib.Core.Logic.{_⊎_}
+use mathlib.Core.List.{List}
+use lib.ListN.{length, getD}
+use Rattle.model.specs.declared.UsageFlags.{UsageFlags}
+use Rattle.model.specs.declared.InvalidUse.{InvalidUse}
+use Rattle.model.specs.declared.Outcome.{Outcome}
+use Rattle.model.specs.Base.{Stop, walk₂}
+use Rattle.model.specs.Sets.{Slot, withSlots}
+use Rattle.model.specs.Calls.{Indexed, answer, mergeGiven}
+use Rattle.model.specs.Log.{outcomeOf}
+use Rattle.model.specs.Texture.{Held, ranged}
+use Rattle.storage.specs.Storage.{flagsOf, scopeOf}
+use Rattle.checks.specs.Passed.{SetPassed}
+use Rattle.ready.specs.Tested.{ScopeTested}
+
+-- the model's walk over the textures of both
+abbrev pub mergedSlots : UsageFlags → List ℕ → List ℕ → List ℕ → List ℕ → Stop (Indexed InvalidUse) (List (Slot Held))
+mergedSlots p t r g l = walk₂ (mergeGiven ranged p) 0 (scopeOf t r .slots) (scopeOf g l .slots)
+
+-- ---- What is asked for: two scopes that passed the test, and the checks of one against the other
+pub record SlotsReady (t r g l : List ℕ) (p : UsageFlags) : Type 0 where
+  pub into : ScopeTested t r
+  pub given : ScopeTested g l
+  pub passed : SetPassed t g
+  pub flags : p ≡ flagsOf t
+
+-- THE CONTRACT: the textures become what the model's walk gives, and its conflict is told
+pub record SlotsMerged (w : Stop (Indexed InvalidUse) (List (Slot Held))) (t r : List ℕ) (x : Outcome) (t′ r′ : List ℕ) : Type 0 where
+  pub answer : x ≡ outcomeOf (answer (w .conflict))
+  pub view : scopeOf t′ r′ ≡ withSlots (scopeOf t r) (w .value)
+  pub unread : (y : ℕ) → (y < 8) ⊎ (1288 ≤ y) → getD t′ y 0 ≡ getD t y 0
+  pub long : length r′ ≡ length r
+  pub table : length t′ ≡ length t

@@ -1,0 +1,137 @@
+-- `set_checked` and `set_single`: from what the code counted, wrote and changed to the contract.
+use Prim.Native.Nat.{ℕ, _+_, _*_, _/_, _≤_, _<_}
+use native.Mathlib.Omega.{arith}
+use mathlib.Core.Path.{_≡_, refl, sym, ap, subst, _∙_}
+use mathlib.Core.Bool.{Bool, true, false, false≢true}
+use mathlib.Core.List.{List, []}
+use mathlib.Core.Option.{Option, none, some}
+use lib.ListN.{length, getD, set, length-map}
+use Rattle.model.specs.declared.Extent.{Extent}
+use Rattle.model.specs.declared.InvalidUse.{InvalidUse}
+use Rattle.model.specs.declared.LogHead.{LogHead}
+use Rattle.model.specs.declared.Selector.{Selector}
+use Rattle.model.specs.declared.Selection.the-variants.{Part}
+use Rattle.model.specs.declared.UsageFlags.{UsageFlags}
+use Rattle.model.specs.declared.Refusal.{Refusal}
+use Rattle.model.specs.declared.Refusal.the-variants.{NoFreeEntry}
+use Rattle.model.specs.declared.Outcome.the-variants as outcome
+use Rattle.model.specs.Representation.{Ends, isFull}
+use Rattle.model.specs.Sets.{Head, Slot, Tracker, slotAt, emptySlot, withTracker, headOf}
+use Rattle.model.specs.Refusals.{singleRefusal}
+use Rattle.model.specs.Calls.{CallResult, done, unless, turnedAway, setSlot, logSlot, setSingle, noEnds}
+use Rattle.model.specs.Calls as calls
+use Rattle.model.specs.Log.{pending}
+use Rattle.model.specs.Texture.{Held, Given, Entry, fromUse, ranged}
+use Rattle.storage.specs.Lists.{list-at}
+use Rattle.storage.specs.Storage.{flagsOf, startHalf, endHalf, trackerOf}
+use Rattle.texture.specs.Uses.{useOf}
+use Rattle.barrier.specs.Logged.{entriesAt, Room, Logged, logged-added, logged-unchanged}
+use Rattle.barrier.specs.Steps.{logTop}
+use Rattle.checks.specs.Head.{headIn, useRefusal, tracker-head, UseTold}
+use Rattle.checks.specs.Told.{use-done, use-refused}
+use Rattle.checks.specs.Passed.{use-passed, texture-passed, selector-passed, state-passed}
+use Rattle.ready.specs.Tested.{TrackerTested, half-fits}
+use Rattle.ready.specs.Selectors.{full-is}
+use Rattle.setting.specs.declared.Answered.{Answered}
+use Rattle.setting.specs.Tracked.{Tracked}
+use Rattle.setting.specs.Slot.{slotOf, slotEntries, SlotReady, SlotSet, slot-view, slot-pending}
+use Rattle.setting.specs.Single.{TakenUse, usedEntries, usedTracker}
+use Rattle.setting.specs.Logging.{headFits, refusedWith, movedOn, head-le}
+use Rattle.setting.specs.Changed.{Changed, away-own, changed-tracked}
+
+-- ---- The log
+-- what was counted fits where it is written
+pub room-for : {top i n : ℕ} {l l₁ : List ℕ} {es : List Entry} (h : LogHead) → Logged top i false l 0 es n l₁ → headFits (length l / 7) h ≡ true → n ≤ h .free → 7 * (h .written + length es) ≤ length l₁
+room-for {top} {i} {n} {l} h c f k = omega (arith, head-le (length l / 7) h f, c .count, c .long)
+
+as-entries : (i : ℕ) (es : List Entry) → length (entriesAt i es) ≡ length es
+as-entries i es = length-map es _
+
+module _ (t s e : List ℕ) {l l₁ : List ℕ} (i : ℕ) (sh : Extent) (g : Given) {top n : ℕ} (h : LogHead)
+    (c : Logged top i false l 0 (slotEntries (flagsOf t) (getD t 7 0) sh g (slotOf t s e i)) n l₁) where
+  counted : n ≡ length (usedEntries t s e i sh g)
+  counted = c .count ∙ sym (as-entries i (slotEntries (flagsOf t) (getD t 7 0) sh g (slotOf t s e i)))
+
+  -- 15
+  pub not-enough : h .free < n → Changed (usedEntries t s e i sh g) (usedTracker t s e i sh g) h t s e l (refusedWith NoFreeEntry h) t s e l₁
+  not-enough k = record {
+    few = λ q. (refl, (refl, (refl, (refl, logged-unchanged c))));
+    enough = λ q. absurd (omega (arith, counted));
+    start-long = refl;
+    end-long = refl;
+    table = refl;
+  }
+
+  -- written, and the texture changed
+  pub written : {top₂ k : ℕ} {t′ s′ e′ l₂ : List ℕ} → n ≤ h .free → headFits (length l / 7) h ≡ true → i < getD t 0 0 → Logged top₂ i true l₁ (h .written) (slotEntries (flagsOf t) (getD t 7 0) sh g (slotOf t s e i)) k l₂ → SlotSet t s e i (setSlot ranged (flagsOf t) sh g g (slotOf t s e i)) t′ s′ e′
+      → Changed (usedEntries t s e i sh g) (usedTracker t s e i sh g) h t s e l (movedOn h n) t′ s′ e′ l₂
+  written {top₂} {k} {t′} {s′} {e′} {l₂} le f x w q =
+      let es = slotEntries (flagsOf t) (getD t 7 0) sh g (slotOf t s e i) in
+      let w₁ : Logged top₂ i true l (h .written) es k l₂ = subst (λ (y : List ℕ). Logged top₂ i true y (h .written) es k l₂) (logged-unchanged c) w in
+      record {
+        few = λ z. absurd (omega (arith, counted));
+        enough = λ z. (ap (movedOn h) counted, (logged-added (omega (arith, room-for h c f le, c .long)) w₁, slot-view x q));
+        start-long = q .start-long;
+        end-long = q .end-long;
+        table = q .table;
+      }
+
+-- ---- `set_single`
+module _ (t s e : List ℕ) (i : ℕ) (sh : Extent) (q : Selector) (st : ℕ) where
+  abbrev TrackerResult : Type 0
+  TrackerResult = CallResult InvalidUse (List Entry) (Tracker Held)
+
+  -- what the model's call gives where no check fails, of a tracker with flags p and this slot
+  abbrev passing : UsageFlags → ℕ → Slot (Ends Held) → TrackerResult
+  passing p mask x = record {
+    answer = done;
+    log = logSlot ranged p mask sh (fromUse sh (some q) st) i x;
+    after = withTracker (trackerOf t s e) (set (trackerOf t s e .set .slots) i (setSlot ranged p sh (fromUse sh (some q) st) (fromUse sh (some q) st) x));
+  }
+
+  call-is : (o : Option Refusal) → useRefusal t i sh (Part q) st ≡ o
+      → setSingle ranged (trackerOf t s e) i sh q st ≡ unless o (trackerOf t s e) (passing (trackerOf t s e .set .flags) (trackerOf t s e .mask) (slotAt (noEnds ranged) (trackerOf t s e .set) i))
+  unfolding useRefusal
+  call-is o z =
+      ap (λ (h : Head). unless (singleRefusal h i sh (some q) st) (trackerOf t s e) (passing (trackerOf t s e .set .flags) (trackerOf t s e .mask) (slotAt (noEnds ranged) (trackerOf t s e .set) i))) (tracker-head t s e)
+      ∙ ap (λ (y : Option Refusal). unless y (trackerOf t s e) (passing (trackerOf t s e .set .flags) (trackerOf t s e .mask) (slotAt (noEnds ranged) (trackerOf t s e .set) i))) z
+
+  read-here : i < getD t 0 0 → passing (trackerOf t s e .set .flags) (trackerOf t s e .mask) (slotAt (noEnds ranged) (trackerOf t s e .set) i) ≡ passing (flagsOf t) (getD t 7 0) (slotOf t s e i)
+  unfolding trackerOf
+  read-here h = ap (passing (flagsOf t) (getD t 7 0)) (list-at (slotOf t s e) (getD t 0 0) i (emptySlot (noEnds ranged)) h)
+
+module _ {t s e : List ℕ} {i : ℕ} {sh : Extent} {q : Selector} {st : ℕ} {fits : Bool} {h : LogHead} {l : List ℕ} (f : fits ≡ true) (k : headFits (length l / 7) h ≡ true) where
+  pub single-away : {r : Refusal} → UseTold t i sh (Part q) st (outcome.Refused r) → Tracked fits (setSingle ranged (trackerOf t s e) i sh q st) h t s e l (refusedWith r h) t s e l
+  single-away {r} z = away-own r f k (ap (λ (y : CallResult InvalidUse (List Entry) (Tracker Held)). y .answer) (call-is t s e i sh q st (some r) (use-refused z refl)))
+
+  pub single-done : {x : Answered} {t′ s′ e′ l′ : List ℕ} (g : Given) → UseTold t i sh (Part q) st outcome.Done → fromUse sh (some q) st ≡ g → Changed (usedEntries t s e i sh g) (usedTracker t s e i sh g) h t s e l x t′ s′ e′ l′
+      → Tracked fits (setSingle ranged (trackerOf t s e) i sh q st) h t s e l x t′ s′ e′ l′
+  single-done {x} {t′} {s′} {e′} {l′} g z w c =
+      let n = use-done z refl in
+      let m : setSingle ranged (trackerOf t s e) i sh q st ≡ passing t s e i sh q st (flagsOf t) (getD t 7 0) (slotOf t s e i) =
+      call-is t s e i sh q st none n ∙ read-here t s e i sh q st (texture-passed t i sh (use-passed t i sh (Part q) st n .0) .texture) in
+      let d : Changed (usedEntries t s e i sh (fromUse sh (some q) st)) (usedTracker t s e i sh (fromUse sh (some q) st)) h t s e l x t′ s′ e′ l′ = rw w c in
+      subst (λ (y : CallResult InvalidUse (List Entry) (Tracker Held)). Tracked fits y h t s e l x t′ s′ e′ l′) (sym m)
+      (changed-tracked f k refl (rw (slot-pending (flagsOf t) (getD t 7 0) sh (fromUse sh (some q) st) i (slotOf t s e i)) d))
+
+-- ---- What one texture asks for
+module _ {t : List ℕ} {i : ℕ} {sh : Extent} {q : Selector} {st : ℕ} (z : UseTold t i sh (Part q) st outcome.Done) where
+  pub single-ready : {s e : List ℕ} → TrackerTested t s e → SlotReady t s e i sh
+  single-ready {s} {e} k =
+      let x = texture-passed t i sh (use-passed t i sh (Part q) st (use-done z refl) .0) in
+      let f = k .slots i (x .texture) in
+      record {
+        starts = k .starts;
+        ends = k .ends;
+        texture = x;
+        start-held = λ o. half-fits startHalf t s i (f .extent o .mips) (f .held o .start);
+        end-held = λ o. half-fits endHalf t e i (f .extent o .mips) (f .held o .end);
+      }
+
+  pub single-use : {all : Bool} → all ≡ isFull sh q → TakenUse t sh all q (flagsOf t) st
+  single-use {all} e =
+      let a = use-passed t i sh (Part q) st (use-done z refl) in
+      record { flags = refl; selector = selector-passed sh q (a .1 .0); whole = λ y. full-is sh q (sym e ∙ y); state = state-passed (flagsOf t) st (a .1 .1) }
+
+pub as-use : (sh : Extent) (q : Selector) (st : ℕ) (all : Bool) → all ≡ isFull sh q → fromUse sh (some q) st ≡ useOf all q st
+as-use sh q st all e = rw e refl
