@@ -5,29 +5,35 @@ use mathlib.Core.Option.{Option, none, some}
 use Prim.Native.Nat.{ℕ, suc}
 
 infixr 5 if_then_else_
+-- a choice on a test
 abbrev pub if_then_else_ {ℓ} : {A : Type ℓ} → Bool → A → A → A
 if true then x else y = x
 if false then x else y = y
 
--- ---- Lists: what each element makes, one after the other; with the element's position; with its partner in a second list
+-- ---- Lists, element by element
+-- what each element makes, one after the other
 abbrev pub each : {A B : Type 0} → (A → List B) → List A → List B
 each f [] = []
 each f (x ∷ s) = f x ++ each f s
 
+-- the same with the element's position, counted from k
 abbrev pub eachAt : {A B : Type 0} → (ℕ → A → List B) → ℕ → List A → List B
 eachAt f k [] = []
 eachAt f k (x ∷ s) = f k x ++ eachAt f (suc k) s
 
+-- the same with its partner in a second list, as far as both go
 abbrev pub eachAt₂ : {A B D : Type 0} → (ℕ → A → B → List D) → ℕ → List A → List B → List D
 eachAt₂ f k [] t = []
 eachAt₂ f k (a ∷ s) [] = []
 eachAt₂ f k (a ∷ s) (b ∷ t) = f k a b ++ eachAt₂ f (suc k) s t
 
+-- two lists in pairs, as far as both go
 abbrev pub zip₂ : {A B D : Type 0} → (A → B → D) → List A → List B → List D
 zip₂ f [] t = []
 zip₂ f (a ∷ s) [] = []
 zip₂ f (a ∷ s) (b ∷ t) = f a b ∷ zip₂ f s t
 
+-- three lists in triples, as far as all go
 abbrev pub zip₃ : {A B D E : Type 0} → (A → B → D → E) → List A → List B → List D → List E
 zip₃ f [] t v = []
 zip₃ f (a ∷ s) [] v = []
@@ -46,13 +52,16 @@ every f [] = true
 every f (x ∷ s) = f x && every f s
 
 -- ---- A walk that stops at the first conflict: what was done before it stays, and the rest is as it was
+-- what a walk has come to, and the conflict that stopped it, if one did
 pub record Stop (C A : Type 0) : Type 0 where
   pub value : A
   pub conflict : Option C
 
+-- a walk that met no conflict
 abbrev pub fine : {C A : Type 0} → A → Stop C A
 fine a = record { value = a; conflict = none }
 
+-- a walk that a conflict stopped
 abbrev pub stopped : {C A : Type 0} → A → C → Stop C A
 stopped a c = record { value = a; conflict = some c }
 
@@ -81,6 +90,7 @@ abbrev pub onward : {C A : Type 0} → A → Option C → List A → Stop C (Lis
 onward x none was worked = record { value = x ∷ worked .value; conflict = worked .conflict }
 onward x (some c) was worked = record { value = x ∷ was; conflict = some c }
 
+-- each element in turn, with its position, up to the first conflict
 abbrev pub walk : {C A : Type 0} → (ℕ → A → Stop C A) → ℕ → List A → Stop C (List A)
 walk f k [] = fine []
 walk f k (x ∷ s) = let r = f k x in onward (r .value) (r .conflict) s (walk f (suc k) s)

@@ -25,12 +25,14 @@ incompatible p s = meets s (p .exclusive) && not (oneBit s)
 abbrev pub isBit : ℕ → Bool
 isBit s = oneBit s && ltb s 65536
 
+-- the rule but that UNKNOWN is one bit
 abbrev pub apart : UsageFlags → Bool
 apart p =
     ltb (p .exclusive) 65536 && isBit (p .uninitialized) && isBit (p .complex)
     && not (eqb (p .uninitialized) (p .complex)) && not (eqb (p .uninitialized) (p .unknown)) && not (eqb (p .complex) (p .unknown))
     && not (meets (p .complex) (p .exclusive)) && not (meets (p .unknown) (p .exclusive))
 
+-- the whole rule; where it fails, "the palette breaks its rule"
 unfoldable pub flagsFit : UsageFlags → Bool
 unfolding onesIn
 flagsFit p = isBit (p .unknown) && apart p

@@ -29,44 +29,53 @@ rangesCheck told rs = check (ltb (length rs) told || not (ascends 0 (take told r
 abbrev pub roomCheck : ℕ → ℕ → Check
 roomCheck needed lent = check (ltb lent needed) NoFreeEntry
 
--- ---- `isolate`: the run's position and count, the new length, and the records after it
+-- ---- `isolate`
+-- "the run's position and count", "the strip's new length", and the records afterwards
 pub record Isolated : Type 0 where
   pub position : ℕ
   pub count : ℕ
   pub told : ℕ
   pub records : List Range
 
+-- 10, 14, and 15 for all ranges that it leaves
 abbrev pub isolateRefusal : ℕ → ℕ → ℕ → ℕ → List Range → Option Refusal
 isolateRefusal a e d told rs =
     firstFailing (indexCheck a e ∷ rangesCheck told rs ∷ roomCheck (length (listOf (isolate a e d (take told rs)))) (length rs) ∷ [])
 
+-- "makes the index a run of ranges of its own, gaps filled with the default"; records past the new length stay
 abbrev pub isolated : ℕ → ℕ → ℕ → ℕ → List Range → Isolated
 isolated a e d told rs =
     let c = isolate a e d (take told rs) in let n = length (listOf c) in
     record { position = length (c .before); count = length (c .run); told = n; records = listOf c ++ drop n rs }
 
--- ---- `coalesce`: "records it frees become zeros"
+-- ---- `coalesce`
+-- "the strip's new length", and the records afterwards
 pub record Coalesced : Type 0 where
   pub told : ℕ
   pub records : List Range
 
+-- 14 alone: it has no index and needs no room
 abbrev pub coalesceRefusal : ℕ → List Range → Option Refusal
 coalesceRefusal told rs = firstFailing (rangesCheck told rs ∷ [])
 
+-- "joins touching equals; records it frees become zeros"
 abbrev pub coalesced : ℕ → List Range → Coalesced
 coalesced told rs =
     let s = coalesce (take told rs) in
     record { told = length s; records = s ++ (replicate (told - length s) (range 0 0 0) ++ drop told rs) }
 
--- ---- `iter_filter`: "lists overlaps clipped into a second lent run, from its first record on, and tells how many; the strip stays"
+-- ---- `iter_filter`
+-- how many overlaps there are, and the records of the second run afterwards
 pub record Filtered : Type 0 where
   pub count : ℕ
   pub output : List Range
 
+-- 10, 14, and 15 for the second run
 abbrev pub filterRefusal : ℕ → ℕ → ℕ → List Range → List Range → Option Refusal
 filterRefusal a e told rs out =
     firstFailing (indexCheck a e ∷ rangesCheck told rs ∷ roomCheck (length (iterFilter a e (take told rs))) (length out) ∷ [])
 
+-- "lists overlaps clipped into a second lent run, from its first record on, and tells how many; the strip stays"
 abbrev pub filtered : ℕ → ℕ → ℕ → List Range → List Range → Filtered
 filtered a e told rs out =
     let s = iterFilter a e (take told rs) in record { count = length s; output = s ++ drop (length s) out }

@@ -16,7 +16,8 @@ use Rattle.model.specs.Flags.{meets, incompatible, flagsFit, sameFlags}
 use Rattle.model.specs.Representation.{mipStart, mipEnd, layerStart, layerEnd}
 use Rattle.model.specs.Sets.{Numbers, Head, Opening, outside, numbersFit, capacity}
 
--- ---- 01's number and place of a refusal: "the index for 7 to 9, otherwise 0"
+-- ---- 01's number and place of a refusal
+-- the table's column "No."
 abbrev pub numberOf : Refusal → ℕ
 numberOf NumbersOutOfLimits = 1
 numberOf FlagsBreakRule = 2
@@ -34,6 +35,7 @@ numberOf StateIncompatible = 13
 numberOf RangesOutOfOrder = 14
 numberOf NoFreeEntry = 15
 
+-- "the index for 7 to 9, otherwise 0"
 abbrev pub placeOf : Refusal → ℕ
 placeOf NumbersOutOfLimits = 0
 placeOf FlagsBreakRule = 0
@@ -52,18 +54,22 @@ placeOf RangesOutOfOrder = 0
 placeOf NoFreeEntry = 0
 
 -- ---- "Checked top to bottom."
+-- a row of the table at a call: whether it fails, and the refusal that is then the answer
 pub record Check : Type 0 where
   pub fails : Bool
   pub answer : Refusal
 
+-- such a row, of its two parts
 abbrev pub check : Bool → Refusal → Check
 check b r = record { fails = b; answer = r }
 
+-- the answer of the first row that fails, if one does
 unfoldable pub firstFailing : List Check → Option Refusal
 firstFailing [] = none
 firstFailing (c ∷ cs) = if c .fails then some (c .answer) else firstFailing cs
 
 -- ---- 1, 2, 3: opening
+-- "N, M or W is outside its limits", "the palette breaks its rule", "the lent room is short"
 abbrev pub openingChecks : Opening → List Check
 openingChecks o =
     check (not (numbersFit (o .numbers))) NumbersOutOfLimits
@@ -71,28 +77,35 @@ openingChecks o =
     ∷ check (ltb (o .room) (capacity (o .numbers))) ShortRoom
     ∷ []
 
+-- why an opening is turned away, if it is
 unfoldable pub openingRefusal : Opening → Option Refusal
 unfolding flagsFit firstFailing
 openingRefusal o = firstFailing (openingChecks o)
 
+-- nothing is refused
 abbrev pub accepted : Option Refusal → Bool
 accepted none = true
 accepted (some r) = false
 
+-- an opening that is not turned away
 abbrev pub opens : Opening → Bool
 opens o = accepted (openingRefusal o)
 
 -- ---- 6: two sets
+-- "their palettes differ"
 abbrev pub flagsCheck : Head → Head → Check
 flagsCheck into given = check (not (sameFlags (into .flags) (given .flags))) FlagsDiffer
 
 -- ---- 7, 8, 9: a texture
+-- a position as the code's `TrackerIndex`
 abbrev pub trackerIndex : ℕ → TrackerIndex
 trackerIndex i = record { 0 = i }
 
+-- two extents are the same
 abbrev pub sameExtent : Extent → Extent → Bool
 sameExtent a b = eqb (a .mips) (b .mips) && eqb (a .layers) (b .layers)
 
+-- "the index is owned with another shape"
 abbrev pub otherExtent : Option Extent → Extent → Bool
 otherExtent none sh = false
 otherExtent (some own) sh = not (sameExtent own sh)
@@ -101,6 +114,7 @@ otherExtent (some own) sh = not (sameExtent own sh)
 abbrev pub extentOutside : Numbers → Extent → Bool
 extentOutside n sh = outside (sh .mips) (n .mips) || outside (sh .layers) (n .layers)
 
+-- "the index is not below N", and then 8 and 9
 abbrev pub textureChecks : Head → ℕ → Extent → List Check
 textureChecks h i sh =
     check (not (ltb i (h .numbers .textures))) (NoSuchIndex (trackerIndex i))
@@ -109,38 +123,48 @@ textureChecks h i sh =
     ∷ []
 
 -- ---- 10, 11: a selector, if one is given
+-- "mips or layers have start not below end"
 abbrev pub selectorEmpty : Selector → Bool
 selectorEmpty q = not (ltb (mipStart q) (mipEnd q) && ltb (layerStart q) (layerEnd q))
 
+-- "an end is past the shape"
 abbrev pub selectorPast : Extent → Selector → Bool
 selectorPast sh q = ltb (sh .mips) (mipEnd q) || ltb (sh .layers) (layerEnd q)
 
+-- 10 and 11; nothing is checked where no selector is given
 abbrev pub selectorChecks : Extent → Option Selector → List Check
 selectorChecks sh none = []
 selectorChecks sh (some q) = check (selectorEmpty q) SelectorEmpty ∷ check (selectorPast sh q) SelectorPastExtent ∷ []
 
 -- ---- 12, 13: a state
+-- "it is zero or has UNKNOWN or COMPLEX"
 abbrev pub stateReserved : UsageFlags → ℕ → Bool
 stateReserved p st = eqb st 0 || meets st (p .unknown) || meets st (p .complex)
 
+-- 12, and then "it is incompatible"
 abbrev pub stateChecks : UsageFlags → ℕ → List Check
 stateChecks p st = check (stateReserved p st) StateReserved ∷ check (incompatible p st) StateIncompatible ∷ []
 
 -- ---- A call on one texture
+-- 7 to 13: of `merge_single` and of `set_single`
 abbrev pub singleRefusal : Head → ℕ → Extent → Option Selector → ℕ → Option Refusal
 singleRefusal h i sh sel st = firstFailing (textureChecks h i sh ++ selectorChecks sh sel ++ stateChecks (h .flags) st)
 
--- ---- "Calls over a whole set check 7, 8, 9 for each owned index, ascending, before any change."
+-- ---- Calls over a whole set
+-- 7, 8, 9 of an index, if the given set owns it
 abbrev pub ownedChecks : Head → ℕ → Option Extent → List Check
 ownedChecks h i none = []
 ownedChecks h i (some sh) = textureChecks h i sh
 
+-- 6, and then "7, 8, 9 for each owned index, ascending, before any change"
 abbrev pub setRefusal : Head → Head → Option Refusal
 setRefusal into given = firstFailing (flagsCheck into given ∷ eachAt (ownedChecks into) 0 (given .extents))
 
--- ---- "The sparse call checks in list order": "an index not below the scope's N is 7; one the scope does not own is passed over; an owned one is checked against the tracker"
+-- ---- The sparse call
+-- "an index not below the scope's N is 7; one the scope does not own is passed over; an owned one is checked against the tracker"
 abbrev pub sparseChecks : Head → Head → ℕ → List Check
 sparseChecks into given i = check (not (ltb i (given .numbers .textures))) (NoSuchIndex (trackerIndex i)) ∷ ownedChecks into i (getD (given .extents) i none)
 
+-- 6, and then the listed indices "in list order, also before any change"
 abbrev pub sparseRefusal : Head → Head → List ℕ → Option Refusal
 sparseRefusal into given is = firstFailing (flagsCheck into given ∷ each (sparseChecks into given) is)

@@ -10,24 +10,30 @@ use Rattle.model.specs.declared.Selector.{Selector}
 use Rattle.model.specs.Base.{Stop}
 
 -- ---- Selectors
+-- the selector of mips m up to n and layers a up to e
 abbrev pub select : ℕ → ℕ → ℕ → ℕ → Selector
 select m n a e = record {
   mips = record { start = record { 0 = m }; end = record { 0 = n } };
   layers = record { start = record { 0 = a }; end = record { 0 = e } };
 }
 
+-- `mips.start`
 abbrev pub mipStart : Selector → ℕ
 mipStart q = q .mips .start .0
 
+-- `mips.end`
 abbrev pub mipEnd : Selector → ℕ
 mipEnd q = q .mips .end .0
 
+-- `layers.start`
 abbrev pub layerStart : Selector → ℕ
 layerStart q = q .layers .start .0
 
+-- `layers.end`
 abbrev pub layerEnd : Selector → ℕ
 layerEnd q = q .layers .end .0
 
+-- "the full shape": every mip and layer
 abbrev pub full : Extent → Selector
 full sh = select 0 (sh .mips) 0 (sh .layers)
 
@@ -35,19 +41,22 @@ full sh = select 0 (sh .mips) 0 (sh .layers)
 abbrev pub isFull : Extent → Selector → Bool
 isFull sh q = eqb (mipStart q) 0 && eqb (mipEnd q) (sh .mips) && eqb (layerStart q) 0 && eqb (layerEnd q) (sh .layers)
 
--- whether a selector has a mip, and a subresource
+-- whether a selector has mip k
 abbrev pub inMips : Selector → ℕ → Bool
 inMips q k = leb (mipStart q) k && ltb k (mipEnd q)
 
+-- whether it has the subresource at mip m and layer l
 abbrev pub holds : Selector → ℕ → ℕ → Bool
 holds q m l = inMips q m && leb (layerStart q) l && ltb l (layerEnd q)
 
 -- ---- What a tracker keeps of a texture
+-- its state in `start_set` and in `end_set`
 pub record Ends (H : Type 0) : Type 0 where
   pub start : H
   pub end : H
 
 -- ---- The record
+-- what is held of a texture, given, in conflict and logged, and what is done with it
 pub record Representation : Type 1 where
   pub Held : Type 0
   pub Given : Type 0

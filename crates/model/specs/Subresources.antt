@@ -6,6 +6,7 @@ use Rattle.model.specs.declared.Extent.{Extent}
 use Rattle.model.specs.RangedStates.{layerStates}
 use Rattle.model.specs.Texture.{Held, single, many}
 
+-- one value for each layer of each mip
 abbrev pub everywhere : {A : Type 0} → Extent → A → List (List A)
 everywhere sh x = replicate (sh .mips) (replicate (sh .layers) x)
 

@@ -15,16 +15,19 @@ use Rattle.model.specs.StateRules.{Move, unite, uniteKnown, moveOf, endA
 use Rattle.model.specs.Representation.{select, layerStart, layerEnd, full, isFull, inMips, Ends, Representation}
 use Rattle.model.specs.RangedStates.{range, coalesce, iterFilter, isolate, paint, inState}
 
--- ---- How a texture is held (01: whole or parted): one state, or the ranged states of each mip (`ComplexTextureState`)
+-- ---- How a texture is held (01: whole or parted)
+-- one state, or the ranged states of each mip (`ComplexTextureState`)
 pub data Held : Type 0 where
   single : ℕ → Held
   many : List (List Range) → Held
 
--- ---- What a use hands in: `SingleOrManyStates`
+-- ---- What a use hands in
+-- a selector and its state: `(TextureSelector, TextureUses)`
 pub record Piece : Type 0 where
   pub selector : Selector
   pub state : ℕ
 
+-- `SingleOrManyStates`, as `get_state` returns it
 pub data Given : Type 0 where
   givenSingle : ℕ → Given
   givenMany : List Piece → Given
@@ -33,34 +36,41 @@ pub data Given : Type 0 where
 abbrev pub piecesOf : List (List Range) → List Piece
 piecesOf mips = eachAt (λ k s. map (λ (r : Range). record { selector = select k (suc k) (r .start) (r .end); state = r .state }) s) 0 mips
 
+-- "A set passes on its own mark and all its cells": `get_state` of a `TextureSet`
 abbrev pub fromHeld : Held → Given
 fromHeld (single s) = givenSingle s
 fromHeld (many mips) = givenMany (piecesOf mips)
 
+-- "*whole* if no selector is given or it equals the full shape": `get_state` of a `KnownSingle` or a `Selector`
 abbrev pub fromUse : Extent → Option Selector → ℕ → Given
 fromUse sh none st = givenSingle st
 fromUse sh (some q) st = if isFull sh q then givenSingle st else givenMany (record { selector = q; state = st } ∷ [])
 
--- ---- Mips: f at the selected ones, and each as one range
+-- ---- Mips
+-- f at the mips that a selector has; the others stay
 abbrev pub onMips : Selector → (List Range → List Range) → ℕ → List (List Range) → List (List Range)
 onMips q f k [] = []
 onMips q f k (s ∷ ss) = (if inMips q k then f s else s) ∷ onMips q f (suc k) ss
 
+-- each mip one range over all layers: with UNKNOWN it is `ComplexTextureState::new`
 abbrev pub freshMips : Extent → ℕ → List (List Range)
 freshMips sh st = replicate (sh .mips) (range 0 (sh .layers) st ∷ [])
 
--- ---- `insert`: each piece is painted on UNKNOWN (`from_selector_state_iter`), and nothing is coalesced
+-- ---- `insert`
+-- the loop of `from_selector_state_iter`: each piece is painted, and nothing is coalesced
 unfoldable pub paintAll : ℕ → List Piece → List (List Range) → List (List Range)
 unfolding paint
 paintAll u [] ss = ss
 paintAll u (q ∷ qs) ss = paintAll u qs (onMips (q .selector) (paint u (layerStart (q .selector)) (layerEnd (q .selector)) (q .state)) 0 ss)
 
+-- one state, or the pieces on UNKNOWN
 unfoldable pub insert : UsageFlags → Extent → Given → Held
 unfolding paintAll
 insert p sh (givenSingle st) = single st
 insert p sh (givenMany qs) = many (paintAll (p .unknown) qs (freshMips sh (p .unknown)))
 
 -- ---- `merge`
+-- what a conflict tells: its place and both states
 abbrev pub invalidUse : Selector → ℕ → ℕ → InvalidUse
 invalidUse q old new = record { selector = q; old = old; new = new }
 
@@ -97,9 +107,11 @@ unfolding uniteKnown coalesce
 mergeEvery p new k s =
     let w = walk (λ i. mergeRange p k new) 0 s in record { value = settled (w .conflict) (w .value); conflict = w .conflict }
 
+-- a walk over the mips as one of the texture: "it remains parted"
 abbrev pub asMany : Stop InvalidUse (List (List Range)) → Stop InvalidUse Held
 asMany w = record { value = many (w .value); conflict = w .conflict }
 
+-- the texture after a use, or the conflict, with a clause for each arm of its `match`
 unfoldable pub merge : UsageFlags → Extent → Held → Given → Stop InvalidUse Held
 unfolding unite spreadPiece mergeMip mergeEvery
 merge p sh (single cur) (givenSingle new) = ruled (single cur) (invalidUse (full sh) cur new) (Option·map single (unite p cur new))
@@ -108,11 +120,13 @@ merge p sh (single cur) (givenMany qs) =
 merge p sh (many ss) (givenSingle new) = asMany (walk (mergeEvery p new) 0 ss)
 merge p sh (many ss) (givenMany qs) = asMany (passes (λ q. walk (mergeMip p q) 0) qs ss)
 
--- ---- `barrier`: the transitions from the end to a given start, in their order
+-- ---- `barrier`
+-- a transition of some subresources of a texture
 pub record Entry : Type 0 where
   pub selector : Selector
   pub move : Move
 
+-- the transition of a selector, if one is written
 abbrev pub entry : Selector → Option Move → List Entry
 entry q none = []
 entry q (some m) = record { selector = q; move = m } ∷ []
@@ -121,6 +135,7 @@ entry q (some m) = record { selector = q; move = m } ∷ []
 abbrev pub mipEntries : (ℕ → Option Move) → ℕ → List Range → List Entry
 mipEntries f k s = each (λ (r : Range). entry (select k (suc k) (r .start) (r .end)) (f (r .state))) s
 
+-- the transitions from the end to a given start, in their order, with a clause for each arm of its `match`
 unfoldable pub barrier : UsageFlags → ℕ → Extent → Held → Given → List Entry
 unfolding moveOf iterFilter
 barrier p mask sh (single cur) (givenSingle new) = entry (full sh) (moveOf (p .unknown) mask cur new)
@@ -130,7 +145,7 @@ barrier p mask sh (many ss) (givenMany qs) =
     each (λ (q : Piece). eachAt (λ k s. if inMips (q .selector) k
     then mipEntries (λ cur. moveOf (p .unknown) mask cur (q .state)) k (iterFilter (layerStart (q .selector)) (layerEnd (q .selector)) s) else []) 0 ss) qs
 
--- ---- `update`: the start and the end after a given end
+-- ---- `update`
 -- a Single end, broken up by the pieces; one that is UNKNOWN isolates and changes nothing else
 unfoldable pub spreadEnd : ℕ → ℕ → List Piece → List (List Range) → List (List Range)
 unfolding paint coalesce
@@ -151,6 +166,7 @@ learnAll part u new k [] starts = starts
 learnAll part u new k (s ∷ ss) [] = []
 learnAll part u new k (s ∷ ss) (t ∷ ts) = learn u new (part k s) t ∷ learnAll part u new (suc k) ss ts
 
+-- the same of a Many start; a Single one stays
 abbrev pub learnHeld : (ℕ → List Range → List Range) → ℕ → ℕ → List (List Range) → Held → Held
 learnHeld part u new ss (single s) = single s
 learnHeld part u new ss (many ts) = many (learnAll part u new 0 ss ts)
@@ -168,6 +184,7 @@ updateAll u (q ∷ qs) ss start =
     else updateAll u qs (onMips (q .selector) (λ s. coalesce (paint u (layerStart (q .selector)) (layerEnd (q .selector)) (q .state) s)) 0 ss)
     (learnHeld (metBy u q) u (q .state) ss start)
 
+-- the start and the end after a given end, with a clause for each arm of its `match`
 unfoldable pub update : UsageFlags → Extent → Ends Held → Given → Ends Held
 unfolding spreadEnd learn updateAll
 update p sh ends given = go (ends .end) given
@@ -179,6 +196,7 @@ update p sh ends given = go (ends .end) given
     go (many ss) (givenMany qs) = updateAll (p .unknown) qs ss (ends .start)
 
 -- ---- The ranged representation
+-- the Rust's functions as a representation
 abbrev pub ranged : Representation
 ranged = record {
   Held = Held;

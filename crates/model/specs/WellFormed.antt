@@ -33,20 +33,23 @@ abbrev pub heldFits : UsageFlags → Extent → Held → Bool
 heldFits p sh (single s) = singleFits p s
 heldFits p sh (many ss) = eqb (length ss) (sh .mips) && every (rangesFit p (sh .layers) 0) ss
 
--- "start and end agree on which cells are exactly UNKNOWN"
+-- two tests give the same
 abbrev pub sameTest : Bool → Bool → Bool
 sameTest true b = b
 sameTest false b = not b
 
+-- two lists are as long, and each pair passes a test
 abbrev pub all₂ : {A : Type 0} → (A → A → Bool) → List A → List A → Bool
 all₂ f [] [] = true
 all₂ f [] (b ∷ t) = false
 all₂ f (a ∷ s) [] = false
 all₂ f (a ∷ s) (b ∷ t) = f a b && all₂ f s t
 
+-- "start and end agree on which cells are exactly UNKNOWN"
 abbrev pub sameUnknown : ℕ → List (List ℕ) → List (List ℕ) → Bool
 sameUnknown u = all₂ (all₂ (λ a b. sameTest (eqb a u) (eqb b u)))
 
+-- start and end of a tracker's texture are each held so, and agree
 abbrev pub endsFit : UsageFlags → Extent → Ends Held → Bool
 endsFit p sh e =
     heldFits p sh (e .start) && heldFits p sh (e .end) && sameUnknown (p .unknown) (subresources sh (e .start)) (subresources sh (e .end))
@@ -61,14 +64,17 @@ setFits fits s =
     numbersFit (s .numbers) && flagsFit (s .flags) && eqb (length (s .slots)) (s .numbers .textures)
     && every (slotFits fits (s .numbers) (s .flags)) (s .slots)
 
+-- a well-formed scope, but for its room
 unfoldable pub scopeFits : Set Held → Bool
 unfolding flagsFit incompatible
 scopeFits s = setFits heldFits s
 
+-- a well-formed tracker, but for its room
 unfoldable pub trackerFits : Tracker Held → Bool
 unfolding flagsFit incompatible subresources
 trackerFits t = setFits endsFit (t .set)
 
+-- a well-formed scope, its room told in ranges: "lent room for N × M × W ranges"
 abbrev pub wellFormedScope : ℕ → Set Held → Bool
 wellFormedScope room s = scopeFits s && leb (capacity (s .numbers)) room
 

@@ -14,20 +14,21 @@ ghost use Rattle.model.specs.RangeCalls.{ascends as ascendsOf, isolateRefusal, 
 ghost use Rattle.ranges.specs.View.{view, decode};
 ghost use Rattle.ranges.specs.Calls.{refusalOf};
 
+// What a check tells.
 pub enum Verdict {
     Accepted,
     Refused(Refusal),
 }
 
 // How many whole records a run has.
-pub fn records(s: &[u32]) -> usize
+fn records(s: &[u32]) -> usize
     ensures { λ r. ⌜ r ≡ length (view (now (s .entry))) ⌝ }
 {
     s.len() / 3
 }
 
 // Whether no range is empty, out of order or overlaps.
-pub fn ascends(s: &[u32], len: usize) -> bool
+fn ascends(s: &[u32], len: usize) -> bool
     requires { ⌜ 3 * len ≤ length (now s) ⌝ }
     ensures { λ r. ⌜ r ≡ ascendsOf 0 (decode len (now (s .entry))) ⌝ }
 {
@@ -50,7 +51,7 @@ pub fn ascends(s: &[u32], len: usize) -> bool
 }
 
 // 14: the told length passes what was lent, or the ranges do not ascend.
-pub fn out_of_order(s: &[u32], told: usize) -> bool
+fn out_of_order(s: &[u32], told: usize) -> bool
     ensures { λ r. ⌜ r ≡ (ltb (length (view (now (s .entry)))) told || not (ascendsOf 0 (take told (view (now (s .entry)))))) ⌝ }
 {
     if records(s) < told {
@@ -59,6 +60,7 @@ pub fn out_of_order(s: &[u32], told: usize) -> bool
     !ascends(s, told)
 }
 
+// What `isolate` is refused for: 10, 14, or 15 for all ranges that it would leave.
 pub fn check_isolate(s: &[u32], told: usize, start: u32, end: u32) -> Verdict
     ensures { λ r. ⌜ ((d : ℕ) → refusalOf r ≡ isolateRefusal start end d told (view (now (s .entry)))) ⌝ }
 {
@@ -75,6 +77,7 @@ pub fn check_isolate(s: &[u32], told: usize, start: u32, end: u32) -> Verdict
     Verdict::Accepted
 }
 
+// What `coalesce` is refused for: 14.
 pub fn check_coalesce(s: &[u32], told: usize) -> Verdict
     ensures { λ r. ⌜ refusalOf r ≡ coalesceRefusal told (view (now (s .entry))) ⌝ }
 {
@@ -84,6 +87,7 @@ pub fn check_coalesce(s: &[u32], told: usize) -> Verdict
     Verdict::Accepted
 }
 
+// What `iter_filter` is refused for: 10, 14, or 15 for the second run.
 pub fn check_filter(s: &[u32], told: usize, start: u32, end: u32, out: &[u32]) -> Verdict
     ensures { λ r. ⌜ refusalOf r ≡ filterRefusal start end told (view (now (s .entry))) (view (now (out .entry))) ⌝ }
 {

@@ -1,20 +1,15 @@
 // `RangedStates::iter_filter`: the overlaps with a range, clipped to it, written to a second borrowed run; and how many they are.
 use crate::get;
-use crate::isolation::larger;
+use crate::larger;
 use crate::put;
+use crate::smaller;
 use model::Range;
 ghost use mathlib.Core.Path.{_≡_};
-ghost use Prim.Native.Nat.{_*_, _≤_, min};
+ghost use Prim.Native.Nat.{_*_, _≤_};
 ghost use lib.ListN.{length};
 ghost use Rattle.model.specs.RangedStates.{iterFilter};
 ghost use Rattle.ranges.specs.View.{decode};
 ghost use Rattle.ranges.specs.Filtering.{overlaps, clip, Counted, Filtered};
-
-pub fn smaller(a: u32, b: u32) -> u32
-    ensures { λ r. ⌜ r ≡ min a b ⌝ }
-{
-    if a < b { a } else { b }
-}
 
 // Whether r has something of what lies from `start` to `end`.
 pub fn overlap(r: Range, start: u32, end: u32) -> bool

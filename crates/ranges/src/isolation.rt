@@ -3,17 +3,18 @@
 // As in the Rust: find the first range that ends past the start, cut it there, and go on until the end is reached, filling gaps.
 use crate::get;
 use crate::insert_record;
+use crate::larger;
 use crate::put;
 use model::Range;
 ghost use mathlib.Core.Path.{_≡_};
-ghost use Prim.Native.Nat.{ℕ, _+_, _*_, _≤_, _<_, max};
+ghost use Prim.Native.Nat.{ℕ, _+_, _*_, _≤_, _<_};
 ghost use lib.ListN.{length, drop, getD};
 ghost use Rattle.model.specs.RangedStates.{listOf, isolate as isolateOf};
 ghost use Rattle.ranges.specs.View.{view, blank, decode};
 ghost use Rattle.ranges.specs.Isolation.{Gapped, EndCut, Covered, Found, StartCut, Isolating, Room, IsolateRoom, gapCount, cutCount, leadCount, Leading, Added};
 
 // The new count, and where the run ends.
-pub struct Placed {
+struct Placed {
     pub len: usize,
     pub end: usize,
 }
@@ -25,14 +26,8 @@ pub struct Isolated {
     pub end: usize,
 }
 
-pub fn larger(a: u32, b: u32) -> u32
-    ensures { λ r. ⌜ r ≡ max a b ⌝ }
-{
-    if a < b { b } else { a }
-}
-
 // Fills what lies between `at` and `start`, if anything, with a record before the one at `pos`. Tells how many records that added.
-pub fn fill_gap(s: &mut [u32], len: usize, pos: usize, at: u32, start: u32, default: u32) -> usize
+fn fill_gap(s: &mut [u32], len: usize, pos: usize, at: u32, start: u32, default: u32) -> usize
     requires { ⌜ pos ≤ len ⌝ }
     requires { ⌜ 3 * (len + gapCount at start) ≤ length (now s) ⌝ }
     ensures { λ r. ⌜ Gapped (now (s .entry)) len pos at start default r (now (s .exit)) ⌝ }
@@ -46,7 +41,7 @@ pub fn fill_gap(s: &mut [u32], len: usize, pos: usize, at: u32, start: u32, defa
 }
 
 // Cuts the record at `pos` at `end`, if it ends past it; what lies before `end` starts at `at`. Tells how many records that added.
-pub fn cut_end(s: &mut [u32], len: usize, pos: usize, at: u32, end: u32) -> usize
+fn cut_end(s: &mut [u32], len: usize, pos: usize, at: u32, end: u32) -> usize
     requires { ⌜ pos < len ⌝ }
     requires { ⌜ 3 * (len + cutCount end (getD (view (now s)) pos blank)) ≤ length (now s) ⌝ }
     ensures { λ r. ⌜ EndCut (now (s .entry)) len pos at end r (now (s .exit)) ⌝ }
@@ -71,7 +66,7 @@ pub fn cut_end(s: &mut [u32], len: usize, pos: usize, at: u32, end: u32) -> usiz
 }
 
 // The first of the first `len` records that ends past x, or `len`.
-pub fn first_past(s: &[u32], len: usize, x: u32) -> usize
+fn first_past(s: &[u32], len: usize, x: u32) -> usize
     requires { ⌜ 3 * len ≤ length (now s) ⌝ }
     ensures { λ r. ⌜ Found (now (s .entry)) len x r ⌝ }
 {
@@ -88,7 +83,7 @@ pub fn first_past(s: &[u32], len: usize, x: u32) -> usize
 }
 
 // Cuts the record at `pos`, if there is one, at x, if it starts before x. Tells how many records that added.
-pub fn cut_start(s: &mut [u32], len: usize, pos: usize, x: u32) -> usize
+fn cut_start(s: &mut [u32], len: usize, pos: usize, x: u32) -> usize
     requires { ⌜ pos ≤ len ⌝ }
     requires { ⌜ 3 * (len + leadCount x (drop pos (decode len (now s)))) ≤ length (now s) ⌝ }
     ensures { λ r. ⌜ StartCut (now (s .entry)) len pos x r (now (s .exit)) ⌝ }
@@ -117,7 +112,7 @@ pub fn cut_start(s: &mut [u32], len: usize, pos: usize, x: u32) -> usize
 }
 
 // From the record at `pos` on, makes the records cover exactly what lies from `at` to `end`: the Rust's loop.
-pub fn cover(s: &mut [u32], len: usize, pos: usize, at: u32, end: u32, default: u32) -> Placed
+fn cover(s: &mut [u32], len: usize, pos: usize, at: u32, end: u32, default: u32) -> Placed
     requires { ⌜ pos ≤ len ⌝ }
     requires { ⌜ Room (now s) len pos at end default ⌝ }
     ensures { λ r. ⌜ Covered (now (s .entry)) len pos at end default r (now (s .exit)) ⌝ }
@@ -130,23 +125,20 @@ pub fn cover(s: &mut [u32], len: usize, pos: usize, at: u32, end: u32, default: 
         let start = r.start;
         let stop = r.end;
         if end <= start {
-            insert_record(s, n, p, a, end, default);
+            break;
+        }
+        let g = fill_gap(s, n, p, a, start, default);
+        n += g;
+        p += g;
+        if end <= stop {
+            let from = larger(a, start);
+            let h = cut_end(s, n, p, from, end);
             return Placed {
-                len: n + 1,
+                len: n + h,
                 end: p + 1,
             };
         }
-        let g = fill_gap(s, n, p, a, start, default);
-        if end <= stop {
-            let from = larger(a, start);
-            let h = cut_end(s, n + g, p + g, from, end);
-            return Placed {
-                len: n + g + h,
-                end: p + g + 1,
-            };
-        }
-        n = n + g;
-        p = p + g + 1;
+        p += 1;
         a = stop;
     }
     insert_record(s, n, p, a, end, default);
@@ -173,7 +165,7 @@ pub fn isolate(s: &mut [u32], len: usize, start: u32, end: u32, default: u32) ->
 }
 
 // How many records a cut at x of the record at `pos`, if there is one, will add.
-pub fn lead(s: &[u32], len: usize, pos: usize, x: u32) -> usize
+fn lead(s: &[u32], len: usize, pos: usize, x: u32) -> usize
     requires { ⌜ pos ≤ len ⌝ }
     requires { ⌜ 3 * len ≤ length (now s) ⌝ }
     ensures { λ r. ⌜ Leading (now (s .entry)) len pos x r ⌝ }
@@ -187,7 +179,7 @@ pub fn lead(s: &[u32], len: usize, pos: usize, x: u32) -> usize
 }
 
 // How many records will be added from the record at `pos` on, so that they cover what lies from `at` to `end`.
-pub fn added(s: &[u32], len: usize, pos: usize, at: u32, end: u32) -> usize
+fn added(s: &[u32], len: usize, pos: usize, at: u32, end: u32) -> usize
     requires { ⌜ pos ≤ len ⌝ }
     requires { ⌜ 3 * len ≤ length (now s) ⌝ }
     ensures { λ r. ⌜ Added (now (s .entry)) len pos at end r ⌝ }

@@ -27,7 +27,7 @@ pub use isolation::isolate;
 pub use isolation::isolated_count;
 use model::Range;
 ghost use mathlib.Core.Path.{_≡_};
-ghost use Prim.Native.Nat.{_+_, _*_, _-_, _≤_};
+ghost use Prim.Native.Nat.{_+_, _*_, _-_, _≤_, min, max};
 ghost use mathlib.Core.List.{_++_};
 ghost use lib.ListN.{length, getD, replicate};
 ghost use Rattle.model.specs.RangedStates.{range};
@@ -58,8 +58,22 @@ pub fn put(s: &mut [u32], k: usize, r: Range)
     s[at + 2] = r.state;
 }
 
+// The smaller of two numbers.
+fn smaller(a: u32, b: u32) -> u32
+    ensures { λ r. ⌜ r ≡ min a b ⌝ }
+{
+    if a < b { a } else { b }
+}
+
+// The larger of two numbers.
+fn larger(a: u32, b: u32) -> u32
+    ensures { λ r. ⌜ r ≡ max a b ⌝ }
+{
+    if a < b { b } else { a }
+}
+
 // Inserts a record at `at` into the first `len`: the records from there on move up by one.
-pub fn insert_record(s: &mut [u32], len: usize, at: usize, start: u32, end: u32, state: u32)
+fn insert_record(s: &mut [u32], len: usize, at: usize, start: u32, end: u32, state: u32)
     requires { ⌜ at ≤ len ⌝ }
     requires { ⌜ 3 * (len + 1) ≤ length (now s) ⌝ }
     ensures { λ _. ⌜ Becomes (now (s .entry)) (len + 1) (insertAt at (range start end state) (decode len (now (s .entry)))) (now (s .exit)) ⌝ }
@@ -74,7 +88,7 @@ pub fn insert_record(s: &mut [u32], len: usize, at: usize, start: u32, end: u32,
 }
 
 // Clears the records from `from` up to, not including, `to`: freed records become zeros.
-pub fn clear(s: &mut [u32], from: usize, to: usize)
+fn clear(s: &mut [u32], from: usize, to: usize)
     requires { ⌜ from ≤ to ⌝ }
     requires { ⌜ 3 * to ≤ length (now s) ⌝ }
     ensures { λ _. ⌜ Becomes (now (s .entry)) to (decode from (now (s .entry)) ++ replicate (to - from) blank) (now (s .exit)) ⌝ }

@@ -17,9 +17,9 @@ use Rattle.model.specs.declared.Outcome.the-variants.{Done, Refused}
 use Rattle.model.specs.Refusals.{firstFailing}
 use Rattle.model.specs.Calls.{Answer, done, CallResult}
 use Rattle.model.specs.Calls as calls
-use Rattle.model.specs.Log.{Log, Logged, added, pending, outcomeOf, refusalOf, orNext, freeCheck, unlessLogged, logging}
+use Rattle.model.specs.Log.{Log, Logged, added, pending, outcomeOf, refusalOf, orNext, freeCheck, unlessLogged, logging, emptying}
 use Rattle.model.specs.Texture.{Entry}
-use Rattle.barrier.specs.Entries.{entriesOf, unused, Added, added-model}
+use Rattle.barrier.specs.Entries.{entriesOf, unused, entries-long, Added, added-model}
 use Rattle.setting.specs.declared.Answered.{Answered}
 use Rattle.setting.specs.Tracked.{logOf, Logs}
 
@@ -90,3 +90,27 @@ log-moves {X} {c} {l} h {l′} {n} after new e z a = record {
   unused = a .rest;
   long = a .long;
 }
+
+-- ---- Emptying: "free gains what was written, written becomes 0, entries stay"
+-- what it answers where the head fits
+abbrev pub emptiedWith : LogHead → Answered
+emptiedWith h = record { outcome = Done; head = record { written = 0; free = h .free + h .written } }
+
+module _ (l : List ℕ) (h : LogHead) where
+  -- as the code counts the entries that were lent
+  lent-fails : (b : Bool) → headFits (length l / 7) h ≡ b → headFits (length (entriesOf l)) h ≡ b
+  lent-fails b z = rw (entries-long l) z
+
+  pub empty-away : headFits (length l / 7) h ≡ false → Logs (emptying (logOf l h)) l (refusedWith LogTooShort h) l
+  unfolding emptying firstFailing
+  empty-away e =
+      let z : ltb (length (entriesOf l)) (h .written + h .free) ≡ true = go _ (lent-fails false e) in
+      rw z (record { answer = refl; head = refl; entries = refl; unused = refl; long = refl })
+    where
+      go : (b : Bool) → not b ≡ false → b ≡ true
+      go true z = refl
+      go false z = sym z
+
+  pub empty-done : headFits (length l / 7) h ≡ true → Logs (emptying (logOf l h)) l (emptiedWith h) l
+  unfolding emptying firstFailing
+  empty-done e = let z : ltb (length (entriesOf l)) (h .written + h .free) ≡ false = not-true _ (lent-fails true e) in rw z (record { answer = refl; head = refl; entries = refl; unused = refl; long = refl })

@@ -6,6 +6,8 @@ use model::Refusal;
 ghost use mathlib.Core.Path.{_≡_};
 ghost use Prim.Native.Nat.{_+_, _/_, _≤_, _<_};
 ghost use lib.ListN.{length};
+ghost use Rattle.model.specs.Log.{emptying};
+ghost use Rattle.setting.specs.Tracked.{logOf, Logs};
 ghost use Rattle.setting.specs.Logging.{headFits, refusedWith, movedOn};
 
 // How many entries were lent. Tells a proof that their numbers can be counted.
@@ -49,6 +51,23 @@ pub fn moved_on(head: LogHead, n: usize) -> Answered
         head: LogHead {
             written: head.written + n,
             free: head.free - n,
+        },
+    }
+}
+
+// Empties the log: free gains what was written, written becomes 0, and the entries stay.
+pub fn empty_log(log: &[u32], head: LogHead) -> Answered
+    ensures { λ x. ⌜ Logs (emptying (logOf (now (log .entry)) head)) (now (log .entry)) x (now (log .entry)) ⌝ }
+{
+    let lent = lent_entries(log);
+    if !head_fits(lent, head) {
+        return refused(Refusal::LogTooShort, head);
+    }
+    Answered {
+        outcome: Outcome::Done,
+        head: LogHead {
+            written: 0,
+            free: head.free + head.written,
         },
     }
 }

@@ -1,4 +1,4 @@
-// Setting: a tracker's calls on one use: `TextureTracker::set_single`, and what every call of a tracker shares.
+// Setting: a tracker's call on one use, `TextureTracker::set_single`, the emptying of the log, and what every call of a tracker shares.
 //
 // Place in the picture: public calls, over the test (`wellformed`), the checks (`checks`), the transitions (`barrier`) and the functions
 // on one texture (`texture`, `updating`). Nothing is required of the caller: any argument, any numbers in the lent storage and any head
@@ -7,7 +7,7 @@
 //
 //     single   one use of one texture
 //     slot     one texture of the tracker, `insert_or_barrier_update`: its transitions, and what it becomes
-//     head     the head of the log
+//     head     the head of the log, and emptying it
 //
 // What holds: the answer, the head, the entries and the view of the tracker are the model's (model/specs/Log, through specs/Tracked:
 // `Tracked`), and a refusal leaves every number as it was.
@@ -15,6 +15,7 @@ pub mod head;
 pub mod single;
 pub mod slot;
 
+pub use head::empty_log;
 use model::LogHead;
 use model::Outcome;
 pub use single::set_single;

@@ -10,7 +10,7 @@ smaller-requires : tie.Need-smaller-requires
 smaller-requires c κs = search needs
 
 returns : tie.Need-returns
-returns c = cc
+returns c = rw (c .before .larger .ensures, c .smaller .ensures)
 
 pub clipped-spec : {M : Type 1} → statement M
 clipped-spec = tie.close (tie.spec larger-requires smaller-requires returns)

@@ -1,9 +1,10 @@
 -- `cover` goes on until one of its ways out: what is left to do, from here, is what was to do from the start.
-use Prim.Native.Nat.{ℕ, _+_, _-_, _≤_, _<_}
+use Prim.Native.Nat.{ℕ, _+_, _-_, _*_, _≤_, _<_}
 use native.Mathlib.Omega.{arith}
 use borrow.Author.Needs.{needs}
 use mathlib.Core.Path.{_≡_, refl, _∙_}
 use mathlib.Core.List.{List}
+use mathlib.Core.Logic.{⊎-elim}
 use lib.ListN.{length, getD}
 use Rattle.model.specs.declared.Range.{Range}
 use Rattle.ranges.specs.declared.isolation.Placed.{Placed}
@@ -44,66 +45,36 @@ loop-holds c = search start-of
 get-requires : tie.Need-get-requires Inv-loop μ-loop
 get-requires c κs = search needs
 
-insert-record-requires : tie.Need-insert-record-requires Inv-loop μ-loop
-insert-record-requires c κs = let j = c .before .before .before .before .before .loop .inv in let n = room-before (j .room) (j .low) (c .before .before .before .before .loop-test .taken) (c .before .before .get .ensures) (c .before .if1 .taken) in search needs
-
-add-t22 : tie.Need-add-t22 Inv-loop μ-loop
-add-t22 c = search needs
-
-add-t23 : tie.Need-add-t23 Inv-loop μ-loop
-add-t23 c = search needs
-
-same-length : tie.Need-same-length Inv-loop μ-loop
-same-length c = search needs
-
-returns : tie.Need-returns Inv-loop μ-loop
-returns c =
-    let head = c .before .before .before .before .before .before .before .before in
-    let j = head .loop .inv in
-    j .on _ _ (cover-before (j .room) (omega arith) (c .before .before .before .before .before .get .ensures) (c .before .before .before .before .if1 .taken) (c .before .before .insert-record .ensures))
-
 fill-gap-requires : tie.Need-fill-gap-requires Inv-loop μ-loop
 fill-gap-requires c κs = let j = c .before .before .before .before .before .loop .inv in (j .low, room-gap (j .room) (j .low) (c .before .before .before .before .loop-test .taken) (c .before .before .get .ensures) (c .before .if1 .left))
-
-larger-requires : tie.Need-larger-requires Inv-loop μ-loop
-larger-requires c κs = search needs
-
-add-cut-end : tie.Need-add-cut-end Inv-loop μ-loop
-add-cut-end c = search needs
-
-add-cut-end-2 : tie.Need-add-cut-end-2 Inv-loop μ-loop
-add-cut-end-2 c = search needs
-
-cut-end-requires : tie.Need-cut-end-requires Inv-loop μ-loop
-cut-end-requires c κs =
-    let j = c .before .before .before .before .before .before .before .before .before .before .before .loop .inv in let t = c .before .before .before .before .before .before .before .before .before .before .loop-test .taken in let o = c .before .before .before .before .before .before .before .before .get .ensures in let u = c .before .before .before .before .before .before .before .if1 .left in
-    (omega arith, cut-fits _ _ _ _ _ (c .before .before .before .before .before .before .before .before .get .result) _ _ (room-gap (j .room) (j .low) t o u) t (c .before .before .before .before .before .fill-gap .ensures) _ o u (j .room) (c .before .before .if2 .taken))
-
-add-t28 : tie.Need-add-t28 Inv-loop μ-loop
-add-t28 c = search needs
-
-add-t29 : tie.Need-add-t29 Inv-loop μ-loop
-add-t29 c = search needs
-
-add-t30 : tie.Need-add-t30 Inv-loop μ-loop
-add-t30 c = search needs
-
-add-t31 : tie.Need-add-t31 Inv-loop μ-loop
-add-t31 c = search needs
-
-same-length-2 : tie.Need-same-length-2 Inv-loop μ-loop
-same-length-2 c = search needs
-
-returns-2 : tie.Need-returns-2 Inv-loop μ-loop
-returns-2 c =
-    let j = c .before .before .before .before .before .before .before .before .before .before .before .before .before .before .loop .inv in let t = c .before .before .before .before .before .before .before .before .before .before .before .before .before .loop-test .taken in let o = c .before .before .before .before .before .before .before .before .before .before .before .get .ensures in let u = c .before .before .before .before .before .before .before .before .before .before .if1 .left in
-    j .on _ _ (cover-cut _ _ _ _ _ (c .before .before .before .before .before .before .before .before .before .before .before .get .result) _ _ (room-gap (j .room) (j .low) t o u) t (c .before .before .before .before .before .before .before .before .fill-gap .ensures) _ o u _ _ _ (omega (arith, c .before .before .cut-end .ensures .fits, c .before .before .before .before .before .before .before .before .fill-gap .ensures .into .long)) (c .before .before .before .before .before .if2 .taken) (c .before .before .before .before .larger .ensures) (c .before .before .cut-end .ensures))
 
 add-n : tie.Need-add-n Inv-loop μ-loop
 add-n c = search needs
 
 add-p : tie.Need-add-p Inv-loop μ-loop
 add-p c = search needs
+
+larger-requires : tie.Need-larger-requires Inv-loop μ-loop
+larger-requires c κs = search needs
+
+cut-end-requires : tie.Need-cut-end-requires Inv-loop μ-loop
+cut-end-requires c κs =
+    let j = c .before .before .before .before .before .before .before .before .before .before .before .loop .inv in let t = c .before .before .before .before .before .before .before .before .before .before .loop-test .taken in let o = c .before .before .before .before .before .before .before .before .get .ensures in let u = c .before .before .before .before .before .before .before .if1 .left in
+    (omega arith, cut-fits _ _ _ _ _ (c .before .before .before .before .before .before .before .before .get .result) _ _ (room-gap (j .room) (j .low) t o u) t (c .before .before .before .before .before .fill-gap .ensures) _ o u (j .room) (c .before .before .if2 .taken))
+
+add-t23 : tie.Need-add-t23 Inv-loop μ-loop
+add-t23 c = search needs
+
+add-t24 : tie.Need-add-t24 Inv-loop μ-loop
+add-t24 c = search needs
+
+same-length : tie.Need-same-length Inv-loop μ-loop
+same-length c = search needs
+
+returns : tie.Need-returns Inv-loop μ-loop
+returns c =
+    let j = c .before .before .before .before .before .before .before .before .before .before .before .before .before .before .loop .inv in let t = c .before .before .before .before .before .before .before .before .before .before .before .before .before .loop-test .taken in let o = c .before .before .before .before .before .before .before .before .before .before .before .get .ensures in let u = c .before .before .before .before .before .before .before .before .before .before .if1 .left in
+    j .on _ _ (cover-cut _ _ _ _ _ (c .before .before .before .before .before .before .before .before .before .before .before .get .result) _ _ (room-gap (j .room) (j .low) t o u) t (c .before .before .before .before .before .before .before .before .fill-gap .ensures) _ o u _ _ _ (omega (arith, c .before .before .cut-end .ensures .fits, c .before .before .before .before .before .before .before .before .fill-gap .ensures .into .long)) (c .before .before .before .before .before .if2 .taken) (c .before .before .before .before .larger .ensures) (c .before .before .cut-end .ensures))
 
 add-p-2 : tie.Need-add-p-2 Inv-loop μ-loop
 add-p-2 c = search needs
@@ -116,22 +87,26 @@ loop-again c =
     let one = c .before .before .before .before .before in
     turn (one .before .before .before .before .loop .inv) (one .before .before .before .loop-test .taken) (one .before .get .ensures) (one .if1 .left) (c .before .before .before .fill-gap .ensures) (c .if2 .left)
 
-insert-record-requires-2 : tie.Need-insert-record-requires-2 Inv-loop μ-loop
-insert-record-requires-2 c κs = let j = c .before .before .loop .inv in let n = room-end (j .room) (j .low) (omega arith) in search needs
+insert-record-requires : tie.Need-insert-record-requires Inv-loop μ-loop
+insert-record-requires c κs =
+    let j = c .before .before .loop .inv in
+    let n : 3 * (c .before .before .loop .n + 1) ≤ length (c .before .before .loop .s) = ⊎-elim (λ w. room-end (j .room) (j .low) (omega arith)) (λ w. room-before (j .room) (j .low) (w .0 .taken) (w .2 .ensures) (w .3 .taken)) (c .before .loop-test .came) in
+    search needs
 
-add-t36 : tie.Need-add-t36 Inv-loop μ-loop
-add-t36 c = search needs
+add-t28 : tie.Need-add-t28 Inv-loop μ-loop
+add-t28 c = search needs
 
-add-t37 : tie.Need-add-t37 Inv-loop μ-loop
-add-t37 c = search needs
+add-t29 : tie.Need-add-t29 Inv-loop μ-loop
+add-t29 c = search needs
 
-same-length-3 : tie.Need-same-length-3 Inv-loop μ-loop
-same-length-3 c = search needs
+same-length-2 : tie.Need-same-length-2 Inv-loop μ-loop
+same-length-2 c = search needs
 
-returns-3 : tie.Need-returns-3 Inv-loop μ-loop
-returns-3 c =
+returns-2 : tie.Need-returns-2 Inv-loop μ-loop
+returns-2 c =
     let j = c .before .before .before .before .before .loop .inv in
-    j .on _ _ (cover-end (j .room) (omega arith) (c .before .before .insert-record2 .ensures))
+    let b = c .before .before .insert-record .ensures in
+    j .on _ _ (⊎-elim (λ w. cover-end (j .room) (omega arith) b) (λ w. cover-before (j .room) (w .0 .taken) (w .2 .ensures) (w .3 .taken) b) (c .before .before .before .before .loop-test .came))
 
 pub cover-spec : {M : Type 1} → statement M
 cover-spec =
@@ -141,29 +116,20 @@ cover-spec =
     μ-loop
     loop-holds
     get-requires
-    insert-record-requires
-    add-t22
-    add-t23
-    same-length
-    returns
     fill-gap-requires
-    larger-requires
-    add-cut-end
-    add-cut-end-2
-    cut-end-requires
-    add-t28
-    add-t29
-    add-t30
-    add-t31
-    same-length-2
-    returns-2
     add-n
     add-p
+    larger-requires
+    cut-end-requires
+    add-t23
+    add-t24
+    same-length
+    returns
     add-p-2
     loop-less
     loop-again
-    insert-record-requires-2
-    add-t36
-    add-t37
-    same-length-3
-    returns-3)
+    insert-record-requires
+    add-t28
+    add-t29
+    same-length-2
+    returns-2)

@@ -1,20 +1,14 @@
-use native.Mathlib.Omega.{arith}
-use borrow.Author.Needs.{needs}
+-- `head_fits`: written and free against what was lent, without a sum that could overflow.
 use Rattle.setting.proofs.Heads.{written-past, free-past, both-in}
 use Rattle.setting.proofs.head.head_fits.Statement.{statement}
 use Rattle.setting.proofs.head.head_fits.Tie as tie
-use Rattle.setting.proofs.head.head_fits.Reads as reads
-use Rattle.setting.proofs.head.head_fits.Lts as lts
 
--- src/head.rt:15:9
 returns : tie.Need-returns
 returns c = written-past ((c .before .before .args) .lent) ((c .before .before .args) .head) (c .if1 .taken)
 
--- src/head.rt:18:9
 returns-2 : tie.Need-returns-2
 returns-2 c = free-past ((c .before .before .before .before .before .args) .lent) ((c .before .before .before .before .before .args) .head) (c .before .before .before .if1 .left) (c .if2 .taken)
 
--- src/head.rt:11:1
 returns-3 : tie.Need-returns-3
 returns-3 c = both-in ((c .before .before .before .before .before .args) .lent) ((c .before .before .before .before .before .args) .head) (c .before .before .before .if1 .left) (c .if2 .left)
 

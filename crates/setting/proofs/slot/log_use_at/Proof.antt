@@ -1,4 +1,4 @@
-use native.Mathlib.Omega.{arith}
+-- `log_use_at`: none where the texture is not owned, otherwise the entries of `barrier`.
 use mathlib.Core.List.{[], _∷_}
 use Rattle.model.specs.Texture.{givenSingle, givenMany}
 use Rattle.texture.specs.Uses.{useOf}
@@ -8,48 +8,34 @@ use Rattle.setting.specs.Single.{old-textured, old-selects, use-all, use
 use borrow.Author.Needs.{needs}
 use Rattle.setting.proofs.slot.log_use_at.Statement.{statement}
 use Rattle.setting.proofs.slot.log_use_at.Tie as tie
-use Rattle.setting.proofs.slot.log_use_at.Reads as reads
-use Rattle.setting.proofs.slot.log_use_at.Lts as lts
-use Rattle.barrier.proofs.barrier_selector.Reads as barrier-selector-reads
-use Rattle.barrier.proofs.barrier_state.Reads as barrier-state-reads
 
--- src/slot.rt:75:14
 add-if1 : tie.Need-add-if1
 add-if1 c = search needs
 
--- src/slot.rt:75:8
 mul-if1 : tie.Need-mul-if1
 mul-if1 c = search needs
 
--- src/slot.rt:75:8
 element-copy-out-if1 : tie.Need-element-copy-out-if1
 element-copy-out-if1 c = search needs
 
--- src/slot.rt:76:9
 returns : tie.Need-returns
 returns c = rw (entries-none ((c .before .before .before .before .before .args) .p) ((c .before .before .before .before .before .args) .mask) ((c .before .before .before .before .before .args) .extent) ((c .before .before .before .before .before .args) .table .now) ((c .before .before .before .before .before .args) .starts .now) ((c .before .before .before .before .before .args) .ends .now) ((c .before .before .before .before .before .args) .i) (useOf ((c .before .before .before .before .before .args) .all) ((c .before .before .before .before .before .args) .q) ((c .before .before .before .before .before .args) .new)) (c .if1 .taken)) (logged-none _ _ _ _ _)
 
--- src/slot.rt:79:9
 barrier-state-requires : tie.Need-barrier-state-requires
 barrier-state-requires c κs = (old-textured ((c .before .before .before .before .before .before .before .pre) .0) ((c .before .before .before .before .before .before .before .pre) .1 .0) (c .before .before .if1 .left), ((c .before .before .before .before .before .before .before .pre) .1 .1 .0, rw ((entries-are ((c .before .before .before .before .before .before .before .args) .p) ((c .before .before .before .before .before .before .before .args) .mask) ((c .before .before .before .before .before .before .before .args) .extent) ((c .before .before .before .before .before .before .before .args) .table .now) ((c .before .before .before .before .before .before .before .args) .starts .now) ((c .before .before .before .before .before .before .before .args) .ends .now) ((c .before .before .before .before .before .before .before .args) .i) (useOf ((c .before .before .before .before .before .before .before .args) .all) ((c .before .before .before .before .before .before .before .args) .q) ((c .before .before .before .before .before .before .before .args) .new)) (givenSingle ((c .before .before .before .before .before .before .before .args) .new)) (use-all ((c .before .before .before .before .before .before .before .args) .all) ((c .before .before .before .before .before .before .before .args) .q) ((c .before .before .before .before .before .before .before .args) .new) (c .before .if2 .taken)) (c .before .before .if1 .left))) at ((c .before .before .before .before .before .before .before .pre) .1 .1 .1)))
 
--- src/slot.rt:79:9
 same-length : tie.Need-same-length
 same-length c = search needs
 
--- src/slot.rt:79:9
 returns-2 : tie.Need-returns-2
 returns-2 c = rw ((entries-are ((c .before .before .before .before .before .before .before .before .before .before .args) .p) ((c .before .before .before .before .before .before .before .before .before .before .args) .mask) ((c .before .before .before .before .before .before .before .before .before .before .args) .extent) ((c .before .before .before .before .before .before .before .before .before .before .args) .table .now) ((c .before .before .before .before .before .before .before .before .before .before .args) .starts .now) ((c .before .before .before .before .before .before .before .before .before .before .args) .ends .now) ((c .before .before .before .before .before .before .before .before .before .before .args) .i) (useOf ((c .before .before .before .before .before .before .before .before .before .before .args) .all) ((c .before .before .before .before .before .before .before .before .before .before .args) .q) ((c .before .before .before .before .before .before .before .before .before .before .args) .new)) (givenSingle ((c .before .before .before .before .before .before .before .before .before .before .args) .new)) (use-all ((c .before .before .before .before .before .before .before .before .before .before .args) .all) ((c .before .before .before .before .before .before .before .before .before .before .args) .q) ((c .before .before .before .before .before .before .before .before .before .before .args) .new) (c .before .before .before .before .if2 .taken)) (c .before .before .before .before .before .if1 .left))) (c .before .before .barrier-state .ensures)
 
--- src/slot.rt:81:5
 barrier-selector-requires : tie.Need-barrier-selector-requires
 barrier-selector-requires c κs = (old-textured ((c .before .before .before .before .before .before .before .pre) .0) ((c .before .before .before .before .before .before .before .pre) .1 .0) (c .before .before .if1 .left), (old-selects ((c .before .before .before .before .before .before .before .pre) .0) ((c .before .before .before .before .before .before .before .pre) .1 .0) (c .before .before .if1 .left), ((c .before .before .before .before .before .before .before .pre) .1 .1 .0, rw ((entries-are ((c .before .before .before .before .before .before .before .args) .p) ((c .before .before .before .before .before .before .before .args) .mask) ((c .before .before .before .before .before .before .before .args) .extent) ((c .before .before .before .before .before .before .before .args) .table .now) ((c .before .before .before .before .before .before .before .args) .starts .now) ((c .before .before .before .before .before .before .before .args) .ends .now) ((c .before .before .before .before .before .before .before .args) .i) (useOf ((c .before .before .before .before .before .before .before .args) .all) ((c .before .before .before .before .before .before .before .args) .q) ((c .before .before .before .before .before .before .before .args) .new)) (givenMany (piece ((c .before .before .before .before .before .before .before .args) .q) ((c .before .before .before .before .before .before .before .args) .new) ∷ [])) (use-part ((c .before .before .before .before .before .before .before .args) .all) ((c .before .before .before .before .before .before .before .args) .q) ((c .before .before .before .before .before .before .before .args) .new) (c .before .if2 .left)) (c .before .before .if1 .left))) at ((c .before .before .before .before .before .before .before .pre) .1 .1 .1))))
 
--- src/slot.rt:54:1
 same-length-2 : tie.Need-same-length-2
 same-length-2 c = search needs
 
--- src/slot.rt:54:1
 returns-3 : tie.Need-returns-3
 returns-3 c = rw ((entries-are ((c .before .before .before .before .before .before .before .before .before .before .args) .p) ((c .before .before .before .before .before .before .before .before .before .before .args) .mask) ((c .before .before .before .before .before .before .before .before .before .before .args) .extent) ((c .before .before .before .before .before .before .before .before .before .before .args) .table .now) ((c .before .before .before .before .before .before .before .before .before .before .args) .starts .now) ((c .before .before .before .before .before .before .before .before .before .before .args) .ends .now) ((c .before .before .before .before .before .before .before .before .before .before .args) .i) (useOf ((c .before .before .before .before .before .before .before .before .before .before .args) .all) ((c .before .before .before .before .before .before .before .before .before .before .args) .q) ((c .before .before .before .before .before .before .before .before .before .before .args) .new)) (givenMany (piece ((c .before .before .before .before .before .before .before .before .before .before .args) .q) ((c .before .before .before .before .before .before .before .before .before .before .args) .new) ∷ [])) (use-part ((c .before .before .before .before .before .before .before .before .before .before .args) .all) ((c .before .before .before .before .before .before .before .before .before .before .args) .q) ((c .before .before .before .before .before .before .before .before .before .before .args) .new) (c .before .before .before .before .if2 .left)) (c .before .before .before .before .before .if1 .left))) (c .before .before .barrier-selector .ensures)
 

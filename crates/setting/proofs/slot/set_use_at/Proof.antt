@@ -1,82 +1,59 @@
-use native.Mathlib.Omega.{arith}
+-- `set_use_at`: an unowned texture is inserted in both halves, an owned one is updated.
 use mathlib.Core.Path.{refl}
 use Rattle.setting.specs.Single.{new-start, new-end, set-new, old-update, old-selecting, use-all, use-part}
 use Rattle.setting.specs.Slot.{slot-old}
 use borrow.Author.Needs.{needs}
 use Rattle.setting.proofs.slot.set_use_at.Statement.{statement}
 use Rattle.setting.proofs.slot.set_use_at.Tie as tie
-use Rattle.setting.proofs.slot.set_use_at.Reads as reads
-use Rattle.setting.proofs.slot.set_use_at.Lts as lts
-use Rattle.texture.proofs.using.insert_use.Reads as insert-use-reads
-use Rattle.texture.proofs.using.own.Reads as own-reads
-use Rattle.updating.proofs.using.update_state.Reads as update-state-reads
-use Rattle.updating.proofs.using.update_use.Reads as update-use-reads
 
--- src/slot.rt:40:14
 add-if1 : tie.Need-add-if1
 add-if1 c = search needs
 
--- src/slot.rt:40:8
 mul-if1 : tie.Need-mul-if1
 mul-if1 c = search needs
 
--- src/slot.rt:40:8
 element-copy-out-if1 : tie.Need-element-copy-out-if1
 element-copy-out-if1 c = search needs
 
--- src/slot.rt:41:9
 own-requires : tie.Need-own-requires
 own-requires c κs = search needs
 
--- src/slot.rt:42:9
 insert-use-requires : tie.Need-insert-use-requires
 insert-use-requires c κs = rw ((c .before .before .own .ensures)) (new-start ((c .before .before .before .before .before .before .before .before .pre) .0) ((c .before .before .before .before .before .before .before .before .pre) .1))
 
--- src/slot.rt:43:9
 insert-use-requires-2 : tie.Need-insert-use-requires-2
 insert-use-requires-2 c κs = new-end ((c .before .before .before .before .before .before .before .before .before .before .before .before .before .pre) .0) ((c .before .before .before .before .before .before .before .before .before .before .before .before .before .pre) .1) (rw ((c .before .before .before .before .before .before .before .own .ensures)) at (c .before .before .before .before .insert-use .ensures))
 
--- src/slot.rt:44:9
 same-length : tie.Need-same-length
 same-length c = search needs
 
--- src/slot.rt:44:9
 same-length-2 : tie.Need-same-length-2
 same-length-2 c = search needs
 
--- src/slot.rt:44:9
 returns : tie.Need-returns
 returns c = set-new ((c .before .before .before .before .before .before .before .before .before .before .before .before .before .before .before .before .pre) .0) ((c .before .before .before .before .before .before .before .before .before .before .before .before .before .before .before .before .pre) .1) (rw ((c .before .before .before .before .before .before .before .before .before .before .own .ensures)) at (c .before .before .before .before .before .before .before .insert-use .ensures)) _ _ (c .before .before .before .before .before .before .before .before .before .before .before .before .if1 .taken) refl (c .before .before .insert-use2 .ensures)
 
--- src/slot.rt:47:9
 update-state-requires : tie.Need-update-state-requires
 update-state-requires c κs = old-update ((c .before .before .before .before .before .before .before .before .pre) .0) ((c .before .before .before .before .before .before .before .before .pre) .1) (c .before .before .before .before .if1 .left)
 
--- src/slot.rt:48:9
 same-length-3 : tie.Need-same-length-3
 same-length-3 c = search needs
 
--- src/slot.rt:48:9
 same-length-4 : tie.Need-same-length-4
 same-length-4 c = search needs
 
--- src/slot.rt:48:9
 returns-2 : tie.Need-returns-2
 returns-2 c = rw (use-all _ _ _ (c .before .before .before .before .before .before .if2 .taken)) (slot-old ((c .before .before .before .before .before .before .before .before .before .before .before .pre) .0) _ _ _ (c .before .before .before .before .before .before .before .if1 .left) (c .before .before .update-state .ensures))
 
--- src/slot.rt:50:5
 update-use-requires : tie.Need-update-use-requires
 update-use-requires c κs = (old-update ((c .before .before .before .before .before .before .before .before .pre) .0) ((c .before .before .before .before .before .before .before .before .pre) .1) (c .before .before .before .before .if1 .left), old-selecting ((c .before .before .before .before .before .before .before .before .pre) .0) ((c .before .before .before .before .before .before .before .before .pre) .1) (c .before .before .before .before .if1 .left))
 
--- src/slot.rt:25:1
 same-length-5 : tie.Need-same-length-5
 same-length-5 c = search needs
 
--- src/slot.rt:25:1
 same-length-6 : tie.Need-same-length-6
 same-length-6 c = search needs
 
--- src/slot.rt:25:1
 returns-3 : tie.Need-returns-3
 returns-3 c = rw (use-part _ _ _ (c .before .before .before .before .before .before .before .before .if2 .left)) (slot-old ((c .before .before .before .before .before .before .before .before .before .before .before .before .before .pre) .0) _ _ _ (c .before .before .before .before .before .before .before .before .before .if1 .left) (c .before .before .before .before .update-use .ensures))
 
