@@ -1,12 +1,115 @@
 // Track: the public calls of the tracker, and demand 3, proved of their own contracts.
 //
-// Place in the picture: the top. Each public call is proved equal to the ranged model on the view of the lent numbers (crates `opening`, `merging`,
-// `setting` and `removing`), and the ranged model agrees with the grid (crate `agreement`); here the two meet. A trace is any list of calls whose steps
-// meet the calls' own contracts, from newly opened storage; at each of its steps the lent numbers show what the grid's run gives, and no step is
+// Place in the picture: the top. Each call is proved equal to the ranged model on the view of the lent numbers, in the crate that it is
+// handed on to (`opening`, `merging`, `setting`, `joining`, `removing`), and the ranged model agrees with the grid (crate `agreement`);
+// here the two meet. The `ensures` below are the definitions that specs/Trace makes traces of: a trace is any list of calls whose steps
+// meet these contracts, from newly opened storage; at each of its steps the lent numbers show what the grid's run gives, and no step is
 // refused because of what it was lent (4, 5 and 15). So nothing but contracts stands between demand 3 and the code.
 //
-// Reading order, in specs/: Trace (definitions alone: what is lent, opened, called and shared) and Demand3 (the theorem). Below them are proofs:
-// LogLaws (an emptied log never refuses, and its entries tell the model's transitions), OpenedLaws (opened storage is the model's, and well formed),
-// StepLaws (a step that meets its contract is the model's) and TraceLaws (step by step, for every trace).
+// What holds of every call: nothing is required. Any argument, any numbers in the lent storage and any head of the log get an answer,
+// and a refusal leaves every number as it was.
 //
-// must-fail/ holds wrong definitions, one edit each, that the proofs refuse.
+// Reading order, in specs/: Trace (definitions alone: what is lent, opened, called and shared) and Demand3 (the theorem). Below them are
+// proofs: LogLaws (an emptied log never refuses, and its entries tell the model's transitions), OpenedLaws (opened storage is the
+// model's, and well formed), StepLaws (a step that meets its contract is the model's) and TraceLaws (step by step, for every trace).
+use model::Extent;
+use model::LogHead;
+use model::Outcome;
+use model::Selection;
+use model::Selector;
+use model::TrackerIndex;
+use model::UsageFlags;
+use setting::Answered;
+use storage::Table;
+ghost use Rattle.opening.specs.Open.{OpenedScope, OpenedTracker};
+ghost use Rattle.track.specs.Trace.{MergeSingle, MergeUsageScope, SetSingle, Emptying};
+
+// Opens a scope for n textures of m mips and w layers.
+pub fn open_scope(
+    table: &mut Table,
+    ranges: &[u32],
+    n: u32,
+    m: u32,
+    w: u32,
+    p: UsageFlags,
+) -> Outcome
+    ensures { λ x. ⌜ OpenedScope (now (table .entry)) (now (ranges .entry)) n m w p x (now (table .exit)) ⌝ }
+{
+    opening::open_scope(table, ranges, n, m, w, p)
+}
+
+// Opens a tracker, with an ordered mask.
+pub fn open_tracker(
+    table: &mut Table,
+    starts: &[u32],
+    ends: &[u32],
+    n: u32,
+    m: u32,
+    w: u32,
+    p: UsageFlags,
+    mask: u16,
+) -> Outcome
+    ensures { λ x. ⌜ OpenedTracker (now (table .entry)) (now (starts .entry)) (now (ends .entry)) n m w p mask x (now (table .exit)) ⌝ }
+{
+    opening::open_tracker(table, starts, ends, n, m, w, p, mask)
+}
+
+// Merges one use of one texture into a scope.
+pub fn merge_single(
+    table: &mut Table,
+    ranges: &mut [u32],
+    index: TrackerIndex,
+    extent: Extent,
+    selection: Selection,
+    state: u16,
+) -> Outcome
+    ensures { λ x. ⌜ MergeSingle (record { table = now (table .entry); ranges = now (ranges .entry) }) index extent selection state x (record { table = now (table .exit); ranges = now (ranges .exit) }) ⌝ }
+{
+    merging::merge_single(table, ranges, index, extent, selection, state)
+}
+
+// Merges every texture of another scope into a scope, up to the first conflict.
+pub fn merge_usage_scope(
+    table: &mut Table,
+    ranges: &mut [u32],
+    given: &Table,
+    lent: &[u32],
+) -> Outcome
+    ensures { λ x. ⌜ MergeUsageScope (record { table = now (table .entry); ranges = now (ranges .entry) }) (record { table = now (given .entry); ranges = now (lent .entry) }) x (record { table = now (table .exit); ranges = now (ranges .exit) }) ⌝ }
+{
+    merging::merge_usage_scope(table, ranges, given, lent)
+}
+
+// Sets one use of one texture in a tracker, and logs its transitions.
+pub fn set_single(
+    table: &mut Table,
+    starts: &mut [u32],
+    ends: &mut [u32],
+    index: TrackerIndex,
+    extent: Extent,
+    selector: Selector,
+    state: u16,
+    log: &mut [u32],
+    head: LogHead,
+) -> Answered
+    ensures { λ x. ⌜ SetSingle (record { table = now (table .entry); starts = now (starts .entry); ends = now (ends .entry) }) index extent selector state head (now (log .entry)) x (record { table = now (table .exit); starts = now (starts .exit); ends = now (ends .exit) }) (now (log .exit)) ⌝ }
+{
+    setting::set_single(
+        table,
+        starts,
+        ends,
+        index,
+        extent,
+        selector,
+        state,
+        log,
+        head,
+    )
+}
+
+// Empties the log: free gains what was written, written becomes 0, and the entries stay.
+pub fn empty_log(log: &[u32], head: LogHead) -> Answered
+    ensures { λ x. ⌜ Emptying head (now (log .entry)) x ⌝ }
+{
+    setting::empty_log(log, head)
+}
