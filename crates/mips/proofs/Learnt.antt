@@ -10,7 +10,7 @@ use Rattle.model.specs.declared.Range.{Range}
 use Rattle.model.specs.RangedStates.{coalesce, paint}
 use Rattle.model.specs.Texture.{learn}
 use Rattle.ranges.specs.View.{view, decode, blank}
-use Rattle.ranges.specs.Isolation.{IsolateRoom}
+use Rattle.isolating.specs.Isolation.{IsolateRoom}
 use Rattle.ranges.proofs.Inserting.{next-is}
 use Rattle.mips.specs.Paint.{Leaves}
 use Rattle.mips.specs.Learn.{learnt, LearnFits, LearnRoom}

@@ -10,9 +10,9 @@ use Rattle.model.specs.declared.Range.{Range}
 use Rattle.model.specs.RangedStates.{range, inState, isolate, coalesce, paint}
 use Rattle.ranges.specs.View.{view, decode, Put, Becomes, view-long, becomes-live}
 use Rattle.ranges.specs.Coalescing.{Coalesced}
-use Rattle.ranges.specs.Isolation.{Isolating, IsolateRoom}
-use Rattle.ranges.specs.Tiling.{tiles-one, isolate-room}
-use Rattle.ranges.specs.declared.isolation.Isolated.{Isolated}
+use Rattle.isolating.specs.Isolation.{Isolating, IsolateRoom}
+use Rattle.isolating.specs.Tiling.{tiles-one, isolate-room}
+use Rattle.isolating.specs.declared.isolation.Isolated.{Isolated}
 use Rattle.mips.specs.Pass.{passed}
 use Rattle.mips.specs.Paint.{Leaves, coalescedIf, spreadOn}
 use Rattle.mips.proofs.Passing.{Passing, finish}

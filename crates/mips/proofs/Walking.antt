@@ -17,8 +17,8 @@ use Rattle.model.specs.Representation.{select}
 use Rattle.model.specs.Texture.{invalidUse, mergeRange, mergeEvery, settled}
 use Rattle.ranges.specs.View.{view, blank, decode, Becomes, view-long, becomes-live}
 use Rattle.ranges.specs.Coalescing.{Coalesced}
-use Rattle.ranges.specs.Isolation.{Isolating}
-use Rattle.ranges.specs.declared.isolation.Isolated.{Isolated}
+use Rattle.isolating.specs.Isolation.{Isolating}
+use Rattle.isolating.specs.declared.isolation.Isolated.{Isolated}
 use Rattle.mips.specs.declared.merging.Merged.{Merged}
 use Rattle.mips.specs.declared.merging.Met.the-variants.{Nothing, Conflict}
 use Rattle.mips.specs.Pass.{passed, passedCount, Passed}

@@ -3,13 +3,13 @@ use model::Range;
 use model::UsageFlags;
 use ranges::coalesce;
 use ranges::get;
-use ranges::isolate;
+use isolating::isolate;
 use ranges::put;
 use usage::United;
 use usage::unite_known;
 ghost use Prim.Native.Nat.{_*_, _≤_};
 ghost use lib.ListN.{length};
-ghost use Rattle.ranges.specs.Isolation.{IsolateRoom};
+ghost use Rattle.isolating.specs.Isolation.{IsolateRoom};
 ghost use Rattle.mips.specs.Pass.{Passed};
 ghost use Rattle.mips.specs.Merge.{runStops, runTakes, PieceMerged, EveryMerged};
 

@@ -2,14 +2,14 @@
 use model::Range;
 use ranges::coalesce;
 use ranges::get;
-use ranges::isolate;
+use isolating::isolate;
 use ranges::put;
 ghost use mathlib.Core.List.{[], _∷_, _++_, map};
 ghost use Prim.Native.Nat.{_*_, _≤_, _<_};
 ghost use lib.ListN.{length, drop};
 ghost use Rattle.model.specs.RangedStates.{range, inState, coalesce as coalesceOf, paint as paintOf};
 ghost use Rattle.ranges.specs.View.{decode, Becomes};
-ghost use Rattle.ranges.specs.Isolation.{IsolateRoom};
+ghost use Rattle.isolating.specs.Isolation.{IsolateRoom};
 ghost use Rattle.mips.specs.Paint.{Leaves, coalescedIf, spreadOn};
 
 // The ranges from `from` up to `to` take a state.

@@ -1,10 +1,5 @@
 pub mod Agree
-pub mod Shift
 pub mod Filled
 pub mod Joining
 pub mod Inserting
-pub mod Covering
-pub mod Isolating
-pub mod Counting
 pub mod Overlaps
-pub mod Ascending

@@ -1,7 +1,7 @@
 // Ranges: the Rust's `RangedStates` (range.rs) on plain numbers in a borrowed slice.
 //
-// Place in the picture: over `model`, whose lists say what each function does, and under `mips`, which merges and paints one mip of a
-// texture with it, and `records`, which offers the same calls over range records.
+// Place in the picture: over `model`, whose lists say what each function does, and under `isolating`, which cuts ranges, `range_checks`,
+// which checks the calls on ranges, and `mips`, which merges and paints one mip of a texture with them.
 //
 //     slice of u32:   start end state | start end state | .. | free records | up to two numbers that make no record
 //                     record 0          record 1              from `len` on
@@ -10,29 +10,18 @@
 // What holds of every function: record k stands at the numbers 3k, 3k + 1 and 3k + 2; only `get` and `put` know that. All others are
 // stated over `view`, the list of the records (specs/View), in the form `Becomes`: the first records become what the model's definition
 // gives, and every other number of the slice stays. Nothing is asked of the ranges: they may have gaps, be empty or overlap.
-pub mod checking;
 pub mod coalescing;
 pub mod filtering;
-pub mod isolation;
 
-pub use checking::Verdict;
-pub use checking::check_coalesce;
-pub use checking::check_filter;
-pub use checking::check_isolate;
 pub use coalescing::coalesce;
 pub use filtering::filtered_count;
 pub use filtering::iter_filter;
-pub use isolation::Isolated;
-pub use isolation::isolate;
-pub use isolation::isolated_count;
 use model::Range;
 ghost use mathlib.Core.Path.{_≡_};
 ghost use Prim.Native.Nat.{_+_, _*_, _-_, _≤_, min, max};
 ghost use mathlib.Core.List.{_++_};
 ghost use lib.ListN.{length, getD, replicate};
-ghost use Rattle.model.specs.RangedStates.{range};
 ghost use Rattle.ranges.specs.View.{view, decode, blank, Put, Becomes};
-ghost use Rattle.ranges.specs.Insert.{insertAt};
 
 // The record at k.
 pub fn get(s: &[u32], k: usize) -> Range
@@ -66,25 +55,10 @@ fn smaller(a: u32, b: u32) -> u32
 }
 
 // The larger of two numbers.
-fn larger(a: u32, b: u32) -> u32
+pub fn larger(a: u32, b: u32) -> u32
     ensures { λ r. ⌜ r ≡ max a b ⌝ }
 {
     if a < b { b } else { a }
-}
-
-// Inserts a record at `at` into the first `len`: the records from there on move up by one.
-fn insert_record(s: &mut [u32], len: usize, at: usize, start: u32, end: u32, state: u32)
-    requires { ⌜ at ≤ len ⌝ }
-    requires { ⌜ 3 * (len + 1) ≤ length (now s) ⌝ }
-    ensures { λ _. ⌜ Becomes (now (s .entry)) (len + 1) (insertAt at (range start end state) (decode len (now (s .entry)))) (now (s .exit)) ⌝ }
-{
-    let mut k = len;
-    while at < k {
-        let r = get(s, k - 1);
-        put(s, k, r);
-        k -= 1;
-    }
-    put(s, at, Range { start, end, state });
 }
 
 // Clears the records from `from` up to, not including, `to`: freed records become zeros.

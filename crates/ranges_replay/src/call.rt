@@ -2,7 +2,7 @@
 use libc::STDOUT_FILENO;
 use model::Range;
 use model::Refusal;
-use ranges::Verdict;
+use range_checks::Verdict;
 ghost use mathlib.Core.Path.{_≡_};
 ghost use Prim.Native.Nat.{_*_, _≤_};
 ghost use lib.ListN.{length};
@@ -92,10 +92,10 @@ pub fn case(numbers: &[u32]) {
 }
 
 fn isolate(s: &mut [u32], told: usize, start: u32, end: u32, default: u32) {
-    match ranges::check_isolate(s, told, start, end) {
+    match range_checks::check_isolate(s, told, start, end) {
         Verdict::Refused(r) => tell_refusal(r),
         Verdict::Accepted => {
-            let i = ranges::isolate(s, told, start, end, default);
+            let i = isolating::isolate(s, told, start, end, default);
             io::write_all(STDOUT_FILENO, b"isolated");
             tell(i.position);
             tell(i.end - i.position);
@@ -130,7 +130,7 @@ pub fn isolate_line(numbers: &[u32], records: &mut [u32]) {
 }
 
 fn coalesce(s: &mut [u32], told: usize) {
-    match ranges::check_coalesce(s, told) {
+    match range_checks::check_coalesce(s, told) {
         Verdict::Refused(r) => tell_refusal(r),
         Verdict::Accepted => {
             let n = ranges::coalesce(s, told);
@@ -160,7 +160,7 @@ pub fn coalesce_line(numbers: &[u32], records: &mut [u32]) {
 }
 
 fn filter(s: &[u32], told: usize, start: u32, end: u32, out: &mut [u32]) {
-    match ranges::check_filter(s, told, start, end, out) {
+    match range_checks::check_filter(s, told, start, end, out) {
         Verdict::Refused(r) => tell_refusal(r),
         Verdict::Accepted => {
             let n = ranges::iter_filter(s, told, start, end, out);

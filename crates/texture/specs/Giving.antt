@@ -17,7 +17,7 @@ use Rattle.model.specs.Representation.{select, layerStart, layerEnd, inMips}
 use Rattle.model.specs.RangedStates.{coalesce, paint, Tiles}
 use Rattle.model.specs.Texture.{Piece, onMips, piecesOf, paintAll, spreadPiece, spreadEnd, mergeMip, invalidUse}
 use Rattle.ranges.specs.View.{decode}
-use Rattle.ranges.specs.Tiling.{by-test, paint-tiles}
+use Rattle.isolating.specs.Tiling.{by-test, paint-tiles}
 use Rattle.mips.specs.Merge.{mergeRun, merge-mip, merge-other}
 use Rattle.mips.specs.Kept.{run-tiles, update-tiles}
 use Rattle.storage.specs.Storage.{numbersOf, mipsIn, mipOf, mipsOf}

@@ -13,8 +13,8 @@ use Rattle.model.specs.Representation.{mipStart, mipEnd, layerStart, layerEnd}
 use Rattle.model.specs.Sets.{Numbers}
 use Rattle.model.specs.RangedStates.{Tiles}
 use Rattle.ranges.specs.View.{decode}
-use Rattle.ranges.specs.Isolation.{IsolateRoom}
-use Rattle.ranges.specs.Tiling.{isolate-room}
+use Rattle.isolating.specs.Isolation.{IsolateRoom}
+use Rattle.isolating.specs.Tiling.{isolate-room}
 use Rattle.storage.specs.Part.{baseOf, partOf, part-length, by-lt}
 use Rattle.storage.specs.Storage.{numbersOf, mipsIn, countAt, mipPart, mipOf, mipsOf}
 use Rattle.storage.specs.Frames.{Measured, Frame, MipsBecome, MipReady, mip-is, mip-put, room-of, mips-top, measured-then, mips-same}

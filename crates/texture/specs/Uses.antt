@@ -19,7 +19,7 @@ use Rattle.model.specs.Sets.{Numbers}
 use Rattle.model.specs.Representation.{mipStart, mipEnd, layerStart, layerEnd, full}
 use Rattle.model.specs.RangedStates.{range, coalesce, paint, Tiles}
 use Rattle.model.specs.Texture.{Held, single, many, Given, givenSingle, givenMany, Piece, onMips, freshMips, paintAll, insert, spreadPiece, mergeMip, mergeEvery, invalidUse, asMany, merge}
-use Rattle.ranges.specs.Tiling.{tiles-one}
+use Rattle.isolating.specs.Tiling.{tiles-one}
 use Rattle.storage.specs.Storage.{numbersOf, flagsOf, mipsIn, mipOf, mipsOf, heldOf}
 use Rattle.storage.specs.Frames.{Measured, Frame, HalfFrame, MipsBecome, half-of, half-then, half-measured, half-word, mips-same, mip-at, mips-long}
 use Rattle.storage.specs.Slots.{HalfBecomes, become-single, become-many, held-many, held-single, half-low}

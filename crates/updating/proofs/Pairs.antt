@@ -10,8 +10,8 @@ use Rattle.model.specs.RangedStates.{inState, isolate}
 use Rattle.model.specs.Texture.{learn}
 use Rattle.ranges.specs.View.{view, decode, Becomes, becomes-none, becomes-live}
 use Rattle.ranges.specs.Coalescing.{Coalesced}
-use Rattle.ranges.specs.Isolation.{Isolating}
-use Rattle.ranges.specs.declared.isolation.Isolated.{Isolated}
+use Rattle.isolating.specs.Isolation.{Isolating}
+use Rattle.isolating.specs.declared.isolation.Isolated.{Isolated}
 use Rattle.mips.specs.Learn.{LearnRoom}
 use Rattle.mips.specs.Paint.{Leaves}
 use Rattle.mips.proofs.Runs.{the-run}

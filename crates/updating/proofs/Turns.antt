@@ -16,8 +16,8 @@ use Rattle.model.specs.Representation.{mipStart, mipEnd, layerStart, layerEnd}
 use Rattle.model.specs.RangedStates.{isolate, coalesce, paint}
 use Rattle.model.specs.Texture.{learn, learnAll, metBy, onMips}
 use Rattle.ranges.specs.View.{decode}
-use Rattle.ranges.specs.Isolation.{IsolateRoom}
-use Rattle.ranges.specs.Tiling.{isolate-cuts}
+use Rattle.isolating.specs.Isolation.{IsolateRoom}
+use Rattle.isolating.specs.Tiling.{isolate-cuts}
 use Rattle.mips.specs.Learn.{LearnRoom}
 use Rattle.mips.specs.Kept.{learn-room, tiles-within}
 use Rattle.storage.specs.Storage.{numbersOf, startHalf, endHalf, countAt, mipsIn, mipOf, mipsOf}

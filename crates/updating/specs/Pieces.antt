@@ -12,7 +12,7 @@ use Rattle.model.specs.Base.{if_then_else_}
 use Rattle.model.specs.Representation.{Ends, layerStart, layerEnd, inMips}
 use Rattle.model.specs.RangedStates.{isolate, coalesce, paint, Tiles}
 use Rattle.model.specs.Texture.{Held, single, many, Piece, onMips, learnAll, learnHeld, metBy, updateAll}
-use Rattle.ranges.specs.Tiling.{by-test, isolate-cuts}
+use Rattle.isolating.specs.Tiling.{by-test, isolate-cuts}
 use Rattle.mips.specs.Kept.{Within, learn-tiles, tiles-within, update-tiles}
 use Rattle.storage.specs.Storage.{numbersOf, flagsOf, startHalf, endHalf, endsOf}
 use Rattle.storage.specs.Frames.{Measured}

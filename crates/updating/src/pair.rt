@@ -2,10 +2,10 @@
 use mips::learn;
 use mips::painting::set_run;
 use ranges::coalesce;
-use ranges::isolate;
+use isolating::isolate;
 ghost use Rattle.model.specs.RangedStates.{isolate as isolateOf};
 ghost use Rattle.ranges.specs.View.{decode};
-ghost use Rattle.ranges.specs.Isolation.{IsolateRoom};
+ghost use Rattle.isolating.specs.Isolation.{IsolateRoom};
 ghost use Rattle.mips.specs.Learn.{LearnRoom};
 ghost use Rattle.updating.specs.Pair.{PairLeft};
 

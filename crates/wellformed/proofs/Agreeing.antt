@@ -12,7 +12,7 @@ use Rattle.model.specs.declared.Range.{Range}
 use Rattle.model.specs.RangedStates.{layerStates, Tiles}
 use Rattle.model.specs.WellFormed.{all₂}
 use Rattle.ranges.specs.View.{view, decode, blank}
-use Rattle.ranges.specs.Tiling.{tiles-count}
+use Rattle.isolating.specs.Tiling.{tiles-count}
 use Rattle.ranges.proofs.Inserting.{next-is}
 use Rattle.storage.specs.Part.{by-lt}
 use Rattle.wellformed.specs.Unknowns.{agrees, layersAgree, passed, SameLayers}

@@ -1,6 +1,6 @@
 -- What is accepted has the room that `coalesce` asks for.
 use mathlib.Core.Path.{sym, ap, _∙_}
-use Rattle.ranges.specs.Calls.{refusalOf, coalesce-accepted}
+use Rattle.range_checks.specs.Calls.{refusalOf, coalesce-accepted}
 use borrow.Author.Needs.{needs}
 use Rattle.ranges_replay.proofs.call.coalesce.Statement.{statement}
 use Rattle.ranges_replay.proofs.call.coalesce.Tie as tie

@@ -1,6 +1,6 @@
 -- What is accepted has the room that `iter_filter` asks for.
 use mathlib.Core.Path.{sym, ap, _∙_}
-use Rattle.ranges.specs.Calls.{refusalOf, filter-accepted}
+use Rattle.range_checks.specs.Calls.{refusalOf, filter-accepted}
 use borrow.Author.Needs.{needs}
 use Rattle.ranges_replay.proofs.call.filter.Statement.{statement}
 use Rattle.ranges_replay.proofs.call.filter.Tie as tie

@@ -1,6 +1,6 @@
 -- What is accepted has the room that `isolate` asks for.
 use mathlib.Core.Path.{sym, ap, _∙_}
-use Rattle.ranges.specs.Calls.{refusalOf, isolate-accepted}
+use Rattle.range_checks.specs.Calls.{refusalOf, isolate-accepted}
 use borrow.Author.Needs.{needs}
 use Rattle.ranges_replay.proofs.call.isolate.Statement.{statement}
 use Rattle.ranges_replay.proofs.call.isolate.Tie as tie

@@ -1,0 +1,4 @@
+pub mod Shift
+pub mod Covering
+pub mod Isolating
+pub mod Counting

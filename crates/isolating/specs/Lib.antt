@@ -1,0 +1,2 @@
+pub mod Isolation
+pub mod Tiling

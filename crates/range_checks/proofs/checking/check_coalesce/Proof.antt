@@ -1,0 +1,20 @@
+-- `check_coalesce` is check 14.
+use mathlib.Core.Path.{sym, _∙_}
+use Rattle.model.specs.Refusals.{firstFailing}
+use borrow.Author.Needs.{needs}
+use Rattle.range_checks.proofs.checking.check_coalesce.Statement.{statement}
+use Rattle.range_checks.proofs.checking.check_coalesce.Tie as tie
+
+out-of-order-requires : tie.Need-out-of-order-requires
+out-of-order-requires c κs = search needs
+
+returns : tie.Need-returns
+unfolding firstFailing
+returns c = let o = sym (c .before .out-of-order .ensures) ∙ (c .if1 .taken) in rw o
+
+returns-2 : tie.Need-returns-2
+unfolding firstFailing
+returns-2 c = let o = sym (c .before .out-of-order .ensures) ∙ (c .if1 .left) in rw o
+
+pub check-coalesce-spec : {M : Type 1} → statement M
+check-coalesce-spec = tie.close (tie.spec out-of-order-requires returns returns-2)

@@ -1,0 +1,45 @@
+-- `check_isolate` is the three checks, in their order.
+use mathlib.Core.Path.{sym, _∙_}
+use Rattle.range_checks.specs.Calls.{told-fits}
+use borrow.Author.Tests.{lt-ltb, le-ltb}
+use Rattle.model.specs.Refusals.{firstFailing}
+use borrow.Author.Needs.{needs}
+use Rattle.range_checks.proofs.checking.check_isolate.Statement.{statement}
+use Rattle.range_checks.proofs.checking.check_isolate.Tie as tie
+
+returns : tie.Need-returns
+unfolding firstFailing
+returns c = λ d. rw (le-ltb _ _ (c .if1 .taken))
+
+out-of-order-requires : tie.Need-out-of-order-requires
+out-of-order-requires c κs = search needs
+
+returns-2 : tie.Need-returns-2
+unfolding firstFailing
+returns-2 c = λ d. let o = sym (c .before .out-of-order .ensures) ∙ (c .if2 .taken) in rw (lt-ltb _ _ (c .before .before .if1 .left), o)
+
+isolated-count-requires : tie.Need-isolated-count-requires
+isolated-count-requires c κs = let o = sym (c .before .out-of-order .ensures) ∙ (c .if2 .left) in told-fits (c .before .before .before .before .args .s .now) _ _ o
+
+records-requires : tie.Need-records-requires
+records-requires c κs = search needs
+
+returns-3 : tie.Need-returns-3
+unfolding firstFailing
+returns-3 c = λ d. let o = sym (c .before .before .before .before .out-of-order .ensures) ∙ (c .before .before .before .if2 .left) in let h = rw ((c .before .records .ensures), (c .before .before .isolated-count .ensures) d) at (c .if3 .taken) in rw (lt-ltb _ _ (c .before .before .before .before .before .if1 .left), o, lt-ltb _ _ h)
+
+returns-4 : tie.Need-returns-4
+unfolding firstFailing
+returns-4 c = λ d. let o = sym (c .before .before .before .before .out-of-order .ensures) ∙ (c .before .before .before .if2 .left) in let h = rw ((c .before .records .ensures), (c .before .before .isolated-count .ensures) d) at (c .if3 .left) in rw (lt-ltb _ _ (c .before .before .before .before .before .if1 .left), o, le-ltb _ _ h)
+
+pub check-isolate-spec : {M : Type 1} → statement M
+check-isolate-spec =
+    tie.close
+    (tie.spec
+    returns
+    out-of-order-requires
+    returns-2
+    isolated-count-requires
+    records-requires
+    returns-3
+    returns-4)

@@ -1,0 +1,11 @@
+-- A third of the numbers make the records.
+use mathlib.Core.Path.{sym}
+use Rattle.ranges.specs.View.{view-count}
+use Rattle.range_checks.proofs.checking.records.Statement.{statement}
+use Rattle.range_checks.proofs.checking.records.Tie as tie
+
+returns : tie.Need-returns
+returns c = sym (view-count _)
+
+pub records-spec : {M : Type 1} → statement M
+records-spec = tie.close (tie.spec returns)
