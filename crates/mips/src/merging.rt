@@ -1,9 +1,9 @@
 // A given state on the ranges of one mip: texture.rs, `merge`, where the texture is held by ranges.
+use isolating::isolate;
 use model::Range;
 use model::UsageFlags;
 use ranges::coalesce;
 use ranges::get;
-use isolating::isolate;
 use ranges::put;
 use usage::United;
 use usage::unite_known;

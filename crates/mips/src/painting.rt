@@ -1,8 +1,8 @@
 // A run of ranges takes one state: what `insert`, `merge` of Single with Many, and `update` do with an isolated run.
+use isolating::isolate;
 use model::Range;
 use ranges::coalesce;
 use ranges::get;
-use isolating::isolate;
 use ranges::put;
 ghost use mathlib.Core.List.{[], _∷_, _++_, map};
 ghost use Prim.Native.Nat.{_*_, _≤_, _<_};

@@ -22,7 +22,7 @@ use model::UsageFlags;
 use setting::Answered;
 use storage::Table;
 ghost use Rattle.opening.specs.Open.{OpenedScope, OpenedTracker};
-ghost use Rattle.track.specs.Trace.{MergeSingle, MergeUsageScope, SetSingle, Emptying};
+ghost use Rattle.track.specs.Trace.{MergeSingle, MergeUsageScope, SetSingle, SetFromUsageScope, SetFromTracker, Emptying};
 
 // Opens a scope for n textures of m mips and w layers.
 pub fn open_scope(
@@ -105,6 +105,37 @@ pub fn set_single(
         log,
         head,
     )
+}
+
+// Sets every texture that a scope owns in a tracker, and logs their transitions.
+pub fn set_from_usage_scope(
+    table: &mut Table,
+    starts: &mut [u32],
+    ends: &mut [u32],
+    given: &Table,
+    lent: &[u32],
+    log: &mut [u32],
+    head: LogHead,
+) -> Answered
+    ensures { λ x. ⌜ SetFromUsageScope (record { table = now (table .entry); starts = now (starts .entry); ends = now (ends .entry) }) (record { table = now (given .entry); ranges = now (lent .entry) }) head (now (log .entry)) x (record { table = now (table .exit); starts = now (starts .exit); ends = now (ends .exit) }) (now (log .exit)) ⌝ }
+{
+    joining::set_from_usage_scope(table, starts, ends, given, lent, log, head)
+}
+
+// Joins a tracker with another: transitions go to the other's start, and its end is what they leave.
+pub fn set_from_tracker(
+    table: &mut Table,
+    starts: &mut [u32],
+    ends: &mut [u32],
+    given: &Table,
+    first: &[u32],
+    last: &[u32],
+    log: &mut [u32],
+    head: LogHead,
+) -> Answered
+    ensures { λ x. ⌜ SetFromTracker (record { table = now (table .entry); starts = now (starts .entry); ends = now (ends .entry) }) (record { table = now (given .entry); starts = now (first .entry); ends = now (last .entry) }) head (now (log .entry)) x (record { table = now (table .exit); starts = now (starts .exit); ends = now (ends .exit) }) (now (log .exit)) ⌝ }
+{
+    joining::set_from_tracker(table, starts, ends, given, first, last, log, head)
 }
 
 // Empties the log: free gains what was written, written becomes 0, and the entries stay.

@@ -1,8 +1,8 @@
 // One mip of a tracker's start and end, as two borrowed parts: the start learns by the run that a piece isolates on the end.
+use isolating::isolate;
 use mips::learn;
 use mips::painting::set_run;
 use ranges::coalesce;
-use isolating::isolate;
 ghost use Rattle.model.specs.RangedStates.{isolate as isolateOf};
 ghost use Rattle.ranges.specs.View.{decode};
 ghost use Rattle.isolating.specs.Isolation.{IsolateRoom};

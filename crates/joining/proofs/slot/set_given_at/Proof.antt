@@ -1,0 +1,62 @@
+-- `set_given_at`: an unowned texture is owned and takes the given start and end, an owned one is updated by the given end.
+use borrow.Author.Needs.{needs}
+use Rattle.joining.specs.Slot.{start-ready, end-ready, set-new, update-ready, set-old}
+use Rattle.joining.proofs.slot.set_given_at.Statement.{statement}
+use Rattle.joining.proofs.slot.set_given_at.Tie as tie
+
+add-if1 : tie.Need-add-if1
+add-if1 c = search needs
+
+mul-if1 : tie.Need-mul-if1
+mul-if1 c = search needs
+
+element-copy-out-if1 : tie.Need-element-copy-out-if1
+element-copy-out-if1 c = search needs
+
+own-requires : tie.Need-own-requires
+own-requires c κs = search needs
+
+insert-given-requires : tie.Need-insert-given-requires
+insert-given-requires c κs = let p = c .before .before .before .before .before .before .before .before .before .before .pre in rw (c .before .before .own .ensures) (start-ready (p .0) (p .1))
+
+insert-given-requires-2 : tie.Need-insert-given-requires-2
+insert-given-requires-2 c κs = let p = c .before .before .before .before .before .before .before .before .before .before .before .before .before .before .before .pre in end-ready (p .0) (p .1) (rw (c .before .before .before .before .before .before .before .own .ensures) at (c .before .before .before .before .insert-given .ensures))
+
+same-length : tie.Need-same-length
+same-length c = search needs
+
+same-length-2 : tie.Need-same-length-2
+same-length-2 c = search needs
+
+returns : tie.Need-returns
+returns c = let p = c .before .before .before .before .before .before .before .before .before .before .before .before .before .before .before .before .before .before .pre in set-new (p .0) (p .1) (c .before .before .before .before .before .before .before .before .before .before .before .before .if1 .taken) (rw (c .before .before .before .before .before .before .before .before .before .before .own .ensures) at (c .before .before .before .before .before .before .before .insert-given .ensures)) (c .before .before .insert-given2 .ensures)
+
+update-given-requires : tie.Need-update-given-requires
+update-given-requires c κs = let p = c .before .before .before .before .before .before .before .before .before .pre in update-ready (p .0) (p .1) (c .before .before .before .if1 .left)
+
+same-length-3 : tie.Need-same-length-3
+same-length-3 c = search needs
+
+same-length-4 : tie.Need-same-length-4
+same-length-4 c = search needs
+
+returns-2 : tie.Need-returns-2
+returns-2 c = let p = c .before .before .before .before .before .before .before .before .before .before .before .before .before .before .pre in set-old (p .0) (p .1) (c .before .before .before .before .before .before .before .before .if1 .left) (c .before .before .before .before .update-given .ensures)
+
+pub set-given-at-spec : {M : Type 1} → statement M
+set-given-at-spec =
+    tie.close
+    (tie.spec
+    add-if1
+    mul-if1
+    element-copy-out-if1
+    own-requires
+    insert-given-requires
+    insert-given-requires-2
+    same-length
+    same-length-2
+    returns
+    update-given-requires
+    same-length-3
+    same-length-4
+    returns-2)

@@ -1,0 +1,167 @@
+// One texture of a tracker takes what a given set holds at the same index: `insert_or_barrier_update` of texture.rs, where the states
+// come from `set_from_usage_scope` or `set_from_tracker`.
+use barrier::barrier_texture;
+use model::Extent;
+use model::UsageFlags;
+use storage::END;
+use storage::LAYERS;
+use storage::MIPS;
+use storage::OWNED;
+use storage::START;
+use storage::Table;
+use texture::from_set::insert_given;
+use texture::using::own;
+use updating::from_set::update_given;
+ghost use Prim.Native.Nat.{_≤_};
+ghost use Rattle.model.specs.Calls.{setSlot};
+ghost use Rattle.model.specs.Texture.{ranged};
+ghost use Rattle.barrier.specs.Steps.{logTop};
+ghost use Rattle.barrier.specs.Logged.{Room, Logged};
+ghost use Rattle.setting.specs.Slot.{slotOf, SlotReady, SlotSet};
+ghost use Rattle.joining.specs.Given.{givenAt, HalfGiven};
+ghost use Rattle.joining.specs.Slot.{BothGiven, EndReady, SetsAt, LogsAt, slotAfter, endEntries, givenEntries};
+
+// What the texture becomes, by the start and the end that the set holds.
+pub fn set_given_at(
+    table: &mut Table,
+    starts: &mut [u32],
+    ends: &mut [u32],
+    i: usize,
+    extent: Extent,
+    given: &Table,
+    first: &[u32],
+    from: usize,
+    last: &[u32],
+    to: usize,
+    p: UsageFlags,
+)
+    requires { ⌜ SlotReady (now table) (now starts) (now ends) i extent ⌝ }
+    requires { ⌜ BothGiven (now table) i extent from to (now given) (now first) (now last) p ⌝ }
+    ensures { λ _. ⌜ SlotSet (now (table .entry)) (now (starts .entry)) (now (ends .entry)) i (setSlot ranged p extent (givenAt from (now (given .entry)) (now (first .entry)) i) (givenAt to (now (given .entry)) (now (last .entry)) i) (slotOf (now (table .entry)) (now (starts .entry)) (now (ends .entry)) i)) (now (table .exit)) (now (starts .exit)) (now (ends .exit)) ⌝ }
+{
+    if table[OWNED + i] == 0 {
+        own(table, i, extent);
+        insert_given(table, starts, START, i, extent, given, first, from, p);
+        insert_given(table, ends, END, i, extent, given, last, to, p);
+        return;
+    }
+    update_given(table, starts, ends, i, extent, given, last, to, p);
+}
+
+// Its transitions to the given start, counted, or written after the first `at` entries of the log: none where it is not owned.
+pub fn log_given_at(
+    table: &Table,
+    ends: &[u32],
+    i: usize,
+    extent: Extent,
+    p: UsageFlags,
+    mask: u32,
+    given: &Table,
+    first: &[u32],
+    from: usize,
+    log: &mut [u32],
+    at: usize,
+    write: bool,
+) -> usize
+    requires { ⌜ EndReady (now table) (now ends) i extent ⌝ }
+    requires { ⌜ HalfGiven (now table) i extent from (now given) (now first) ⌝ }
+    requires { ⌜ at ≤ logTop ⌝ }
+    requires { ⌜ Room write (now log) at (endEntries p mask extent (givenAt from (now given) (now first) i) (now table) (now ends) i) ⌝ }
+    ensures { λ x. ⌜ Logged 1048576 i write (now (log .entry)) at (endEntries p mask extent (givenAt from (now (given .entry)) (now (first .entry)) i) (now (table .entry)) (now (ends .entry)) i) x (now (log .exit)) ⌝ }
+{
+    if table[OWNED + i] == 0 {
+        return 0;
+    }
+    barrier_texture(
+        table,
+        ends,
+        i,
+        extent,
+        p,
+        mask,
+        given,
+        first,
+        from,
+        log,
+        at,
+        write,
+    )
+}
+
+// What the texture becomes, if the set owns index i.
+pub fn set_owned_at(
+    table: &mut Table,
+    starts: &mut [u32],
+    ends: &mut [u32],
+    i: usize,
+    given: &Table,
+    first: &[u32],
+    from: usize,
+    last: &[u32],
+    to: usize,
+    p: UsageFlags,
+)
+    requires { ⌜ SetsAt (now table) (now starts) (now ends) i from to (now given) (now first) (now last) p ⌝ }
+    ensures { λ _. ⌜ SlotSet (now (table .entry)) (now (starts .entry)) (now (ends .entry)) i (slotAfter p from to (now (given .entry)) (now (first .entry)) (now (last .entry)) i (slotOf (now (table .entry)) (now (starts .entry)) (now (ends .entry)) i)) (now (table .exit)) (now (starts .exit)) (now (ends .exit)) ⌝ }
+{
+    if given[OWNED + i] == 0 {
+        return;
+    }
+    let mips = given[MIPS + i];
+    let layers = given[LAYERS + i];
+    let extent = Extent { mips, layers };
+    set_given_at(
+        table,
+        starts,
+        ends,
+        i,
+        extent,
+        given,
+        first,
+        from,
+        last,
+        to,
+        p,
+    );
+}
+
+// Its transitions, if the set owns index i.
+pub fn log_owned_at(
+    table: &Table,
+    ends: &[u32],
+    i: usize,
+    p: UsageFlags,
+    mask: u32,
+    given: &Table,
+    first: &[u32],
+    from: usize,
+    log: &mut [u32],
+    at: usize,
+    write: bool,
+) -> usize
+    requires { ⌜ LogsAt (now table) (now ends) i from (now given) (now first) ⌝ }
+    requires { ⌜ at ≤ logTop ⌝ }
+    requires { ⌜ Room write (now log) at (givenEntries p mask (now table) (now ends) from (now given) (now first) i) ⌝ }
+    ensures { λ x. ⌜ Logged 1048576 i write (now (log .entry)) at (givenEntries p mask (now (table .entry)) (now (ends .entry)) from (now (given .entry)) (now (first .entry)) i) x (now (log .exit)) ⌝ }
+{
+    if given[OWNED + i] == 0 {
+        return 0;
+    }
+    let mips = given[MIPS + i];
+    let layers = given[LAYERS + i];
+    let extent = Extent { mips, layers };
+    log_given_at(
+        table,
+        ends,
+        i,
+        extent,
+        p,
+        mask,
+        given,
+        first,
+        from,
+        log,
+        at,
+        write,
+    )
+}
