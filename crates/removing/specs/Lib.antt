@@ -1,1 +1,8 @@
 pub mod Removed
+pub mod Once
+pub mod Sparse
+pub mod Logs
+pub mod Fewer
+pub mod Left
+pub mod Taken
+pub mod Changed

@@ -22,7 +22,7 @@ use model::UsageFlags;
 use setting::Answered;
 use storage::Table;
 ghost use Rattle.opening.specs.Open.{OpenedScope, OpenedTracker};
-ghost use Rattle.track.specs.Trace.{MergeSingle, MergeUsageScope, SetSingle, SetFromUsageScope, SetFromTracker, Emptying};
+ghost use Rattle.track.specs.Trace.{MergeSingle, MergeUsageScope, SetSingle, SetFromUsageScope, SetFromTracker, SetAndRemoveSparse, Emptying};
 
 // Opens a scope for n textures of m mips and w layers.
 pub fn open_scope(
@@ -136,6 +136,31 @@ pub fn set_from_tracker(
     ensures { λ x. ⌜ SetFromTracker (record { table = now (table .entry); starts = now (starts .entry); ends = now (ends .entry) }) (record { table = now (given .entry); starts = now (first .entry); ends = now (last .entry) }) head (now (log .entry)) x (record { table = now (table .exit); starts = now (starts .exit); ends = now (ends .exit) }) (now (log .exit)) ⌝ }
 {
     joining::set_from_tracker(table, starts, ends, given, first, last, log, head)
+}
+
+// Moves the listed textures of a scope into a tracker, and logs their transitions: the scope no longer owns them.
+pub fn set_and_remove_from_usage_scope_sparse(
+    table: &mut Table,
+    starts: &mut [u32],
+    ends: &mut [u32],
+    given: &mut Table,
+    lent: &[u32],
+    indices: &[u32],
+    log: &mut [u32],
+    head: LogHead,
+) -> Answered
+    ensures { λ x. ⌜ SetAndRemoveSparse (record { table = now (table .entry); starts = now (starts .entry); ends = now (ends .entry) }) (record { table = now (given .entry); ranges = now (lent .entry) }) (now (indices .entry)) head (now (log .entry)) x (record { table = now (table .exit); starts = now (starts .exit); ends = now (ends .exit) }) (now (given .exit)) (now (log .exit)) ⌝ }
+{
+    removing::set_and_remove_from_usage_scope_sparse(
+        table,
+        starts,
+        ends,
+        given,
+        lent,
+        indices,
+        log,
+        head,
+    )
 }
 
 // Empties the log: free gains what was written, written becomes 0, and the entries stay.

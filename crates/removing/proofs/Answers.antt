@@ -1,0 +1,133 @@
+-- `remove_checked` and the call: from what the code counted, wrote and changed to the contract.
+use Prim.Native.Nat.{ℕ, _+_, _*_, _/_, _≤_, _<_}
+use native.Mathlib.Nat.{mul-le-mul}
+use native.Mathlib.Omega.{arith}
+use mathlib.Core.Path.{_≡_, refl, sym, ap, subst, _∙_}
+use mathlib.Core.Bool.{Bool, true, false, _&&_, and-eq-true-iff}
+use mathlib.Core.List.{List, [], _∷_}
+use mathlib.Core.Option.{Option, none, some}
+use lib.ListN.{length}
+use Rattle.model.specs.declared.InvalidUse.{InvalidUse}
+use Rattle.model.specs.declared.LogHead.{LogHead}
+use Rattle.model.specs.declared.Refusal.{Refusal}
+use Rattle.model.specs.declared.Refusal.the-variants.{NoFreeEntry}
+use Rattle.model.specs.declared.Outcome.the-variants as outcome
+use Rattle.model.specs.Sets.{Head, Set, Tracker, headOf}
+use Rattle.model.specs.Refusals.{sparseRefusal}
+use Rattle.model.specs.Calls.{CallResult, unless, sparseAll, setAndRemoveSparse}
+use Rattle.model.specs.Calls as calls
+use Rattle.model.specs.Log.{pending}
+use Rattle.model.specs.Texture.{Held, Entry, ranged}
+use Rattle.model.specs.WellFormed.{scopeFits, trackerFits, wellFormedScope, wellFormedTracker}
+use Rattle.storage.specs.Storage.{numbersOf, scopeOf, trackerOf}
+use Rattle.barrier.specs.Entries.{Added}
+use Rattle.agreement.specs.LogBound.{entries}
+use Rattle.agreement.specs.LogRoom.{entries-written}
+use Rattle.agreement.specs.EachCall.{sparse-room}
+use Rattle.checks.specs.Head.{headIn, tracker-head, scope-head}
+use Rattle.checks.specs.Sets.{SparseTold}
+use Rattle.checks.specs.Told.{sparse-done, sparse-refused}
+use Rattle.checks.specs.Passed.{sparse-passed}
+use Rattle.ready.specs.Tested.{ScopeTested, TrackerTested}
+use Rattle.setting.specs.declared.Answered.{Answered}
+use Rattle.setting.specs.Logging.{headFits, refusedWith, movedOn, head-le}
+use Rattle.joining.specs.Adds.{Adds, adds-added}
+use Rattle.removing.specs.Removed.{Removed}
+use Rattle.removing.specs.Sparse.{Both}
+use Rattle.removing.specs.Logs.{setsOf, removedEntries, entries-model}
+use Rattle.removing.specs.Taken.{Removes, Takes, setsAfter}
+use Rattle.removing.specs.Changed.{Changed, away-own, changed-removed}
+
+-- ---- `remove_checked`
+module _ (t s e g r is : List ℕ) {l l₁ : List ℕ} {n : ℕ} (h : LogHead) (c : Adds 67108864 false l 0 (removedEntries t e g r is) n l₁) where
+  -- what was counted fits where it is written
+  pub room-for : headFits (length l / 7) h ≡ true → n ≤ h .free → 7 * (h .written + length (removedEntries t e g r is)) ≤ length l₁
+  room-for f k = omega (arith, head-le (length l / 7) h f, c .count, c .long)
+
+  -- 15
+  pub not-enough : h .free < n → Changed (removedEntries t e g r is) (setsAfter t s e g r is) h t s e g r l (refusedWith NoFreeEntry h) t s e g l₁
+  not-enough k = record {
+    few = λ q. (refl, (refl, (refl, (refl, (refl, c .content)))));
+    enough = λ q. absurd (omega (arith, c .count));
+    stays = λ y q. refl;
+    start-long = refl;
+    end-long = refl;
+    table = refl;
+    given = refl;
+  }
+
+  -- written, and the textures changed
+  pub written : {k : ℕ} {t′ s′ e′ g′ l₂ : List ℕ} → n ≤ h .free → headFits (length l / 7) h ≡ true → Adds 67108864 true l₁ (h .written) (removedEntries t e g r is) k l₂ → Takes t s e g r is t′ s′ e′ g′
+      → Changed (removedEntries t e g r is) (setsAfter t s e g r is) h t s e g r l (movedOn h n) t′ s′ e′ g′ l₂
+  written {k} {t′} {s′} {e′} {g′} {l₂} le f w q =
+      let z : Added l₁ (h .written) (removedEntries t e g r is) l₂ = adds-added (room-for f le) w in
+      record {
+        few = λ y. absurd (omega (arith, c .count));
+        enough = λ y. (ap (movedOn h) (c .count), (subst (λ (y : List ℕ). Added y (h .written) (removedEntries t e g r is) l₂) (c .content) z, (q .tracker, q .scope)));
+        stays = q .stays;
+        start-long = q .start-long;
+        end-long = q .end-long;
+        table = q .table;
+        given = q .given;
+      }
+
+-- ---- The call
+abbrev BothResult : Type 0
+BothResult = CallResult InvalidUse (List Entry) Both
+
+-- by what its checks tell
+call-is : (t s e g r is : List ℕ) (o : Option Refusal) → sparseRefusal (headIn t) (headIn g) is ≡ o → setAndRemoveSparse ranged (trackerOf t s e) (scopeOf g r) is ≡ unless o (setsOf t s e g r) (sparseAll ranged is (setsOf t s e g r))
+call-is t s e g r is o z =
+    ap (λ (h : Head). unless (sparseRefusal h (headOf (scopeOf g r)) is) (setsOf t s e g r) (sparseAll ranged is (setsOf t s e g r))) (tracker-head t s e)
+    ∙ ap (λ (h : Head). unless (sparseRefusal (headIn t) h is) (setsOf t s e g r) (sparseAll ranged is (setsOf t s e g r))) (scope-head g r)
+    ∙ ap (λ (y : Option Refusal). unless y (setsOf t s e g r) (sparseAll ranged is (setsOf t s e g r))) z
+
+-- both tests
+pub one-unfit : (x y : Bool) → x ≡ false → (x && y) ≡ false
+one-unfit x y e = rw e
+
+pub other-unfit : (x y : Bool) → x ≡ true → y ≡ false → (x && y) ≡ false
+other-unfit x y e z = rw (e, z)
+
+pub both-fit : (x y : Bool) → x ≡ true → y ≡ true → (x && y) ≡ true
+both-fit x y e z = rw (e, z)
+
+-- what a test shows of its set
+pub tracker-part : (a b : ℕ) (t : Tracker Held) → wellFormedTracker a b t ≡ true → trackerFits t ≡ true
+tracker-part a b t e = and-eq-true-iff _ _ .0 (and-eq-true-iff _ _ .0 e .0) .0
+
+pub scope-part : (a : ℕ) (s : Set Held) → wellFormedScope a s ≡ true → scopeFits s ≡ true
+scope-part a s e = and-eq-true-iff _ _ .0 e .0
+
+module _ {t s e g r is : List ℕ} (tracker : TrackerTested t s e) (scope : ScopeTested g r) (told : SparseTold t g is outcome.Done) where
+  pub removes : Removes t s e g r is
+  removes = record { tracker = tracker; scope = scope; passed = sparse-passed t g is (sparse-done told refl) }
+
+  model-entries : pending (sparseAll ranged is (setsOf t s e g r) .log) ≡ removedEntries t e g r is
+  model-entries = entries-model tracker scope (removes .passed)
+
+  -- no more than N × M × W
+  pub few-entries : trackerFits (trackerOf t s e) ≡ true → scopeFits (scopeOf g r) ≡ true → length (removedEntries t e g r is) ≤ 67108864
+  unfolding trackerOf
+  few-entries a b =
+      let m = tracker .starts in
+      let c : numbersOf t .textures * numbersOf t .mips * numbersOf t .layers ≤ 64 * 16 * 256 = mul-le-mul (mul-le-mul (m .textures) (m .mips)) (m .layers) in
+      let z = sparse-room (trackerOf t s e) a (scopeOf g r) b is in
+      let y : entries (setAndRemoveSparse ranged (trackerOf t s e) (scopeOf g r) is .log) ≡ length (removedEntries t e g r is) =
+      ap (λ (x : BothResult). entries (x .log)) (call-is t s e g r is none (sparse-done told refl)) ∙ sym (entries-written (sparseAll ranged is (setsOf t s e g r) .log)) ∙ ap length model-entries in
+      omega arith
+
+  pub call-done : {fits : Bool} {h : LogHead} {l : List ℕ} {x : Answered} {t′ s′ e′ g′ l′ : List ℕ} → fits ≡ true → headFits (length l / 7) h ≡ true → Changed (removedEntries t e g r is) (setsAfter t s e g r is) h t s e g r l x t′ s′ e′ g′ l′
+      → Removed fits (setAndRemoveSparse ranged (trackerOf t s e) (scopeOf g r) is) h t s e g r l x t′ s′ e′ g′ l′
+  call-done {fits} {h} {l} {x} {t′} {s′} {e′} {g′} {l′} f k c =
+      subst (λ (y : BothResult). Removed fits y h t s e g r l x t′ s′ e′ g′ l′) (sym (call-is t s e g r is none (sparse-done told refl)))
+      (changed-removed f k (answers is) (rw model-entries c))
+    where
+      answers : (js : List ℕ) → sparseAll ranged js (setsOf t s e g r) .answer ≡ calls.done
+      answers [] = refl
+      answers (j ∷ js) = refl
+
+-- 6 to 9
+pub call-away : {t s e g r is : List ℕ} {fits : Bool} {h : LogHead} {l : List ℕ} {y : Refusal} → fits ≡ true → headFits (length l / 7) h ≡ true → SparseTold t g is (outcome.Refused y)
+    → Removed fits (setAndRemoveSparse ranged (trackerOf t s e) (scopeOf g r) is) h t s e g r l (refusedWith y h) t s e g l
+call-away {t} {s} {e} {g} {r} {is} {y = y} f k told = away-own y f k (ap (λ (x : BothResult). x .answer) (call-is t s e g r is (some y) (sparse-refused told refl)))

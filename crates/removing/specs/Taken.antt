@@ -1,0 +1,213 @@
+-- A listed texture that a scope owns goes into a tracker, and the scope no longer owns it: one, and all of a list.
+use Prim.Native.Nat.{ℕ, _+_, _≤_, _<_}
+use native.Mathlib.Decide.{ℕ-discrete}
+use native.Mathlib.Omega.{arith}
+use native.Mathlib.Numerals.{add-one}
+use mathlib.Core.Path.{_≡_, refl, sym, ap, subst, _∙_}
+use mathlib.Core.Logic.{_⊎_, inl, inr}
+use mathlib.Core.Bool.{Bool, true, false, false≢true}
+use mathlib.Core.List.{List, [], _∷_}
+use lib.ListN.{length, getD, set, drop, length-set}
+use lib.Seq.{drop-cons, drop-length}
+use borrow.Author.Tests.{eq-eqb, ne-eqb}
+use Rattle.model.specs.declared.UsageFlags.{UsageFlags}
+use Rattle.model.specs.declared.InvalidUse.{InvalidUse}
+use Rattle.model.specs.Representation.{Ends}
+use Rattle.model.specs.Sets.{Numbers, Slot}
+use Rattle.model.specs.Calls.{CallResult, setSlot, sparseOne, sparseAll}
+use Rattle.model.specs.Texture.{Held, Entry, ranged}
+use Rattle.storage.specs.Storage.{numbersOf, flagsOf, extentOf, ownedOf, startHalf, endsOf, slotWith, scopeOf, trackerOf}
+use Rattle.agreement.specs.BoolLaws.{by-test}
+use Rattle.checks.specs.Passed.{SparsePassed}
+use Rattle.ready.specs.Tested.{half-fits, ScopeTested, TrackerTested}
+use Rattle.setting.specs.Slot.{slotOf, SlotReady, SlotSet, slot-view}
+use Rattle.joining.specs.Given.{givenAt, HalfGiven}
+use Rattle.joining.specs.Slot.{SetsAt, slotAfter}
+use Rattle.removing.specs.Sparse.{Both, given}
+use Rattle.removing.specs.Logs.{setsOf, given-is, into-is}
+use Rattle.removing.specs.Fewer.{off, off-not, off-view, Fewer, flags-same, extent-same, still-tested}
+use Rattle.removing.specs.Left.{numbers-kept, flags-kept, Left, left-ready}
+
+-- THE CONTRACT of one texture: nothing where the scope does not own it, otherwise the tracker takes it and the scope has it no more
+pub record TakenAt (t s e g r : List ℕ) (i : ℕ) (p : UsageFlags) (t′ s′ e′ g′ : List ℕ) : Type 0 where
+  pub free : ownedOf g i ≡ false → (t′ ≡ t) × ((s′ ≡ s) × ((e′ ≡ e) × (g′ ≡ g)))
+  pub own : ownedOf g i ≡ true → SlotSet t s e i (setSlot ranged p (extentOf g i) (givenAt startHalf g r i) (givenAt startHalf g r i) (slotOf t s e i)) t′ s′ e′ × (g′ ≡ set g (8 + i) 0)
+  pub start-long : length s′ ≡ length s
+  pub end-long : length e′ ≡ length e
+
+-- the test and the checks passed
+pub record Removes (t s e g r is : List ℕ) : Type 0 where
+  pub tracker : TrackerTested t s e
+  pub scope : ScopeTested g r
+  pub passed : SparsePassed t g is
+
+-- the sets that the list leaves
+abbrev pub setsAfter : List ℕ → List ℕ → List ℕ → List ℕ → List ℕ → List ℕ → Both
+setsAfter t s e g r is = sparseAll ranged is (setsOf t s e g r) .after
+
+-- THE CONTRACT of all that is listed
+pub record Takes (t s e g r is t′ s′ e′ g′ : List ℕ) : Type 0 where
+  pub tracker : trackerOf t′ s′ e′ ≡ setsAfter t s e g r is .0
+  pub scope : scopeOf g′ r ≡ setsAfter t s e g r is .1
+  pub stays : (x : ℕ) → 72 ≤ x → getD g′ x 0 ≡ getD g x 0
+  pub start-long : length s′ ≡ length s
+  pub end-long : length e′ ≡ length e
+  pub table : length t′ ≡ length t
+  pub given : length g′ ≡ length g
+
+-- ---- One texture
+pub taken-not : {t s e g r : List ℕ} {i : ℕ} {p : UsageFlags} → getD g (8 + i) 0 ≡ 0 → TakenAt t s e g r i p t s e g
+taken-not {g = g} {i = i} z = record {
+  free = λ o. (refl, (refl, (refl, refl)));
+  own = λ o. absurd (false≢true (rw (eq-eqb (getD g (8 + i) 0) 0 z) at o));
+  start-long = refl;
+  end-long = refl;
+}
+
+pub taken-own : {t s e g r : List ℕ} {i : ℕ} {p : UsageFlags} {t′ s′ e′ : List ℕ} → (getD g (8 + i) 0 ≡ 0 → ⊥) → SlotSet t s e i (slotAfter p startHalf startHalf g r r i (slotOf t s e i)) t′ s′ e′ → TakenAt t s e g r i p t′ s′ e′ (set g (8 + i) 0)
+taken-own {g = g} {i = i} z q = let o : ownedOf g i ≡ true = rw (ne-eqb (getD g (8 + i) 0) 0 z) in record {
+  free = λ w. absurd (false≢true (sym w ∙ o));
+  own = λ w. (rw o at q, refl);
+  start-long = q .start-long;
+  end-long = q .end-long;
+}
+
+-- it is the model's
+module _ {t s e g r : List ℕ} {i : ℕ} {p : UsageFlags} {t′ s′ e′ g′ : List ℕ} (q : TakenAt t s e g r i p t′ s′ e′ g′) (h : i < getD g 0 0) (few : i < 64) (long : length g ≡ 2376) where
+  one-view : p ≡ flagsOf t → (ownedOf g i ≡ true → i < getD t 0 0) → _≡_ {A = Both} (trackerOf t′ s′ e′, scopeOf g′ r) (sparseOne ranged i (setsOf t s e g r) .after)
+  unfolding trackerOf
+  one-view f inside =
+      let z = given-is t s e g r i h in
+      by-test (λ (o : CallResult InvalidUse (List Entry) Both). _≡_ {A = Both} (trackerOf t′ s′ e′, scopeOf g′ r) (o .after)) (given (setsOf t s e g r) i .owned)
+      (λ o.
+      let own : ownedOf g i ≡ true = sym (ap (λ (y : Slot Held). y .owned) z) ∙ o in
+      let w = q .own own in
+      let ss = subst (λ (y : UsageFlags). SlotSet t s e i (setSlot ranged y (extentOf g i) (givenAt startHalf g r i) (givenAt startHalf g r i) (slotOf t s e i)) t′ s′ e′) f (w .0) in
+      rw (z, into-is t s e g r i (inside own)) (λ j. (slot-view (inside own) ss j, (ap (λ (y : List ℕ). scopeOf y r) (w .1) ∙ off-view g r i h few long) j)))
+      (λ o. let w = q .free (sym (ap (λ (y : Slot Held). y .owned) z) ∙ o) in rw (w .0, w .1 .0, w .1 .1 .0, w .1 .1 .1))
+
+-- ---- All that is listed, turn by turn: what is left of the list makes of the sets what all of it makes at entry, and a texture that the scope still owns is as it was
+pub record Taking (t s e g r is : List ℕ) (k : ℕ) (t₁ s₁ e₁ g₁ : List ℕ) : Type 0 where
+  pub within : k ≤ length is
+  pub after : setsAfter t₁ s₁ e₁ g₁ r (drop k is) ≡ setsAfter t s e g r is
+  pub head : (x : ℕ) → x < 8 → getD t₁ x 0 ≡ getD t x 0
+  pub scope : Fewer g g₁
+  pub left : (j : ℕ) → j < getD t 0 0 → ownedOf g₁ j ≡ true → slotWith (endsOf (numbersOf t) t₁ s₁ e₁) t₁ j ≡ slotOf t s e j
+  pub start-long : length s₁ ≡ length s
+  pub end-long : length e₁ ≡ length e
+  pub table : length t₁ ≡ length t
+
+pub taking-start : (t s e g r is : List ℕ) → Taking t s e g r is 0 t s e g
+taking-start t s e g r is = record {
+  within = omega arith;
+  after = refl;
+  head = λ x h. refl;
+  scope = record { words = λ x h. refl; less = λ j o. o; long = refl };
+  left = λ j h o. refl;
+  start-long = refl;
+  end-long = refl;
+  table = refl;
+}
+
+module _ {t s e g r is : List ℕ} (w : Removes t s e g r is) {k : ℕ} {t₁ s₁ e₁ g₁ : List ℕ} (q : Taking t s e g r is k t₁ s₁ e₁ g₁) (h : k < length is) where
+  taking-scope : ScopeTested g₁ r
+  taking-scope = still-tested (q .scope) (w .scope)
+
+  taking-below : getD is k 0 < getD g₁ 0 0
+  taking-below = rw (q .scope .words 0 (inl (omega arith))) (w .passed .below k h)
+
+  -- the index at k is ready
+  pub taking-ready : {p : UsageFlags} → p ≡ flagsOf t → SetsAt t₁ s₁ e₁ (getD is k 0) startHalf startHalf g₁ r r p
+  taking-ready {p} f =
+      let i = getD is k 0 in let sc = taking-scope in let b = taking-below in
+      let half : ownedOf g₁ i ≡ true → HalfGiven t₁ i (extentOf g₁ i) startHalf g₁ r = λ o. record {
+        measured = sc .measured;
+        texture = b;
+        flags = flags-same (q .scope) ∙ w .passed .flags ∙ sym (flags-kept t t₁ (q .head));
+        extent = refl;
+        fits = sc .slots i b .extent o;
+        held = half-fits startHalf g₁ r i (sc .slots i b .extent o .mips) (sc .slots i b .held o);
+      } in
+      record {
+        index = omega (arith, sc .measured .textures);
+        ready = λ o.
+            let x = w .passed .each k h (q .scope .less i o) in
+            let l : Left t s e i t₁ s₁ e₁ = record { head = q .head; slot = q .left i (x .texture) o; start-long = q .start-long; end-long = q .end-long; table = q .table } in
+            subst (SlotReady t₁ s₁ e₁ i) (sym (extent-same (q .scope) i)) (left-ready l (w .tracker) x);
+        given = λ o. record { flags = f ∙ sym (flags-kept t t₁ (q .head)); start = half o; end = half o };
+      }
+
+  -- what is left of the list after it
+  after-turn : {t₂ s₂ e₂ g₂ : List ℕ} {p : UsageFlags} → p ≡ flagsOf t → TakenAt t₁ s₁ e₁ g₁ r (getD is k 0) p t₂ s₂ e₂ g₂ → setsAfter t₂ s₂ e₂ g₂ r (drop (k + 1) is) ≡ setsAfter t s e g r is
+  after-turn {t₂} {s₂} {e₂} {g₂} f z =
+      let i = getD is k 0 in let m = taking-scope .measured in
+      let rest : drop k is ≡ i ∷ drop (k + 1) is = rw add-one (drop-cons is k 0 h) in
+      let view = one-view z taking-below (omega (arith, taking-below, m .textures)) (m .table) (f ∙ sym (flags-kept t t₁ (q .head))) (λ o. rw (q .head 0 (omega arith)) (w .passed .each k h (q .scope .less i o) .texture)) in
+      ap (λ (y : Both). sparseAll ranged (drop (k + 1) is) y .after) view ∙ sym (ap (λ (l : List ℕ). setsAfter t₁ s₁ e₁ g₁ r l) rest) ∙ q .after
+
+  -- the scope did not own it
+  turn-free : setsAfter t₁ s₁ e₁ g₁ r (drop (k + 1) is) ≡ setsAfter t s e g r is → Taking t s e g r is (k + 1) t₁ s₁ e₁ g₁
+  turn-free a = record {
+    within = omega arith;
+    after = a;
+    head = q .head;
+    scope = q .scope;
+    left = q .left;
+    start-long = q .start-long;
+    end-long = q .end-long;
+    table = q .table;
+  }
+
+  -- it did
+  turn-own : {t₂ s₂ e₂ : List ℕ} {x : Slot (Ends Held)} → SlotSet t₁ s₁ e₁ (getD is k 0) x t₂ s₂ e₂ → setsAfter t₂ s₂ e₂ (set g₁ (8 + getD is k 0) 0) r (drop (k + 1) is) ≡ setsAfter t s e g r is
+      → Taking t s e g r is (k + 1) t₂ s₂ e₂ (set g₁ (8 + getD is k 0) 0)
+  turn-own {t₂} {s₂} {e₂} z a = record {
+    within = omega arith;
+    after = a;
+    head = λ x b. z .frame .head x b ∙ q .head x b;
+    scope = record {
+      words = λ x b. off g₁ r (getD is k 0) x (apart x b) ∙ q .scope .words x b;
+      less = λ j o. q .scope .less j (still j o (ℕ-discrete j (getD is k 0)) .1);
+      long = length-set g₁ (8 + getD is k 0) 0 ∙ q .scope .long;
+    };
+    left = λ j b o. let y = still j o (ℕ-discrete j (getD is k 0)) in other j b (y .0) ∙ q .left j b (y .1);
+    start-long = z .start-long ∙ q .start-long;
+    end-long = z .end-long ∙ q .end-long;
+    table = z .table ∙ q .table;
+  }
+    where
+      small : getD is k 0 < 64
+      small = omega (arith, taking-below, taking-scope .measured .textures)
+
+      apart : (x : ℕ) → (x < 8) ⊎ (72 ≤ x) → x ≡ 8 + getD is k 0 → ⊥
+      apart x (inl b) e = omega arith
+      apart x (inr b) e = omega (arith, small)
+
+      still : (j : ℕ) → ownedOf (set g₁ (8 + getD is k 0) 0) j ≡ true → Dec (j ≡ getD is k 0) → (j ≡ getD is k 0 → ⊥) × (ownedOf g₁ j ≡ true)
+      still j o (yes e) = absurd (false≢true (sym (off-not g₁ r (getD is k 0) small (taking-scope .measured .table)) ∙ rw e at o))
+      still j o (no ne) = (ne, rw (off g₁ r (getD is k 0) (8 + j) (λ y. ne (omega arith))) at o)
+
+      other : (j : ℕ) → j < getD t 0 0 → (j ≡ getD is k 0 → ⊥) → slotWith (endsOf (numbersOf t) t₂ s₂ e₂) t₂ j ≡ slotWith (endsOf (numbersOf t) t₁ s₁ e₁) t₁ j
+      other j b ne =
+          subst (λ (n : Numbers). slotWith (endsOf n t₂ s₂ e₂) t₂ j ≡ slotWith (endsOf n t₁ s₁ e₁) t₁ j) (numbers-kept t t₁ (q .head)) (z .frame .others j (rw (q .head 0 (omega arith)) b) ne)
+
+  pub taking-turn : {t₂ s₂ e₂ g₂ : List ℕ} {p : UsageFlags} → p ≡ flagsOf t → TakenAt t₁ s₁ e₁ g₁ r (getD is k 0) p t₂ s₂ e₂ g₂ → Taking t s e g r is (k + 1) t₂ s₂ e₂ g₂
+  taking-turn {t₂} {s₂} {e₂} {g₂} f z = go (ownedOf g₁ (getD is k 0)) refl (after-turn f z)
+    where
+      go : (o : Bool) → ownedOf g₁ (getD is k 0) ≡ o → setsAfter t₂ s₂ e₂ g₂ r (drop (k + 1) is) ≡ setsAfter t s e g r is → Taking t s e g r is (k + 1) t₂ s₂ e₂ g₂
+      go true o a = let y = z .own o in rw (y .1) (turn-own (y .0) (rw (y .1) at a))
+      go false o a = let y = z .free o in rw (y .0, y .1 .0, y .1 .1 .0, y .1 .1 .1) (turn-free (rw (y .0, y .1 .0, y .1 .1 .0, y .1 .1 .1) at a))
+
+pub taking-end : {t s e g r is : List ℕ} {k : ℕ} {t₁ s₁ e₁ g₁ : List ℕ} → Taking t s e g r is k t₁ s₁ e₁ g₁ → length is ≤ k → Takes t s e g r is t₁ s₁ e₁ g₁
+taking-end {t} {s} {e} {g} {r} {is} {k} {t₁} {s₁} {e₁} {g₁} q past =
+    let n : drop k is ≡ [] = let z : k ≡ length is = omega (arith, q .within) in rw z (drop-length is) in
+    let a : setsOf t₁ s₁ e₁ g₁ r ≡ setsAfter t s e g r is = sym (ap (λ (l : List ℕ). setsAfter t₁ s₁ e₁ g₁ r l) n) ∙ q .after in
+    record {
+      tracker = ap (λ (y : Both). y .0) a;
+      scope = ap (λ (y : Both). y .1) a;
+      stays = λ x h. q .scope .words x (inr h);
+      start-long = q .start-long;
+      end-long = q .end-long;
+      table = q .table;
+      given = q .scope .long;
+    }

@@ -1,0 +1,93 @@
+// `TextureTracker::set_and_remove_from_usage_scope_sparse`: the listed textures of a scope.
+use crate::logged::log_listed;
+use crate::taken::set_listed;
+use checks::check_sparse;
+use model::LogHead;
+use model::Outcome;
+use model::Refusal;
+use setting::Answered;
+use setting::head::head_fits;
+use setting::head::lent_entries;
+use setting::head::moved_on;
+use setting::head::refused;
+use storage::Table;
+use storage::flags_of;
+use storage::table_len;
+use wellformed::scope_fits;
+use wellformed::tracker_fits;
+ghost use mathlib.Core.Path.{_≡_};
+ghost use mathlib.Core.Bool.{true, _&&_};
+ghost use Prim.Native.Nat.{_/_, _≤_, _<_};
+ghost use lib.ListN.{length};
+ghost use Rattle.model.specs.Calls.{setAndRemoveSparse};
+ghost use Rattle.model.specs.Texture.{ranged};
+ghost use Rattle.model.specs.WellFormed.{wellFormedScope, wellFormedTracker};
+ghost use Rattle.storage.specs.Storage.{scopeOf, trackerOf};
+ghost use Rattle.setting.specs.Logging.{headFits};
+ghost use Rattle.removing.specs.Logs.{removedEntries};
+ghost use Rattle.removing.specs.Taken.{Removes, setsAfter};
+ghost use Rattle.removing.specs.Changed.{Changed};
+ghost use Rattle.removing.specs.Removed.{Removed};
+
+// The listed textures, once the checks passed: their entries are counted, and then written, and the textures change.
+pub fn remove_checked(
+    table: &mut Table,
+    starts: &mut [u32],
+    ends: &mut [u32],
+    given: &mut Table,
+    lent: &[u32],
+    indices: &[u32],
+    log: &mut [u32],
+    head: LogHead,
+) -> Answered
+    requires { ⌜ Removes (now table) (now starts) (now ends) (now given) (now lent) (now indices) ⌝ }
+    requires { ⌜ length (removedEntries (now table) (now ends) (now given) (now lent) (now indices)) ≤ 67108864 ⌝ }
+    requires { ⌜ headFits (length (now log) / 7) head ≡ true ⌝ }
+    requires { ⌜ length (now log) < 18446744073709551616 ⌝ }
+    ensures { λ x. ⌜ Changed (removedEntries (now (table .entry)) (now (ends .entry)) (now (given .entry)) (now (lent .entry)) (now (indices .entry))) (setsAfter (now (table .entry)) (now (starts .entry)) (now (ends .entry)) (now (given .entry)) (now (lent .entry)) (now (indices .entry))) head (now (table .entry)) (now (starts .entry)) (now (ends .entry)) (now (given .entry)) (now (lent .entry)) (now (log .entry)) x (now (table .exit)) (now (starts .exit)) (now (ends .exit)) (now (given .exit)) (now (log .exit)) ⌝ }
+{
+    let p = flags_of(table);
+    let mask = table[7];
+    let n = log_listed(table, ends, p, mask, given, lent, indices, log, 0, false);
+    if head.free < n {
+        return refused(Refusal::NoFreeEntry, head);
+    }
+    let at = head.written;
+    log_listed(table, ends, p, mask, given, lent, indices, log, at, true);
+    set_listed(table, starts, ends, given, lent, indices, p);
+    moved_on(head, n)
+}
+
+// Sets the listed textures of a scope in a tracker, logs the transitions, and removes them from the scope.
+pub fn set_and_remove_from_usage_scope_sparse(
+    table: &mut Table,
+    starts: &mut [u32],
+    ends: &mut [u32],
+    given: &mut Table,
+    lent: &[u32],
+    indices: &[u32],
+    log: &mut [u32],
+    head: LogHead,
+) -> Answered
+    ensures { λ x. ⌜ Removed (wellFormedTracker (length (now (starts .entry)) / 3) (length (now (ends .entry)) / 3) (trackerOf (now (table .entry)) (now (starts .entry)) (now (ends .entry))) && wellFormedScope (length (now (lent .entry)) / 3) (scopeOf (now (given .entry)) (now (lent .entry)))) (setAndRemoveSparse ranged (trackerOf (now (table .entry)) (now (starts .entry)) (now (ends .entry))) (scopeOf (now (given .entry)) (now (lent .entry))) (now (indices .entry))) head (now (table .entry)) (now (starts .entry)) (now (ends .entry)) (now (given .entry)) (now (lent .entry)) (now (log .entry)) x (now (table .exit)) (now (starts .exit)) (now (ends .exit)) (now (given .exit)) (now (log .exit)) ⌝ }
+{
+    table_len(table);
+    table_len(given);
+    if !tracker_fits(table, starts, ends) {
+        return refused(Refusal::NotWellFormed, head);
+    }
+    if !scope_fits(given, lent) {
+        return refused(Refusal::NotWellFormed, head);
+    }
+    if !head_fits(lent_entries(log), head) {
+        return refused(Refusal::LogTooShort, head);
+    }
+    match check_sparse(table, given, indices) {
+        Outcome::Done => remove_checked(table, starts, ends, given, lent, indices, log, head),
+        Outcome::Refused(r) => refused(r, head),
+        Outcome::Conflict(k) => Answered {
+            outcome: Outcome::Conflict(k),
+            head,
+        },
+    }
+}
