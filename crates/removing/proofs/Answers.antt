@@ -34,12 +34,12 @@ use Rattle.setting.specs.Logging.{headFits, refusedWith, movedOn, head-le}
 use Rattle.joining.specs.Adds.{Adds, adds-added}
 use Rattle.removing.specs.Removed.{Removed}
 use Rattle.removing.specs.Sparse.{Both}
-use Rattle.removing.specs.Logs.{setsOf, removedEntries, entries-model}
+use Rattle.removing.specs.Logs.{mostEntries, setsOf, removedEntries, entries-model}
 use Rattle.removing.specs.Taken.{Removes, Takes, setsAfter}
 use Rattle.removing.specs.Changed.{Changed, away-own, changed-removed}
 
 -- ---- `remove_checked`
-module _ (t s e g r is : List ℕ) {l l₁ : List ℕ} {n : ℕ} (h : LogHead) (c : Adds 67108864 false l 0 (removedEntries t e g r is) n l₁) where
+module _ (t s e g r is : List ℕ) {l l₁ : List ℕ} {n : ℕ} (h : LogHead) (c : Adds mostEntries false l 0 (removedEntries t e g r is) n l₁) where
   -- what was counted fits where it is written
   pub room-for : headFits (length l / 7) h ≡ true → n ≤ h .free → 7 * (h .written + length (removedEntries t e g r is)) ≤ length l₁
   room-for f k = omega (arith, head-le (length l / 7) h f, c .count, c .long)
@@ -57,7 +57,7 @@ module _ (t s e g r is : List ℕ) {l l₁ : List ℕ} {n : ℕ} (h : LogHead) (
   }
 
   -- written, and the textures changed
-  pub written : {k : ℕ} {t′ s′ e′ g′ l₂ : List ℕ} → n ≤ h .free → headFits (length l / 7) h ≡ true → Adds 67108864 true l₁ (h .written) (removedEntries t e g r is) k l₂ → Takes t s e g r is t′ s′ e′ g′
+  pub written : {k : ℕ} {t′ s′ e′ g′ l₂ : List ℕ} → n ≤ h .free → headFits (length l / 7) h ≡ true → Adds mostEntries true l₁ (h .written) (removedEntries t e g r is) k l₂ → Takes t s e g r is t′ s′ e′ g′
       → Changed (removedEntries t e g r is) (setsAfter t s e g r is) h t s e g r l (movedOn h n) t′ s′ e′ g′ l₂
   written {k} {t′} {s′} {e′} {g′} {l₂} le f w q =
       let z : Added l₁ (h .written) (removedEntries t e g r is) l₂ = adds-added (room-for f le) w in
@@ -82,32 +82,33 @@ call-is t s e g r is o z =
     ∙ ap (λ (h : Head). unless (sparseRefusal (headIn t) h is) (setsOf t s e g r) (sparseAll ranged is (setsOf t s e g r))) (scope-head g r)
     ∙ ap (λ (y : Option Refusal). unless y (setsOf t s e g r) (sparseAll ranged is (setsOf t s e g r))) z
 
--- both tests
+-- the tracker's test
 pub one-unfit : (x y : Bool) → x ≡ false → (x && y) ≡ false
 one-unfit x y e = rw e
 
+-- the scope's
 pub other-unfit : (x y : Bool) → x ≡ true → y ≡ false → (x && y) ≡ false
 other-unfit x y e z = rw (e, z)
 
-pub both-fit : (x y : Bool) → x ≡ true → y ≡ true → (x && y) ≡ true
-both-fit x y e z = rw (e, z)
-
--- what a test shows of its set
+-- what the test shows of a tracker
 pub tracker-part : (a b : ℕ) (t : Tracker Held) → wellFormedTracker a b t ≡ true → trackerFits t ≡ true
 tracker-part a b t e = and-eq-true-iff _ _ .0 (and-eq-true-iff _ _ .0 e .0) .0
 
+-- and of a scope
 pub scope-part : (a : ℕ) (s : Set Held) → wellFormedScope a s ≡ true → scopeFits s ≡ true
 scope-part a s e = and-eq-true-iff _ _ .0 e .0
 
 module _ {t s e g r is : List ℕ} (tracker : TrackerTested t s e) (scope : ScopeTested g r) (told : SparseTold t g is outcome.Done) where
+  -- the test and the checks passed
   pub removes : Removes t s e g r is
   removes = record { tracker = tracker; scope = scope; passed = sparse-passed t g is (sparse-done told refl) }
 
+  -- the entries are the model's
   model-entries : pending (sparseAll ranged is (setsOf t s e g r) .log) ≡ removedEntries t e g r is
   model-entries = entries-model tracker scope (removes .passed)
 
   -- no more than N × M × W
-  pub few-entries : trackerFits (trackerOf t s e) ≡ true → scopeFits (scopeOf g r) ≡ true → length (removedEntries t e g r is) ≤ 67108864
+  pub few-entries : trackerFits (trackerOf t s e) ≡ true → scopeFits (scopeOf g r) ≡ true → length (removedEntries t e g r is) ≤ mostEntries
   unfolding trackerOf
   few-entries a b =
       let m = tracker .starts in
@@ -117,6 +118,7 @@ module _ {t s e g r is : List ℕ} (tracker : TrackerTested t s e) (scope : Scop
       ap (λ (x : BothResult). entries (x .log)) (call-is t s e g r is none (sparse-done told refl)) ∙ sym (entries-written (sparseAll ranged is (setsOf t s e g r) .log)) ∙ ap length model-entries in
       omega arith
 
+  -- 15, or done
   pub call-done : {fits : Bool} {h : LogHead} {l : List ℕ} {x : Answered} {t′ s′ e′ g′ l′ : List ℕ} → fits ≡ true → headFits (length l / 7) h ≡ true → Changed (removedEntries t e g r is) (setsAfter t s e g r is) h t s e g r l x t′ s′ e′ g′ l′
       → Removed fits (setAndRemoveSparse ranged (trackerOf t s e) (scopeOf g r) is) h t s e g r l x t′ s′ e′ g′ l′
   call-done {fits} {h} {l} {x} {t′} {s′} {e′} {g′} {l′} f k c =

@@ -18,31 +18,34 @@ use Rattle.agreement.specs.Fits.{ExtentFits, HeldFits, SlotFits}
 use Rattle.ready.specs.Tested.{ScopeTested}
 
 -- ---- The scope without texture i: its word of ownership is 0, and the view of all else stays
-module _ (g r : List ℕ) (i : ℕ) where
+module _ (g : List ℕ) (i : ℕ) where
+  -- every other word stays
   pub off : (x : ℕ) → (x ≡ 8 + i → ⊥) → getD (set g (8 + i) 0) x 0 ≡ getD g x 0
   off x ne = getD-set-other g (8 + i) x 0 0 ne
 
-  off-held : (d : Numbers) → i < 64 → (j : ℕ) → heldOf d startHalf (set g (8 + i) 0) r j ≡ heldOf d startHalf g r j
-  off-held d few j =
+  -- what is held stays
+  off-held : (r : List ℕ) (d : Numbers) → i < 64 → (j : ℕ) → heldOf d startHalf (set g (8 + i) 0) r j ≡ heldOf d startHalf g r j
+  off-held r d few j =
       held-ext d startHalf g r (set g (8 + i) 0) r j (off 5 (λ z. omega arith)) (off (72 + j) (λ z. omega arith)) (off (200 + j) (λ z. omega arith))
       (λ k q. mip-ext d startHalf g r (set g (8 + i) 0) r j k (off (countAt startHalf j k) (λ z. omega arith)) refl)
 
+  -- it is not owned
   pub off-not : i < 64 → length g ≡ 2376 → ownedOf (set g (8 + i) 0) i ≡ false
   off-not few long = rw (eq-eqb (getD (set g (8 + i) 0) (8 + i) 0) 0 (getD-set-same g (8 + i) 0 0 (omega arith)))
 
   -- THE VIEW after it
-  pub off-view : i < getD g 0 0 → i < 64 → length g ≡ 2376
+  pub off-view : (r : List ℕ) → i < getD g 0 0 → i < 64 → length g ≡ 2376
       → scopeOf (set g (8 + i) 0) r ≡ withSlots (scopeOf g r) (set (scopeOf g r .slots) i (record { owned = false; extent = extentOf g i; held = heldOf (numbersOf g) startHalf g r i }))
   unfolding scopeOf
-  off-view h few long =
+  off-view r h few long =
       let d : numbersOf (set g (8 + i) 0) ≡ numbersOf g = rw (off 0 (λ z. omega arith), off 1 (λ z. omega arith), off 2 (λ z. omega arith)) in
       let n = numbersOf g in
       let f : SlotFrame (getD g 0 0) i (heldOf n startHalf g r) (heldOf n startHalf (set g (8 + i) 0) r) g (set g (8 + i) 0) = record {
         head = λ x q. off x (λ z. omega arith);
-        others = λ j a ne. rw (off (8 + j) (λ z. ne (omega arith)), off (72 + j) (λ z. omega arith), off (136 + j) (λ z. omega arith), off-held n few j);
+        others = λ j a ne. rw (off (8 + j) (λ z. ne (omega arith)), off (72 + j) (λ z. omega arith), off (136 + j) (λ z. omega arith), off-held r n few j);
       } in
       let w : slotWith (heldOf n startHalf (set g (8 + i) 0) r) (set g (8 + i) 0) i ≡ record { owned = false; extent = extentOf g i; held = heldOf n startHalf g r i } =
-      rw (getD-set-same g (8 + i) 0 0 (omega arith), off (72 + i) (λ z. omega arith), off (136 + i) (λ z. omega arith), off-held n few i) in
+      rw (getD-set-same g (8 + i) 0 0 (omega arith), off (72 + i) (λ z. omega arith), off (136 + i) (λ z. omega arith), off-held r n few i) in
       ap (λ (y : Numbers). setWith (heldOf y startHalf (set g (8 + i) 0) r) (set g (8 + i) 0)) d ∙ set-becomes (record { owned = false; extent = extentOf g i; held = heldOf n startHalf g r i }) h f w
 
 -- ---- The scope is as it was, but that it owns less
@@ -52,6 +55,7 @@ pub record Fewer (g g₁ : List ℕ) : Type 0 where
   pub long : length g₁ ≡ length g
 
 module _ {g g₁ : List ℕ} (v : Fewer g g₁) where
+  -- N, M, W, the flags, the extents and what is held stay
   numbers-same : numbersOf g₁ ≡ numbersOf g
   numbers-same = rw (v .words 0 (inl (omega arith)), v .words 1 (inl (omega arith)), v .words 2 (inl (omega arith)))
 
@@ -67,6 +71,7 @@ module _ {g g₁ : List ℕ} (v : Fewer g g₁) where
         held-ext (numbersOf g) startHalf g r g₁ r j (v .words 5 (inl (omega arith))) (v .words (72 + j) (inr (omega arith))) (v .words (200 + j) (inr (omega arith)))
         (λ k z. mip-ext (numbersOf g) startHalf g r g₁ r j k (v .words (countAt startHalf j k) (inr (omega arith))) refl)
 
+    -- a slot that it still owns fits
     slot-fits : (j : ℕ) → j < getD g 0 0 → SlotFits HeldFits (numbersOf g) (flagsOf g) (slotWith (heldOf (numbersOf g) startHalf g₁ r) g₁ j)
     slot-fits j h =
         let f = q .slots j h in
@@ -75,6 +80,7 @@ module _ {g g₁ : List ℕ} (v : Fewer g g₁) where
           held = λ o. subst (λ (y : Extent). HeldFits (flagsOf g) y (heldOf (numbersOf g) startHalf g₁ r j)) (sym (extent-same j)) (subst (HeldFits (flagsOf g) (extentOf g j)) (sym (held-same j)) (f .held (v .less j o)));
         }
 
+    -- so it passes the test
     pub still-tested : ScopeTested g₁ r
     still-tested =
         let m = q .measured in

@@ -30,6 +30,10 @@ use Rattle.removing.specs.Sparse.{Both, into, given, takenLog, sparse-lo
 pub record LogsListed (t e g r is : List ℕ) : Type 0 where
   pub each : (k : ℕ) → k < length is → LogsAt t e (getD is k 0) startHalf g r
 
+-- as many as a call adds at most: N × M × W
+abbrev pub mostEntries : ℕ
+mostEntries = 262144
+
 -- the transitions of the index at position k
 abbrev pub listedEntries : UsageFlags → ℕ → List ℕ → List ℕ → List ℕ → List ℕ → List ℕ → ℕ → List Entry
 listedEntries p mask t e g r is k = onceAt (givenEntries p mask t e startHalf g r) is k
@@ -42,20 +46,24 @@ entriesTo p mask t e g r is n = upTo (λ (k : ℕ). entriesAt (getD is k 0) (lis
 abbrev pub removedEntries : List ℕ → List ℕ → List ℕ → List ℕ → List ℕ → List PendingTransition
 removedEntries t e g r is = entriesTo (flagsOf t) (getD t 7 0) t e g r is (length is)
 
--- ---- The slots of an index
+-- ---- The slots of an index, as the model reads them
+-- the sets that were lent
 abbrev pub setsOf : List ℕ → List ℕ → List ℕ → List ℕ → List ℕ → Both
 setsOf t s e g r = (trackerOf t s e, scopeOf g r)
 
+-- the scope's, within its N
 pub given-is : (t s e g r : List ℕ) (i : ℕ) → i < getD g 0 0 → given (setsOf t s e g r) i ≡ slotWith (heldOf (numbersOf g) startHalf g r) g i
 unfolding scopeOf
 given-is t s e g r i h = list-at (slotWith (heldOf (numbersOf g) startHalf g r) g) (getD g 0 0) i (emptySlot (ranged .fresh 0)) h
 
+-- the tracker's, within its N
 pub into-is : (t s e g r : List ℕ) (i : ℕ) → i < getD t 0 0 → into (setsOf t s e g r) i ≡ slotOf t s e i
 unfolding trackerOf
 into-is t s e g r i h = list-at (slotOf t s e) (getD t 0 0) i (emptySlot (noEnds ranged)) h
 
 -- ---- Once the test and the checks passed
 module _ {t s e g r is : List ℕ} (tested : TrackerTested t s e) (scope : ScopeTested g r) (passed : SparsePassed t g is) where
+  -- every listed index is ready
   pub logs-listed : LogsListed t e g r is
   logs-listed = record {
     each = λ k h.
@@ -71,7 +79,7 @@ module _ {t s e g r is : List ℕ} (tested : TrackerTested t s e) (scope : Scope
         };
   }
 
-  -- ---- The entries are the model's
+  -- what the index at position k logs
   log-is : (k : ℕ) → k < length is → pending (takenLog (setsOf t s e g r) (getD is k 0)) ≡ entriesAt (getD is k 0) (givenEntries (flagsOf t) (getD t 7 0) t e startHalf g r (getD is k 0))
   unfolding trackerOf
   log-is k h = rw (given-is t s e g r (getD is k 0) (passed .below k h)) (go (ownedOf g (getD is k 0)) refl)
@@ -84,6 +92,7 @@ module _ {t s e g r is : List ℕ} (tested : TrackerTested t s e) (scope : Scope
           ∙ slot-pending (flagsOf t) (getD t 7 0) (extentOf g (getD is k 0)) (givenAt startHalf g r (getD is k 0)) (getD is k 0) (slotOf t s e (getD is k 0))
       go false o = refl
 
+  -- THE ENTRIES are the model's
   pub entries-model : pending (sparseAll ranged is (setsOf t s e g r) .log) ≡ removedEntries t e g r is
   entries-model =
       ap pending (sparse-log (setsOf t s e g r) is) ∙ once-each pendingOf (takenLog (setsOf t s e g r)) [] is ∙ once-up (λ (i : ℕ). pending (takenLog (setsOf t s e g r) i)) is

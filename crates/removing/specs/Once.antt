@@ -15,6 +15,7 @@ use Rattle.agreement.specs.LogBound.{listed}
 use Rattle.joining.specs.Adds.{upTo}
 
 -- ---- Whether an index is listed
+-- one more index at the end
 listed-last : (is : List ℕ) (i j : ℕ) → listed j (is ++ (i ∷ [])) ≡ (if listed j is then true else eqb i j)
 listed-last [] i j = go (eqb i j)
   where
@@ -44,9 +45,11 @@ is-listed is i j e = go (listed j is) (sym (listed-last is i j) ∙ e)
     go false z = inr (sym (eqb-true i j z))
 
 -- ---- A scan of the first k
+-- the next is another
 pub scan-next : (is : List ℕ) (i k : ℕ) → k < length is → listed i (take k is) ≡ false → (getD is k 0 ≡ i → ⊥) → listed i (take (k + 1) is) ≡ false
 scan-next is i k h e ne = rw (add-one, take-suc is k 0 h, listed-last (take k is) (getD is k 0) i, e, ne-eqb (getD is k 0) i ne)
 
+-- it stands among them
 pub scan-found : (is : List ℕ) (i j k : ℕ) → j < k → k ≤ length is → getD is j 0 ≡ i → listed i (take k is) ≡ true
 scan-found [] i j k a b e = absurd (omega arith)
 scan-found (x ∷ is) i j zero a b e = absurd (omega arith)
@@ -67,10 +70,12 @@ abbrev pub onceAt : {A : Type 0} → (ℕ → List A) → List ℕ → ℕ → L
 onceAt f is k = if listed (getD is k 0) (take k is) then [] else f (getD is k 0)
 
 module _ {A : Type 0} (f : ℕ → List A) (is : List ℕ) where
+  -- position k first
   once-next : (k : ℕ) → k < length is → eachOnce f (take k is) (drop k is) ≡ onceAt f is k ++ eachOnce f (take (suc k) is) (drop (suc k) is)
   unfolding eachOnce
   once-next k h = rw (drop-cons is k 0 h, take-suc is k 0 h)
 
+  -- the first k positions, and then the others
   once-front : (k : ℕ) → k ≤ length is → upTo (onceAt f is) k ++ eachOnce f (take k is) (drop k is) ≡ eachOnce f [] is
   unfolding upTo
   once-front zero h = refl
@@ -85,11 +90,13 @@ module _ {A : Type 0} (f : ℕ → List A) (is : List ℕ) where
       sym (once-front (length is) (omega arith))
       ∙ ap (λ (y : List ℕ). upTo (onceAt f is) (length is) ++ eachOnce f (take (length is) is) y) (drop-length is) ∙ append-nil (upTo (onceAt f is) (length is))
 
+-- what is made alike at each position
 pub up-ext : {A : Type 0} (f g : ℕ → List A) (n : ℕ) → ((k : ℕ) → k < n → f k ≡ g k) → upTo f n ≡ upTo g n
 unfolding upTo
 up-ext f g zero e = refl
 up-ext f g (suc n) e = rw (up-ext f g n (λ k h. e k (omega arith)), e n (omega arith))
 
+-- what r makes of one list after another
 each-append : {A B : Type 0} (r : A → List B) (s t : List A) → each r (s ++ t) ≡ each r s ++ each r t
 each-append r [] t = refl
 each-append r (x ∷ s) t = rw (each-append r s t) (sym (append-assoc (r x) (each r s) (each r t)))

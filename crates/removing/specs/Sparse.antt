@@ -21,13 +21,15 @@ use Rattle.removing.specs.Once.{not-listed, is-listed, eachOnce}
 abbrev pub Both : Type 0
 Both = Tracker Held × Set Held
 
+-- what the call gives
 abbrev BothResult : Type 0
 BothResult = CallResult InvalidUse (List Entry) Both
 
--- the slots of an index
+-- the slot of an index in the tracker
 abbrev pub into : Both → ℕ → Slot (Ends Held)
 into ts i = slotAt (noEnds ranged) (ts .0 .set) i
 
+-- and in the scope
 abbrev pub given : Both → ℕ → Slot Held
 given ts i = slotAt (ranged .fresh 0) (ts .1) i
 
@@ -36,24 +38,29 @@ abbrev pub takenLog : Both → ℕ → List (Indexed (List Entry))
 takenLog ts i = if given ts i .owned then logSlot ranged (ts .0 .set .flags) (ts .0 .mask) (given ts i .extent) (fromHeld (given ts i .held)) i (into ts i) else []
 
 -- ---- What index i leaves
+-- an unowned slot is written, or the list has none there
 set-unowned : (l : List (Slot Held)) (i : ℕ) (d v : Slot Held) → d .owned ≡ false → v .owned ≡ false → getD (set l i v) i d .owned ≡ false
 set-unowned [] i d v a b = a
 set-unowned (x ∷ l) zero d v a b = b
 set-unowned (x ∷ l) (suc i) d v a b = set-unowned l i d v a b
 
 module _ (ts : Both) (i : ℕ) where
+  -- the sets after it
   abbrev next : Both
   next = sparseOne ranged i ts .after
 
+  -- its log
   one-log : sparseOne ranged i ts .log ≡ takenLog ts i
   one-log = by-test₂ (λ (o : BothResult) (l : List (Indexed (List Entry))). o .log ≡ l) (given ts i .owned) (λ e. refl) (λ e. refl)
 
+  -- the flags and the mask stay
   one-flags : next .0 .set .flags ≡ ts .0 .set .flags
   one-flags = by-test (λ (o : BothResult). o .after .0 .set .flags ≡ ts .0 .set .flags) (given ts i .owned) (λ e. refl) (λ e. refl)
 
   one-mask : next .0 .mask ≡ ts .0 .mask
   one-mask = by-test (λ (o : BothResult). o .after .0 .mask ≡ ts .0 .mask) (given ts i .owned) (λ e. refl) (λ e. refl)
 
+  -- the slots of other indices stay
   one-into : (j : ℕ) → (j ≡ i → ⊥) → into next j ≡ into ts j
   one-into j ne =
       by-test (λ (o : BothResult). into (o .after) j ≡ into ts j) (given ts i .owned) (λ e. getD-set-other (ts .0 .set .slots) i j _ (emptySlot (noEnds ranged)) ne) (λ e. refl)
@@ -75,10 +82,12 @@ record Took (was : Both) (seen : List ℕ) (ts : Both) : Type 0 where
   given-same : (j : ℕ) → listed j seen ≡ false → given ts j ≡ given was j
   gone : (j : ℕ) → listed j seen ≡ true → given ts j .owned ≡ false
 
+-- none is taken
 took-none : (ts : Both) → Took ts [] ts
 took-none ts = record { flags = refl; mask = refl; into-same = λ j e. refl; given-same = λ j e. refl; gone = λ j e. absurd (false≢true e) }
 
 module _ {was ts : Both} {seen : List ℕ} (q : Took was seen ts) (i : ℕ) where
+  -- one more
   took-more : Took was (seen ++ (i ∷ [])) (next ts i)
   took-more = record {
     flags = one-flags ts i ∙ q .flags;
@@ -104,6 +113,7 @@ module _ {was ts : Both} {seen : List ℕ} (q : Took was seen ts) (i : ℕ) wher
       go true e = rw (q .gone i e)
       go false e = rw (q .flags, q .mask, q .into-same i e, q .given-same i e)
 
+-- the log of what is left of the list
 log-from : (was : Both) (is seen : List ℕ) (ts : Both) → Took was seen ts → sparseAll ranged is ts .log ≡ eachOnce (takenLog was) seen is
 unfolding eachOnce
 log-from was [] seen ts q = refl

@@ -56,6 +56,7 @@ pub record Takes (t s e g r is t′ s′ e′ g′ : List ℕ) : Type 0 where
   pub given : length g′ ≡ length g
 
 -- ---- One texture
+-- the scope does not own it
 pub taken-not : {t s e g r : List ℕ} {i : ℕ} {p : UsageFlags} → getD g (8 + i) 0 ≡ 0 → TakenAt t s e g r i p t s e g
 taken-not {g = g} {i = i} z = record {
   free = λ o. (refl, (refl, (refl, refl)));
@@ -64,6 +65,7 @@ taken-not {g = g} {i = i} z = record {
   end-long = refl;
 }
 
+-- it does, and its word of ownership becomes 0
 pub taken-own : {t s e g r : List ℕ} {i : ℕ} {p : UsageFlags} {t′ s′ e′ : List ℕ} → (getD g (8 + i) 0 ≡ 0 → ⊥) → SlotSet t s e i (slotAfter p startHalf startHalf g r r i (slotOf t s e i)) t′ s′ e′ → TakenAt t s e g r i p t′ s′ e′ (set g (8 + i) 0)
 taken-own {g = g} {i = i} z q = let o : ownedOf g i ≡ true = rw (ne-eqb (getD g (8 + i) 0) 0 z) in record {
   free = λ w. absurd (false≢true (sym w ∙ o));
@@ -83,7 +85,7 @@ module _ {t s e g r : List ℕ} {i : ℕ} {p : UsageFlags} {t′ s′ e′ g′ 
       let own : ownedOf g i ≡ true = sym (ap (λ (y : Slot Held). y .owned) z) ∙ o in
       let w = q .own own in
       let ss = subst (λ (y : UsageFlags). SlotSet t s e i (setSlot ranged y (extentOf g i) (givenAt startHalf g r i) (givenAt startHalf g r i) (slotOf t s e i)) t′ s′ e′) f (w .0) in
-      rw (z, into-is t s e g r i (inside own)) (λ j. (slot-view (inside own) ss j, (ap (λ (y : List ℕ). scopeOf y r) (w .1) ∙ off-view g r i h few long) j)))
+      rw (z, into-is t s e g r i (inside own)) (λ j. (slot-view (inside own) ss j, (ap (λ (y : List ℕ). scopeOf y r) (w .1) ∙ off-view g i r h few long) j)))
       (λ o. let w = q .free (sym (ap (λ (y : Slot Held). y .owned) z) ∙ o) in rw (w .0, w .1 .0, w .1 .1 .0, w .1 .1 .1))
 
 -- ---- All that is listed, turn by turn: what is left of the list makes of the sets what all of it makes at entry, and a texture that the scope still owns is as it was
@@ -97,6 +99,7 @@ pub record Taking (t s e g r is : List ℕ) (k : ℕ) (t₁ s₁ e₁ g₁ : Lis
   pub end-long : length e₁ ≡ length e
   pub table : length t₁ ≡ length t
 
+-- nothing is taken yet
 pub taking-start : (t s e g r is : List ℕ) → Taking t s e g r is 0 t s e g
 taking-start t s e g r is = record {
   within = omega arith;
@@ -110,9 +113,11 @@ taking-start t s e g r is = record {
 }
 
 module _ {t s e g r is : List ℕ} (w : Removes t s e g r is) {k : ℕ} {t₁ s₁ e₁ g₁ : List ℕ} (q : Taking t s e g r is k t₁ s₁ e₁ g₁) (h : k < length is) where
+  -- the scope passes the test still
   taking-scope : ScopeTested g₁ r
   taking-scope = still-tested (q .scope) (w .scope)
 
+  -- the index at k is below its N
   taking-below : getD is k 0 < getD g₁ 0 0
   taking-below = rw (q .scope .words 0 (inl (omega arith))) (w .passed .below k h)
 
@@ -166,7 +171,7 @@ module _ {t s e g r is : List ℕ} (w : Removes t s e g r is) {k : ℕ} {t₁ s�
     after = a;
     head = λ x b. z .frame .head x b ∙ q .head x b;
     scope = record {
-      words = λ x b. off g₁ r (getD is k 0) x (apart x b) ∙ q .scope .words x b;
+      words = λ x b. off g₁ (getD is k 0) x (apart x b) ∙ q .scope .words x b;
       less = λ j o. q .scope .less j (still j o (ℕ-discrete j (getD is k 0)) .1);
       long = length-set g₁ (8 + getD is k 0) 0 ∙ q .scope .long;
     };
@@ -184,13 +189,14 @@ module _ {t s e g r is : List ℕ} (w : Removes t s e g r is) {k : ℕ} {t₁ s�
       apart x (inr b) e = omega (arith, small)
 
       still : (j : ℕ) → ownedOf (set g₁ (8 + getD is k 0) 0) j ≡ true → Dec (j ≡ getD is k 0) → (j ≡ getD is k 0 → ⊥) × (ownedOf g₁ j ≡ true)
-      still j o (yes e) = absurd (false≢true (sym (off-not g₁ r (getD is k 0) small (taking-scope .measured .table)) ∙ rw e at o))
-      still j o (no ne) = (ne, rw (off g₁ r (getD is k 0) (8 + j) (λ y. ne (omega arith))) at o)
+      still j o (yes e) = absurd (false≢true (sym (off-not g₁ (getD is k 0) small (taking-scope .measured .table)) ∙ rw e at o))
+      still j o (no ne) = (ne, rw (off g₁ (getD is k 0) (8 + j) (λ y. ne (omega arith))) at o)
 
       other : (j : ℕ) → j < getD t 0 0 → (j ≡ getD is k 0 → ⊥) → slotWith (endsOf (numbersOf t) t₂ s₂ e₂) t₂ j ≡ slotWith (endsOf (numbersOf t) t₁ s₁ e₁) t₁ j
       other j b ne =
           subst (λ (n : Numbers). slotWith (endsOf n t₂ s₂ e₂) t₂ j ≡ slotWith (endsOf n t₁ s₁ e₁) t₁ j) (numbers-kept t t₁ (q .head)) (z .frame .others j (rw (q .head 0 (omega arith)) b) ne)
 
+  -- one more is taken
   pub taking-turn : {t₂ s₂ e₂ g₂ : List ℕ} {p : UsageFlags} → p ≡ flagsOf t → TakenAt t₁ s₁ e₁ g₁ r (getD is k 0) p t₂ s₂ e₂ g₂ → Taking t s e g r is (k + 1) t₂ s₂ e₂ g₂
   taking-turn {t₂} {s₂} {e₂} {g₂} f z = go (ownedOf g₁ (getD is k 0)) refl (after-turn f z)
     where
@@ -198,6 +204,7 @@ module _ {t s e g r is : List ℕ} (w : Removes t s e g r is) {k : ℕ} {t₁ s�
       go true o a = let y = z .own o in rw (y .1) (turn-own (y .0) (rw (y .1) at a))
       go false o a = let y = z .free o in rw (y .0, y .1 .0, y .1 .1 .0, y .1 .1 .1) (turn-free (rw (y .0, y .1 .0, y .1 .1 .0, y .1 .1 .1) at a))
 
+-- the list is at its end
 pub taking-end : {t s e g r is : List ℕ} {k : ℕ} {t₁ s₁ e₁ g₁ : List ℕ} → Taking t s e g r is k t₁ s₁ e₁ g₁ → length is ≤ k → Takes t s e g r is t₁ s₁ e₁ g₁
 taking-end {t} {s} {e} {g} {r} {is} {k} {t₁} {s₁} {e₁} {g₁} q past =
     let n : drop k is ≡ [] = let z : k ≡ length is = omega (arith, q .within) in rw z (drop-length is) in

@@ -12,7 +12,7 @@ ghost use Rattle.agreement.specs.LogBound.{listed};
 ghost use Rattle.barrier.specs.Steps.{logTop};
 ghost use Rattle.barrier.specs.Logged.{Room, Logged};
 ghost use Rattle.joining.specs.Adds.{RoomFor, Adds};
-ghost use Rattle.removing.specs.Logs.{LogsListed, listedEntries, entriesTo};
+ghost use Rattle.removing.specs.Logs.{LogsListed, mostEntries, listedEntries, entriesTo};
 
 // Whether the index at position k is listed before it.
 pub fn listed_before(indices: &[u32], k: usize) -> bool
@@ -75,10 +75,10 @@ pub fn log_listed(
     write: bool,
 ) -> usize
     requires { ⌜ LogsListed (now table) (now ends) (now given) (now lent) (now indices) ⌝ }
-    requires { ⌜ length (entriesTo p mask (now table) (now ends) (now given) (now lent) (now indices) (length (now indices))) ≤ 67108864 ⌝ }
-    requires { ⌜ at + 67108864 ≤ logTop ⌝ }
+    requires { ⌜ length (entriesTo p mask (now table) (now ends) (now given) (now lent) (now indices) (length (now indices))) ≤ mostEntries ⌝ }
+    requires { ⌜ at + mostEntries ≤ logTop ⌝ }
     requires { ⌜ RoomFor write (now log) at (entriesTo p mask (now table) (now ends) (now given) (now lent) (now indices) (length (now indices))) ⌝ }
-    ensures { λ x. ⌜ Adds 67108864 write (now (log .entry)) at (entriesTo p mask (now (table .entry)) (now (ends .entry)) (now (given .entry)) (now (lent .entry)) (now (indices .entry)) (length (now (indices .entry)))) x (now (log .exit)) ⌝ }
+    ensures { λ x. ⌜ Adds mostEntries write (now (log .entry)) at (entriesTo p mask (now (table .entry)) (now (ends .entry)) (now (given .entry)) (now (lent .entry)) (now (indices .entry)) (length (now (indices .entry)))) x (now (log .exit)) ⌝ }
 {
     let mut x = 0;
     let mut k = 0;

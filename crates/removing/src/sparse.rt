@@ -24,7 +24,7 @@ ghost use Rattle.model.specs.Texture.{ranged};
 ghost use Rattle.model.specs.WellFormed.{wellFormedScope, wellFormedTracker};
 ghost use Rattle.storage.specs.Storage.{scopeOf, trackerOf};
 ghost use Rattle.setting.specs.Logging.{headFits};
-ghost use Rattle.removing.specs.Logs.{removedEntries};
+ghost use Rattle.removing.specs.Logs.{mostEntries, removedEntries};
 ghost use Rattle.removing.specs.Taken.{Removes, setsAfter};
 ghost use Rattle.removing.specs.Changed.{Changed};
 ghost use Rattle.removing.specs.Removed.{Removed};
@@ -41,7 +41,7 @@ pub fn remove_checked(
     head: LogHead,
 ) -> Answered
     requires { ⌜ Removes (now table) (now starts) (now ends) (now given) (now lent) (now indices) ⌝ }
-    requires { ⌜ length (removedEntries (now table) (now ends) (now given) (now lent) (now indices)) ≤ 67108864 ⌝ }
+    requires { ⌜ length (removedEntries (now table) (now ends) (now given) (now lent) (now indices)) ≤ mostEntries ⌝ }
     requires { ⌜ headFits (length (now log) / 7) head ≡ true ⌝ }
     requires { ⌜ length (now log) < 18446744073709551616 ⌝ }
     ensures { λ x. ⌜ Changed (removedEntries (now (table .entry)) (now (ends .entry)) (now (given .entry)) (now (lent .entry)) (now (indices .entry))) (setsAfter (now (table .entry)) (now (starts .entry)) (now (ends .entry)) (now (given .entry)) (now (lent .entry)) (now (indices .entry))) head (now (table .entry)) (now (starts .entry)) (now (ends .entry)) (now (given .entry)) (now (lent .entry)) (now (log .entry)) x (now (table .exit)) (now (starts .exit)) (now (ends .exit)) (now (given .exit)) (now (log .exit)) ⌝ }

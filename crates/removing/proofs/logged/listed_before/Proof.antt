@@ -1,15 +1,14 @@
-use native.Mathlib.Omega.{arith}
-use borrow.Author.Needs.{needs}
+-- `listed_before`: a scan of the positions before k, none of which so far holds the index.
 use Prim.Native.Nat.{_≤_, _-_}
+use native.Mathlib.Omega.{arith}
 use mathlib.Core.Path.{_≡_, refl, sym}
 use mathlib.Core.Bool.{false}
 use lib.ListN.{take, getD}
+use borrow.Author.Needs.{needs}
 use Rattle.agreement.specs.LogBound.{listed}
 use Rattle.removing.specs.Once.{scan-found, scan-next}
 use Rattle.removing.proofs.logged.listed_before.Statement.{statement}
 use Rattle.removing.proofs.logged.listed_before.Tie as tie
-use Rattle.removing.proofs.logged.listed_before.Reads as reads
-use Rattle.removing.proofs.logged.listed_before.Lts as lts
 
 abbrev Inv-loop : tie.InvT-loop
 Inv-loop indices k i j₀ j = (j ≤ k) × (listed i (take j indices) ≡ false)

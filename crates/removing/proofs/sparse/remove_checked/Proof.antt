@@ -1,74 +1,54 @@
-use native.Mathlib.Omega.{arith}
+-- `remove_checked`: the entries are counted against the free ones, then written, and both sets change.
 use Prim.Native.Nat.{_/_}
-use lib.ListN.{length}
+use native.Mathlib.Omega.{arith}
 use mathlib.Core.Bool.{false≢true}
+use lib.ListN.{length}
+use borrow.Author.Needs.{needs}
 use Rattle.setting.specs.Logging.{head-le}
 use Rattle.removing.specs.Logs.{logs-listed}
 use Rattle.removing.proofs.Answers.{room-for, not-enough, written}
-use borrow.Author.Needs.{needs}
 use Rattle.removing.proofs.sparse.remove_checked.Statement.{statement}
 use Rattle.removing.proofs.sparse.remove_checked.Tie as tie
-use Rattle.removing.proofs.sparse.remove_checked.Reads as reads
-use Rattle.removing.proofs.sparse.remove_checked.Lts as lts
-use Rattle.removing.proofs.logged.log_listed.Reads as log-listed-reads
-use Rattle.removing.proofs.taken.set_listed.Reads as set-listed-reads
-use Rattle.setting.proofs.head.moved_on.Reads as moved-on-reads
-use Rattle.setting.proofs.head.refused.Reads as refused-reads
-use Rattle.storage.proofs.flags_of.Reads as flags-of-reads
 
--- src/sparse.rt:49:9
 flags-of-requires : tie.Need-flags-of-requires
 flags-of-requires c κs = search needs
 
--- src/sparse.rt:50:16
 element-copy-out-mask : tie.Need-element-copy-out-mask
 element-copy-out-mask c = search needs
 
--- src/sparse.rt:51:9
 log-listed-requires : tie.Need-log-listed-requires
 log-listed-requires c κs = rw ((c .before .before .before .before .before .flags-of .ensures)) (logs-listed ((c .before .before .before .before .before .before .before .before .before .before .before .before .pre) .0 .tracker) ((c .before .before .before .before .before .before .before .before .before .before .before .before .pre) .0 .scope) ((c .before .before .before .before .before .before .before .before .before .before .before .before .pre) .0 .passed), ((c .before .before .before .before .before .before .before .before .before .before .before .before .pre) .1 .0, (omega arith, λ w. absurd (false≢true w))))
 
--- src/sparse.rt:53:9
 refused-requires : tie.Need-refused-requires
 refused-requires c κs = search needs
 
--- src/sparse.rt:53:9
 same-length : tie.Need-same-length
 same-length c = search needs
 
--- src/sparse.rt:53:9
 same-length-2 : tie.Need-same-length-2
 same-length-2 c = search needs
 
--- src/sparse.rt:53:9
 returns : tie.Need-returns
 returns c = rw ((c .refused .ensures)) (not-enough ((c .before .before .before .before .before .before .before .before .before .before .before .before .before .before .before .before .before .before .args) .table .now) ((c .before .before .before .before .before .before .before .before .before .before .before .before .before .before .before .before .before .before .args) .starts .now) ((c .before .before .before .before .before .before .before .before .before .before .before .before .before .before .before .before .before .before .args) .ends .now) ((c .before .before .before .before .before .before .before .before .before .before .before .before .before .before .before .before .before .before .args) .given .now) ((c .before .before .before .before .before .before .before .before .before .before .before .before .before .before .before .before .before .before .args) .lent .now) ((c .before .before .before .before .before .before .before .before .before .before .before .before .before .before .before .before .before .before .args) .indices .now) ((c .before .before .before .before .before .before .before .before .before .before .before .before .before .before .before .before .before .before .args) .head) (rw ((c .before .before .before .before .before .before .before .before .before .before .before .flags-of .ensures)) at (c .before .before .before .before .before .log-listed .ensures)) (c .before .if1 .taken))
 
--- src/sparse.rt:56:5
 log-listed-requires-2 : tie.Need-log-listed-requires-2
 log-listed-requires-2 c κs = rw ((c .before .before .before .before .before .before .before .before .before .before .before .before .before .before .flags-of .ensures)) (logs-listed ((c .before .before .before .before .before .before .before .before .before .before .before .before .before .before .before .before .before .before .before .before .before .pre) .0 .tracker) ((c .before .before .before .before .before .before .before .before .before .before .before .before .before .before .before .before .before .before .before .before .before .pre) .0 .scope) ((c .before .before .before .before .before .before .before .before .before .before .before .before .before .before .before .before .before .before .before .before .before .pre) .0 .passed), ((c .before .before .before .before .before .before .before .before .before .before .before .before .before .before .before .before .before .before .before .before .before .pre) .1 .0, (omega (arith, head-le (length ((c .before .before .before .before .before .before .before .before .before .before .before .before .before .before .before .before .before .before .before .before .before .args) .log .now) / 7) ((c .before .before .before .before .before .before .before .before .before .before .before .before .before .before .before .before .before .before .before .before .before .args) .head) ((c .before .before .before .before .before .before .before .before .before .before .before .before .before .before .before .before .before .before .before .before .before .pre) .1 .1 .0), (c .before .before .before .before .before .before .before .before .before .before .before .before .before .before .before .before .before .before .before .before .before .pre) .1 .1 .1), λ w. room-for ((c .before .before .before .before .before .before .before .before .before .before .before .before .before .before .before .before .before .before .before .before .before .args) .table .now) ((c .before .before .before .before .before .before .before .before .before .before .before .before .before .before .before .before .before .before .before .before .before .args) .starts .now) ((c .before .before .before .before .before .before .before .before .before .before .before .before .before .before .before .before .before .before .before .before .before .args) .ends .now) ((c .before .before .before .before .before .before .before .before .before .before .before .before .before .before .before .before .before .before .before .before .before .args) .given .now) ((c .before .before .before .before .before .before .before .before .before .before .before .before .before .before .before .before .before .before .before .before .before .args) .lent .now) ((c .before .before .before .before .before .before .before .before .before .before .before .before .before .before .before .before .before .before .before .before .before .args) .indices .now) ((c .before .before .before .before .before .before .before .before .before .before .before .before .before .before .before .before .before .before .before .before .before .args) .head) (rw ((c .before .before .before .before .before .before .before .before .before .before .before .before .before .before .flags-of .ensures)) at (c .before .before .before .before .before .before .before .before .log-listed .ensures)) ((c .before .before .before .before .before .before .before .before .before .before .before .before .before .before .before .before .before .before .before .before .before .pre) .1 .1 .0) (c .before .before .before .before .if1 .left))))
 
--- src/sparse.rt:57:5
 set-listed-requires : tie.Need-set-listed-requires
 set-listed-requires c κs = ((c .before .before .before .before .before .before .before .before .before .before .before .before .before .before .before .before .before .before .before .before .before .before .before .before .before .before .before .before .pre) .0, (c .before .before .before .before .before .before .before .before .before .before .before .before .before .before .before .before .before .before .before .before .before .flags-of .ensures))
 
--- src/sparse.rt:58:5
 moved-on-requires : tie.Need-moved-on-requires
 moved-on-requires c κs = ((c .before .before .before .before .before .before .before .before .before .before .before .before .before .before .before .before .if1 .left), omega (arith, head-le (length ((c .before .before .before .before .before .before .before .before .before .before .before .before .before .before .before .before .before .before .before .before .before .before .before .before .before .before .before .before .before .before .before .before .before .args) .log .now) / 7) ((c .before .before .before .before .before .before .before .before .before .before .before .before .before .before .before .before .before .before .before .before .before .before .before .before .before .before .before .before .before .before .before .before .before .args) .head) ((c .before .before .before .before .before .before .before .before .before .before .before .before .before .before .before .before .before .before .before .before .before .before .before .before .before .before .before .before .before .before .before .before .before .pre) .1 .1 .0), (c .before .before .before .before .before .before .before .before .before .before .before .before .before .before .before .before .before .before .before .before .before .before .before .before .before .before .before .before .before .before .before .before .before .pre) .1 .1 .1))
 
--- src/sparse.rt:33:1
 same-length-3 : tie.Need-same-length-3
 same-length-3 c = search needs
 
--- src/sparse.rt:33:1
 same-length-4 : tie.Need-same-length-4
 same-length-4 c = search needs
 
--- src/sparse.rt:33:1
 same-length-5 : tie.Need-same-length-5
 same-length-5 c = search needs
 
--- src/sparse.rt:33:1
 returns-2 : tie.Need-returns-2
 returns-2 c = rw ((c .moved-on .ensures)) (written ((c .before .before .before .before .before .before .before .before .before .before .before .before .before .before .before .before .before .before .before .before .before .before .before .before .before .before .before .before .before .before .before .before .before .before .args) .table .now) ((c .before .before .before .before .before .before .before .before .before .before .before .before .before .before .before .before .before .before .before .before .before .before .before .before .before .before .before .before .before .before .before .before .before .before .args) .starts .now) ((c .before .before .before .before .before .before .before .before .before .before .before .before .before .before .before .before .before .before .before .before .before .before .before .before .before .before .before .before .before .before .before .before .before .before .args) .ends .now) ((c .before .before .before .before .before .before .before .before .before .before .before .before .before .before .before .before .before .before .before .before .before .before .before .before .before .before .before .before .before .before .before .before .before .before .args) .given .now) ((c .before .before .before .before .before .before .before .before .before .before .before .before .before .before .before .before .before .before .before .before .before .before .before .before .before .before .before .before .before .before .before .before .before .before .args) .lent .now) ((c .before .before .before .before .before .before .before .before .before .before .before .before .before .before .before .before .before .before .before .before .before .before .before .before .before .before .before .before .before .before .before .before .before .before .args) .indices .now) ((c .before .before .before .before .before .before .before .before .before .before .before .before .before .before .before .before .before .before .before .before .before .before .before .before .before .before .before .before .before .before .before .before .before .before .args) .head) (rw ((c .before .before .before .before .before .before .before .before .before .before .before .before .before .before .before .before .before .before .before .before .before .before .before .before .before .before .before .flags-of .ensures)) at (c .before .before .before .before .before .before .before .before .before .before .before .before .before .before .before .before .before .before .before .before .before .log-listed .ensures)) (c .before .before .before .before .before .before .before .before .before .before .before .before .before .before .before .before .before .if1 .left) ((c .before .before .before .before .before .before .before .before .before .before .before .before .before .before .before .before .before .before .before .before .before .before .before .before .before .before .before .before .before .before .before .before .before .before .pre) .1 .1 .0) (rw ((c .before .before .before .before .before .before .before .before .before .before .before .before .before .before .before .before .before .before .before .before .before .before .before .before .before .before .before .flags-of .ensures)) at (c .before .before .before .before .before .before .before .before .before .before .before .before .log-listed2 .ensures)) (c .before .before .before .before .before .set-listed .ensures))
 

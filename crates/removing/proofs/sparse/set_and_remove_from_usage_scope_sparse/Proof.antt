@@ -1,171 +1,123 @@
-use native.Mathlib.Omega.{arith}
+-- `set_and_remove_from_usage_scope_sparse`: each check turns the call away with everything lent as it was, and what passes them all is `remove_checked`.
 use mathlib.Core.Path.{refl, sym, _∙_}
 use borrow.Author.Tests.{not-true, not-false}
-use Rattle.ready.specs.Tested.{tracker-tested, scope-tested}
-use Rattle.checks.specs.Told.{sparse-never}
-use Rattle.removing.specs.Changed.{away-unfit, away-short}
-use Rattle.removing.proofs.Answers.{one-unfit, other-unfit, both-fit, removes, few-entries, tracker-part, scope-part, call-done, call-away}
 use borrow.Author.Needs.{needs}
-use Rattle.removing.proofs.sparse.set_and_remove_from_usage_scope_sparse.Statement.{
-  statement,
-}
+use Rattle.agreement.specs.BoolLaws.{both}
+use Rattle.checks.specs.Told.{sparse-never}
+use Rattle.ready.specs.Tested.{tracker-tested, scope-tested}
+use Rattle.removing.specs.Changed.{away-unfit, away-short}
+use Rattle.removing.proofs.Answers.{one-unfit, other-unfit, removes, few-entries, tracker-part, scope-part, call-done, call-away}
+use Rattle.removing.proofs.sparse.set_and_remove_from_usage_scope_sparse.Statement.{statement}
 use Rattle.removing.proofs.sparse.set_and_remove_from_usage_scope_sparse.Tie as tie
-use Rattle.removing.proofs.sparse.set_and_remove_from_usage_scope_sparse.Reads as reads
-use Rattle.removing.proofs.sparse.set_and_remove_from_usage_scope_sparse.Lts as lts
-use Rattle.checks.proofs.check_sparse.Reads as check-sparse-reads
-use Rattle.removing.proofs.sparse.remove_checked.Reads as remove-checked-reads
-use Rattle.setting.proofs.head.head_fits.Reads as head-fits-reads
-use Rattle.setting.proofs.head.lent_entries.Reads as lent-entries-reads
-use Rattle.setting.proofs.head.refused.Reads as refused-reads
-use Rattle.storage.proofs.table_len.Reads as table-len-reads
-use Rattle.wellformed.proofs.scope_fits.Reads as scope-fits-reads
-use Rattle.wellformed.proofs.tracker_fits.Reads as tracker-fits-reads
 
--- src/sparse.rt:74:5
 table-len-requires : tie.Need-table-len-requires
 table-len-requires c κs = search needs
 
--- src/sparse.rt:75:5
 table-len-requires-2 : tie.Need-table-len-requires-2
 table-len-requires-2 c κs = search needs
 
--- src/sparse.rt:76:9
 tracker-fits-requires : tie.Need-tracker-fits-requires
 tracker-fits-requires c κs = search needs
 
--- src/sparse.rt:77:9
 refused-requires : tie.Need-refused-requires
 refused-requires c κs = search needs
 
--- src/sparse.rt:77:9
 same-length : tie.Need-same-length
 same-length c = search needs
 
--- src/sparse.rt:77:9
 same-length-2 : tie.Need-same-length-2
 same-length-2 c = search needs
 
--- src/sparse.rt:77:9
 returns : tie.Need-returns
 returns c = rw ((c .refused .ensures)) (away-unfit (one-unfit _ _ (sym (c .before .before .tracker-fits .ensures) ∙ not-true _ (c .before .if1 .taken))))
 
--- src/sparse.rt:79:9
 scope-fits-requires : tie.Need-scope-fits-requires
 scope-fits-requires c κs = search needs
 
--- src/sparse.rt:80:9
 refused-requires-2 : tie.Need-refused-requires-2
 refused-requires-2 c κs = search needs
 
--- src/sparse.rt:80:9
 same-length-3 : tie.Need-same-length-3
 same-length-3 c = search needs
 
--- src/sparse.rt:80:9
 same-length-4 : tie.Need-same-length-4
 same-length-4 c = search needs
 
--- src/sparse.rt:80:9
 returns-2 : tie.Need-returns-2
 returns-2 c = rw ((c .refused2 .ensures)) (away-unfit (other-unfit _ _ (sym (c .before .before .before .before .before .tracker-fits .ensures) ∙ not-false _ (c .before .before .before .before .if1 .left)) (sym (c .before .before .scope-fits .ensures) ∙ not-true _ (c .before .if2 .taken))))
 
--- src/sparse.rt:82:19
 lent-entries-requires : tie.Need-lent-entries-requires
 lent-entries-requires c κs = search needs
 
--- src/sparse.rt:82:9
 head-fits-requires : tie.Need-head-fits-requires
 head-fits-requires c κs = search needs
 
--- src/sparse.rt:83:9
 refused-requires-3 : tie.Need-refused-requires-3
 refused-requires-3 c κs = search needs
 
--- src/sparse.rt:83:9
 same-length-5 : tie.Need-same-length-5
 same-length-5 c = search needs
 
--- src/sparse.rt:83:9
 same-length-6 : tie.Need-same-length-6
 same-length-6 c = search needs
 
--- src/sparse.rt:83:9
 same-length-7 : tie.Need-same-length-7
 same-length-7 c = search needs
 
--- src/sparse.rt:83:9
 returns-3 : tie.Need-returns-3
-returns-3 c = rw ((c .refused3 .ensures)) (away-short (both-fit _ _ (sym (c .before .before .before .before .before .before .before .before .before .tracker-fits .ensures) ∙ not-false _ (c .before .before .before .before .before .before .before .before .if1 .left)) (sym (c .before .before .before .before .before .before .scope-fits .ensures) ∙ not-false _ (c .before .before .before .before .before .if2 .left))) (rw ((c .before .before .before .lent-entries .ensures) .0) at (sym (c .before .before .head-fits .ensures) ∙ not-true _ (c .before .if3 .taken))))
+returns-3 c = rw ((c .refused3 .ensures)) (away-short (both (sym (c .before .before .before .before .before .before .before .before .before .tracker-fits .ensures) ∙ not-false _ (c .before .before .before .before .before .before .before .before .if1 .left)) (sym (c .before .before .before .before .before .before .scope-fits .ensures) ∙ not-false _ (c .before .before .before .before .before .if2 .left))) (rw ((c .before .before .before .lent-entries .ensures) .0) at (sym (c .before .before .head-fits .ensures) ∙ not-true _ (c .before .if3 .taken))))
 
--- src/sparse.rt:85:11
 check-sparse-requires : tie.Need-check-sparse-requires
 check-sparse-requires c κs = ((tracker-tested _ _ _ ((c .before .before .before .before .before .before .before .before .before .before .before .before .before .before .before .before .table-len .ensures) .1) (sym (c .before .before .before .before .before .before .before .before .before .before .tracker-fits .ensures) ∙ not-false _ (c .before .before .before .before .before .before .before .before .before .if1 .left))) .starts .textures, (scope-tested _ _ ((c .before .before .before .before .before .before .before .before .before .before .before .before .before .before .table-len2 .ensures) .1) (sym (c .before .before .before .before .before .before .before .scope-fits .ensures) ∙ not-false _ (c .before .before .before .before .before .before .if2 .left))) .measured .textures)
 
--- src/sparse.rt:87:13
 enum-told : tie.Need-enum-told
 enum-told c = search needs
 
--- src/sparse.rt:86:26
 remove-checked-requires : tie.Need-remove-checked-requires
 remove-checked-requires c κs = let z = (rw (((c .before .before .before .before .before .enum-told .given)) .1) at (c .before .before .before .before .before .before .before .check-sparse .ensures)) in (removes (tracker-tested _ _ _ ((c .before .before .before .before .before .before .before .before .before .before .before .before .before .before .before .before .before .before .before .before .before .before .before .before .table-len .ensures) .1) (sym (c .before .before .before .before .before .before .before .before .before .before .before .before .before .before .before .before .before .before .tracker-fits .ensures) ∙ not-false _ (c .before .before .before .before .before .before .before .before .before .before .before .before .before .before .before .before .before .if1 .left))) (scope-tested _ _ ((c .before .before .before .before .before .before .before .before .before .before .before .before .before .before .before .before .before .before .before .before .before .before .table-len2 .ensures) .1) (sym (c .before .before .before .before .before .before .before .before .before .before .before .before .before .before .before .scope-fits .ensures) ∙ not-false _ (c .before .before .before .before .before .before .before .before .before .before .before .before .before .before .if2 .left))) z, (few-entries (tracker-tested _ _ _ ((c .before .before .before .before .before .before .before .before .before .before .before .before .before .before .before .before .before .before .before .before .before .before .before .before .table-len .ensures) .1) (sym (c .before .before .before .before .before .before .before .before .before .before .before .before .before .before .before .before .before .before .tracker-fits .ensures) ∙ not-false _ (c .before .before .before .before .before .before .before .before .before .before .before .before .before .before .before .before .before .if1 .left))) (scope-tested _ _ ((c .before .before .before .before .before .before .before .before .before .before .before .before .before .before .before .before .before .before .before .before .before .before .table-len2 .ensures) .1) (sym (c .before .before .before .before .before .before .before .before .before .before .before .before .before .before .before .scope-fits .ensures) ∙ not-false _ (c .before .before .before .before .before .before .before .before .before .before .before .before .before .before .if2 .left))) z (tracker-part _ _ _ (sym (c .before .before .before .before .before .before .before .before .before .before .before .before .before .before .before .before .before .before .tracker-fits .ensures) ∙ not-false _ (c .before .before .before .before .before .before .before .before .before .before .before .before .before .before .before .before .before .if1 .left))) (scope-part _ _ (sym (c .before .before .before .before .before .before .before .before .before .before .before .before .before .before .before .scope-fits .ensures) ∙ not-false _ (c .before .before .before .before .before .before .before .before .before .before .before .before .before .before .if2 .left))), ((rw ((c .before .before .before .before .before .before .before .before .before .before .before .before .lent-entries .ensures) .0) at (sym (c .before .before .before .before .before .before .before .before .before .before .before .head-fits .ensures) ∙ not-false _ (c .before .before .before .before .before .before .before .before .before .before .if3 .left))), (c .before .before .before .before .before .before .before .before .before .before .before .before .lent-entries .ensures) .1)))
 
--- src/sparse.rt:89:26
 enum-known-r : tie.Need-enum-known-r
 enum-known-r c = search needs
 
--- src/sparse.rt:89:32
 refused-requires-4 : tie.Need-refused-requires-4
 refused-requires-4 c κs = search needs
 
--- src/sparse.rt:90:27
 enum-known-k : tie.Need-enum-known-k
 enum-known-k c = search needs
 
--- src/sparse.rt:62:1
 same-length-8 : tie.Need-same-length-8
 same-length-8 c = search needs
 
--- src/sparse.rt:62:1
 same-length-9 : tie.Need-same-length-9
 same-length-9 c = search needs
 
--- src/sparse.rt:62:1
 same-length-10 : tie.Need-same-length-10
 same-length-10 c = search needs
 
--- src/sparse.rt:62:1
 returns-4 : tie.Need-returns-4
-returns-4 c = call-done (tracker-tested _ _ _ ((c .before .before .before .before .before .before .before .before .before .before .before .before .before .before .before .before .before .before .before .before .before .before .before .before .before .before .before .before .before .before .before .table-len .ensures) .1) (sym (c .before .before .before .before .before .before .before .before .before .before .before .before .before .before .before .before .before .before .before .before .before .before .before .before .before .tracker-fits .ensures) ∙ not-false _ (c .before .before .before .before .before .before .before .before .before .before .before .before .before .before .before .before .before .before .before .before .before .before .before .before .if1 .left))) (scope-tested _ _ ((c .before .before .before .before .before .before .before .before .before .before .before .before .before .before .before .before .before .before .before .before .before .before .before .before .before .before .before .before .before .table-len2 .ensures) .1) (sym (c .before .before .before .before .before .before .before .before .before .before .before .before .before .before .before .before .before .before .before .before .before .before .scope-fits .ensures) ∙ not-false _ (c .before .before .before .before .before .before .before .before .before .before .before .before .before .before .before .before .before .before .before .before .before .if2 .left))) (rw (((c .before .before .before .before .before .before .before .before .before .before .before .before .enum-told .given)) .1) at (c .before .before .before .before .before .before .before .before .before .before .before .before .before .before .check-sparse .ensures)) (both-fit _ _ (sym (c .before .before .before .before .before .before .before .before .before .before .before .before .before .before .before .before .before .before .before .before .before .before .before .before .before .tracker-fits .ensures) ∙ not-false _ (c .before .before .before .before .before .before .before .before .before .before .before .before .before .before .before .before .before .before .before .before .before .before .before .before .if1 .left)) (sym (c .before .before .before .before .before .before .before .before .before .before .before .before .before .before .before .before .before .before .before .before .before .before .scope-fits .ensures) ∙ not-false _ (c .before .before .before .before .before .before .before .before .before .before .before .before .before .before .before .before .before .before .before .before .before .if2 .left))) (rw ((c .before .before .before .before .before .before .before .before .before .before .before .before .before .before .before .before .before .before .before .lent-entries .ensures) .0) at (sym (c .before .before .before .before .before .before .before .before .before .before .before .before .before .before .before .before .before .before .head-fits .ensures) ∙ not-false _ (c .before .before .before .before .before .before .before .before .before .before .before .before .before .before .before .before .before .if3 .left))) (c .before .before .before .before .before .before .remove-checked .ensures)
+returns-4 c = call-done (tracker-tested _ _ _ ((c .before .before .before .before .before .before .before .before .before .before .before .before .before .before .before .before .before .before .before .before .before .before .before .before .before .before .before .before .before .before .before .table-len .ensures) .1) (sym (c .before .before .before .before .before .before .before .before .before .before .before .before .before .before .before .before .before .before .before .before .before .before .before .before .before .tracker-fits .ensures) ∙ not-false _ (c .before .before .before .before .before .before .before .before .before .before .before .before .before .before .before .before .before .before .before .before .before .before .before .before .if1 .left))) (scope-tested _ _ ((c .before .before .before .before .before .before .before .before .before .before .before .before .before .before .before .before .before .before .before .before .before .before .before .before .before .before .before .before .before .table-len2 .ensures) .1) (sym (c .before .before .before .before .before .before .before .before .before .before .before .before .before .before .before .before .before .before .before .before .before .before .scope-fits .ensures) ∙ not-false _ (c .before .before .before .before .before .before .before .before .before .before .before .before .before .before .before .before .before .before .before .before .before .if2 .left))) (rw (((c .before .before .before .before .before .before .before .before .before .before .before .before .enum-told .given)) .1) at (c .before .before .before .before .before .before .before .before .before .before .before .before .before .before .check-sparse .ensures)) (both (sym (c .before .before .before .before .before .before .before .before .before .before .before .before .before .before .before .before .before .before .before .before .before .before .before .before .before .tracker-fits .ensures) ∙ not-false _ (c .before .before .before .before .before .before .before .before .before .before .before .before .before .before .before .before .before .before .before .before .before .before .before .before .if1 .left)) (sym (c .before .before .before .before .before .before .before .before .before .before .before .before .before .before .before .before .before .before .before .before .before .before .scope-fits .ensures) ∙ not-false _ (c .before .before .before .before .before .before .before .before .before .before .before .before .before .before .before .before .before .before .before .before .before .if2 .left))) (rw ((c .before .before .before .before .before .before .before .before .before .before .before .before .before .before .before .before .before .before .before .lent-entries .ensures) .0) at (sym (c .before .before .before .before .before .before .before .before .before .before .before .before .before .before .before .before .before .before .head-fits .ensures) ∙ not-false _ (c .before .before .before .before .before .before .before .before .before .before .before .before .before .before .before .before .before .if3 .left))) (c .before .before .before .before .before .before .remove-checked .ensures)
 
--- src/sparse.rt:62:1
 same-length-11 : tie.Need-same-length-11
 same-length-11 c = search needs
 
--- src/sparse.rt:62:1
 same-length-12 : tie.Need-same-length-12
 same-length-12 c = search needs
 
--- src/sparse.rt:62:1
 same-length-13 : tie.Need-same-length-13
 same-length-13 c = search needs
 
--- src/sparse.rt:62:1
 returns-5 : tie.Need-returns-5
-returns-5 c = rw ((c .refused4 .ensures)) (call-away (both-fit _ _ (sym (c .before .before .before .before .before .before .before .before .before .before .before .before .before .before .before .tracker-fits .ensures) ∙ not-false _ (c .before .before .before .before .before .before .before .before .before .before .before .before .before .before .if1 .left)) (sym (c .before .before .before .before .before .before .before .before .before .before .before .before .scope-fits .ensures) ∙ not-false _ (c .before .before .before .before .before .before .before .before .before .before .before .if2 .left))) (rw ((c .before .before .before .before .before .before .before .before .before .lent-entries .ensures) .0) at (sym (c .before .before .before .before .before .before .before .before .head-fits .ensures) ∙ not-false _ (c .before .before .before .before .before .before .before .if3 .left))) (rw (((c .before .before .r .given)) .1) at (c .before .before .before .before .check-sparse .ensures)))
+returns-5 c = rw ((c .refused4 .ensures)) (call-away (both (sym (c .before .before .before .before .before .before .before .before .before .before .before .before .before .before .before .tracker-fits .ensures) ∙ not-false _ (c .before .before .before .before .before .before .before .before .before .before .before .before .before .before .if1 .left)) (sym (c .before .before .before .before .before .before .before .before .before .before .before .before .scope-fits .ensures) ∙ not-false _ (c .before .before .before .before .before .before .before .before .before .before .before .if2 .left))) (rw ((c .before .before .before .before .before .before .before .before .before .lent-entries .ensures) .0) at (sym (c .before .before .before .before .before .before .before .before .head-fits .ensures) ∙ not-false _ (c .before .before .before .before .before .before .before .if3 .left))) (rw (((c .before .before .r .given)) .1) at (c .before .before .before .before .check-sparse .ensures)))
 
--- src/sparse.rt:62:1
 same-length-14 : tie.Need-same-length-14
 same-length-14 c = search needs
 
--- src/sparse.rt:62:1
 same-length-15 : tie.Need-same-length-15
 same-length-15 c = search needs
 
--- src/sparse.rt:62:1
 same-length-16 : tie.Need-same-length-16
 same-length-16 c = search needs
 
--- src/sparse.rt:62:1
 returns-6 : tie.Need-returns-6
 returns-6 c = absurd (sparse-never (rw (((c .before .k .given)) .1) at (c .before .before .before .check-sparse .ensures)) refl)
 

@@ -1,14 +1,11 @@
-use native.Mathlib.Omega.{arith}
-use borrow.Author.Needs.{needs}
+-- `set_listed`: what is left of the list makes of the sets what all of it makes at entry.
 use Prim.Native.Nat.{_-_}
+use native.Mathlib.Omega.{arith}
 use lib.ListN.{length}
+use borrow.Author.Needs.{needs}
 use Rattle.removing.specs.Taken.{Taking, taking-start, taking-ready, taking-turn, taking-end}
 use Rattle.removing.proofs.taken.set_listed.Statement.{statement}
 use Rattle.removing.proofs.taken.set_listed.Tie as tie
-use Rattle.removing.proofs.taken.set_listed.Reads as reads
-use Rattle.removing.proofs.taken.set_listed.Lts as lts
-use Rattle.removing.proofs.taken.take_at.Reads as take-at-reads
-use Rattle.storage.proofs.wide.Reads as wide-reads
 
 abbrev Inv-loop : tie.InvT-loop
 Inv-loop table₀ starts₀ ends₀ given₀ lent indices p k₀ table starts ends given k = Taking table₀ starts₀ ends₀ given₀ lent indices k table starts ends given
@@ -16,47 +13,36 @@ Inv-loop table₀ starts₀ ends₀ given₀ lent indices p k₀ table starts en
 abbrev μ-loop : tie.MeasureT-loop
 μ-loop table₀ starts₀ ends₀ given₀ lent indices p k₀ table starts ends given k = length indices - k
 
--- src/taken.rt:48:5
 loop-holds : tie.Need-loop-holds Inv-loop μ-loop
 loop-holds c = taking-start _ _ _ _ _ _
 
--- src/taken.rt:49:22
 mul-wide : tie.Need-mul-wide Inv-loop μ-loop
 mul-wide c = omega (arith, (c .loop-test .taken))
 
--- src/taken.rt:49:22
 shared-slice-read-wide : tie.Need-shared-slice-read-wide Inv-loop μ-loop
 shared-slice-read-wide c = omega (arith, (c .before .loop-test .taken))
 
--- src/taken.rt:49:13
 wide-requires : tie.Need-wide-requires Inv-loop μ-loop
 wide-requires c κs = search needs
 
--- src/taken.rt:50:9
 take-at-requires : tie.Need-take-at-requires Inv-loop μ-loop
 take-at-requires c κs = rw ((c .before .before .before .before .wide .ensures) .0) (taking-ready ((c .before .before .before .before .before .before .before .before .before .before .before .before .pre) .0) (c .before .before .before .before .before .before .before .loop .inv) (c .before .before .before .before .before .before .loop-test .taken) ((c .before .before .before .before .before .before .before .before .before .before .before .before .pre) .1))
 
--- src/taken.rt:51:9
 add-k : tie.Need-add-k Inv-loop μ-loop
 add-k c = omega (arith, (c .before .before .before .before .before .before .before .before .before .before .before .loop-test .taken))
 
--- src/taken.rt:48:5
 loop-less : tie.Need-loop-less Inv-loop μ-loop
 loop-less c = omega (arith, (c .before .before .before .before .before .before .before .before .before .before .before .loop-test .taken))
 
--- src/taken.rt:48:5
 loop-again : tie.Need-loop-again Inv-loop μ-loop
 loop-again c = taking-turn ((c .before .before .before .before .before .before .before .before .before .before .before .before .before .before .before .before .before .pre) .0) (c .before .before .before .before .before .before .before .before .before .before .before .before .loop .inv) (c .before .before .before .before .before .before .before .before .before .before .before .loop-test .taken) ((c .before .before .before .before .before .before .before .before .before .before .before .before .before .before .before .before .before .pre) .1) (rw ((c .before .before .before .before .before .before .before .before .before .wide .ensures) .0) at (c .before .before .before .before .take-at .ensures))
 
--- src/taken.rt:34:1
 same-length : tie.Need-same-length Inv-loop μ-loop
 same-length c = (c .before .loop .inv) .start-long
 
--- src/taken.rt:34:1
 same-length-2 : tie.Need-same-length-2 Inv-loop μ-loop
 same-length-2 c = (c .before .loop .inv) .end-long
 
--- src/taken.rt:34:1
 returns : tie.Need-returns Inv-loop μ-loop
 returns c = taking-end (c .before .loop .inv) (c .loop-test .left)
 
