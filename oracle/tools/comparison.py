@@ -23,6 +23,8 @@ def arguments():
     parser.add_argument("--seed", default="1")
     parser.add_argument("--flags", default=",".join(expect.FLAGS), help="names of flags.txt, with commas")
     parser.add_argument("--program", help="the proved program: reads the calls, writes the answers")
+    parser.add_argument("--room", type=int, default=differ.Readers().room,
+                        help="numbers that the program has for a slice of ranges; larger cases are not handed to it")
     parser.add_argument("--no-build", action="store_true", help="run the drivers that are there")
     parser.add_argument("--self-test", action="store_true", help="break rules one at a time; each must be reported")
     return parser.parse_args()
@@ -53,7 +55,8 @@ def compare_flags(name, calls, seed, readers):
 
 
 def line_of(count):
-    words = ("cases", "openings", "calls", "refused calls", "conflicts", "calls with transitions", "differences")
+    words = ("cases", "openings", "calls", "refused calls", "conflicts", "calls with transitions",
+             "cases too large for the program", "differences")
     return ", ".join(f"{count[word]:,} {word}" for word in words)
 
 
@@ -113,7 +116,7 @@ def main():
         build()
     if chosen.self_test:
         return selftest.main()
-    readers = differ.Readers(None, chosen.program)
+    readers = differ.Readers(None, chosen.program, chosen.room)
     held = samples_hold(readers) and stored_hold(readers)
     same = compare(chosen.flags.split(","), chosen.calls, chosen.seed, readers)
     if not chosen.program:

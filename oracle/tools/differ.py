@@ -18,9 +18,11 @@ class Difference(NamedTuple):
 
 
 class Readers(NamedTuple):
-    """Who reads the cases: the Rust's driver (None: the one that is built here), and the proved program, if any."""
+    """Who reads the cases: the Rust's driver (None: the one that is built here), and the proved program, if any.
+    `room`: how many numbers the program has for a slice of ranges; larger cases are not for it."""
     driver: object = None
     program: object = None
+    room: int = 12288
 
 
 def examine(cases, name, readers, count):
@@ -33,7 +35,9 @@ def examine(cases, name, readers, count):
         count_calls(steps, count)
     found = [against_rules(steps, name) for steps in run]
     if readers.program:
-        found += against_program(run, name, readers.program)
+        fitting = [steps for steps in run if fits(steps, readers.room)]
+        count["cases too large for the program"] += len(run) - len(fitting)
+        found += against_program(fitting, name, readers.program)
     return [each for each in found if each]
 
 
@@ -65,6 +69,12 @@ def against_rules(steps, name):
     at, text = found
     lines = [step.line for step in steps[:at + 1]]
     return Difference(name, lines, f"the Rust answers\n{steps[at].answer}{text}")
+
+
+def fits(steps, room):
+    """Whether no opening of the case has more room than that."""
+    return all(int(word) <= room for step in steps if step.line.startswith("open_")
+               for word in step.line.split(" ")[9 if step.line.startswith("open_scope") else 10:])
 
 
 def against_program(run, name, program):

@@ -1,7 +1,7 @@
 #!/usr/bin/env python3
 """Writes the stored cases, cases/NAME.txt, and what they must answer, cases/NAME.expected.
 
-    store.py            writes them
+    store.py            writes them, and what the program `replay` is run on: crates/replay/stdin and stdout
     store.py --check    tells whether they are what would be written now
 
 For each usage flags some calls that pass, chosen for variety; 01's table for the bench flags in refusals.txt; the calls
@@ -28,6 +28,7 @@ RANDOM_RANGES = 40
 LONGEST = 9000
 MOST_ROOM = 12288
 FOLDER = ORACLE / "cases"
+PROGRAM = ORACLE.parent / "crates" / "replay"
 NUMBERS = re.compile(r"\d+")
 
 
@@ -86,17 +87,27 @@ def files():
     yield "ranges", numbered(fixed + [rangecases.case(SEED, at, 1) for at in range(RANDOM_RANGES)])
 
 
-def main(check):
-    changed = False
+def texts():
+    """Path and text of each file that is written; the program is run on all stored cases, one file after another."""
+    all_calls, all_answers = "", ""
     for name, cases in files():
         calls = "".join(line + "\n" for lines in cases for line in lines)
-        for suffix, text in ((".txt", calls), (".expected", answer.answer(cases))):
-            path = FOLDER / (name + suffix)
-            if check:
-                changed |= not path.exists() or path.read_text() != text
-            else:
-                path.write_text(text)
+        answers = answer.answer(cases)
+        yield FOLDER / (name + ".txt"), calls
+        yield FOLDER / (name + ".expected"), answers
+        all_calls, all_answers = all_calls + calls, all_answers + answers
         print(f"{name}: {len(cases)} cases, {len(calls.splitlines())} lines")
+    yield PROGRAM / "stdin", all_calls
+    yield PROGRAM / "stdout", all_answers
+
+
+def main(check):
+    changed = False
+    for path, text in texts():
+        if check:
+            changed |= not path.exists() or path.read_text() != text
+        else:
+            path.write_text(text)
     if check:
         print("the stored cases are not what would be written now" if changed else "the stored cases are up to date")
     return changed
