@@ -15,7 +15,8 @@ use Rattle.ready.specs.Answers.{turnedAway}
 use Rattle.setting.specs.declared.Answered.{Answered}
 use Rattle.setting.specs.Tracked.{logOf, Logs}
 
--- The tracker is t with the ranges s and e, the scope is g with the ranges r, which are only read; of g only words of ownership change.
+-- The tracker is t with the ranges s and e, the scope is g with the ranges r, which are only read. Of g the view and the words past those of
+-- ownership are promised. What is free of the tracker is what is free in `Tracked`.
 pub record Removed (fits : Bool) (m : CallResult InvalidUse (List Entry) (Tracker Held × Set Held)) (h : LogHead) (t s e g r l : List ℕ) (x : Answered) (t′ s′ e′ g′ l′ : List ℕ) : Type 0 where
   pub log : Logs (logging fits (logOf l h) (trackerOf t s e, scopeOf g r) m) l x l′
   pub tracker : trackerOf t′ s′ e′ ≡ (logging fits (logOf l h) (trackerOf t s e, scopeOf g r) m) .after .0
