@@ -10,7 +10,7 @@ ghost use Rattle.model.specs.RangedStates.{joins as joinsOf};
 ghost use Rattle.ranges.specs.Coalescing.{Coalesced};
 
 // Whether b goes on where a ends, in the same state.
-fn joins(a: Range, b: Range) -> bool
+pub fn joins(a: Range, b: Range) -> bool
     ensures { λ r. ⌜ r ≡ joinsOf a b ⌝ }
 {
     a.end == b.start && a.state == b.state
