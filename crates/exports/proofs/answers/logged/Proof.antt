@@ -1,0 +1,13 @@
+-- `logged`: the outcome's numbers, and the head's.
+use borrow.Author.Needs.{needs}
+use Rattle.exports.proofs.answers.logged.Statement.{statement}
+use Rattle.exports.proofs.answers.logged.Tie as tie
+
+flat-requires : tie.Need-flat-requires
+flat-requires c κs = search needs
+
+returns : tie.Need-returns
+returns c = rw (c .flat .ensures)
+
+pub logged-spec : {M : Type 1} → statement M
+logged-spec = tie.close (tie.spec flat-requires returns)

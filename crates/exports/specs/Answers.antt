@@ -1,0 +1,89 @@
+-- An answer in plain numbers: which numbers tell each outcome of a call, and which outcome the numbers tell.
+use Prim.Native.Nat.{ℕ, _-_}
+use mathlib.Core.List.{[], _∷_}
+use lib.Dec.{eqb}
+use lib.ListN.{getD}
+use Rattle.model.specs.declared.Conflict.{Conflict as Conflicting}
+use Rattle.model.specs.declared.LogHead.{LogHead}
+use Rattle.model.specs.declared.Outcome.{Outcome}
+use Rattle.model.specs.declared.Outcome.the-variants.{Done, Refused, Conflict}
+use Rattle.model.specs.declared.Refusal.{Refusal}
+use Rattle.model.specs.declared.Refusal.the-variants.{NumbersOutOfLimits, FlagsBreakRule, ShortRoom, NotWellFormed, LogTooShort, FlagsDiffer, NoSuchIndex, ExtentOutOfLimits, ExtentDiffers, SelectorEmpty, SelectorPastExtent, StateReserved, StateIncompatible, RangesOutOfOrder, NoFreeEntry}
+use Rattle.model.specs.declared.Selection.{Selection}
+use Rattle.model.specs.declared.Selection.the-variants.{Full, Part}
+use Rattle.model.specs.declared.Selector.{Selector}
+use Rattle.model.specs.declared.UsageFlags.{UsageFlags}
+use Rattle.model.specs.Base.{if_then_else_}
+use Rattle.model.specs.Refusals.{numberOf, placeOf, trackerIndex}
+use Rattle.model.specs.Representation.{select, mipStart, mipEnd, layerStart, layerEnd}
+use Rattle.setting.specs.declared.Answered.{Answered}
+use Rattle.exports.specs.declared.Answer.{Answer}
+use Rattle.exports.specs.declared.LoggedAnswer.{LoggedAnswer}
+
+-- ---- The numbers of an outcome
+-- "The answer is the number and a place": what is not told is 0
+abbrev pub refusedAs : ℕ → ℕ → Answer
+refusedAs n i = record { kind = 1; number = n; place = i; index = 0; «mip_start» = 0; «mip_end» = 0; «layer_start» = 0; «layer_end» = 0; «old_state» = 0; «new_state» = 0 }
+
+-- a conflict (01: a clash): its texture, its place, and both states
+abbrev pub conflictAs : Conflicting → Answer
+conflictAs c = record {
+  kind = 2;
+  number = 0;
+  place = 0;
+  index = c .index .0;
+  «mip_start» = mipStart (c .found .selector);
+  «mip_end» = mipEnd (c .found .selector);
+  «layer_start» = layerStart (c .found .selector);
+  «layer_end» = layerEnd (c .found .selector);
+  «old_state» = c .found .old;
+  «new_state» = c .found .new;
+}
+
+-- each outcome
+abbrev pub answerOf : Outcome → Answer
+answerOf Done = record { kind = 0; number = 0; place = 0; index = 0; «mip_start» = 0; «mip_end» = 0; «layer_start» = 0; «layer_end» = 0; «old_state» = 0; «new_state» = 0 }
+answerOf (Refused r) = refusedAs (numberOf r) (placeOf r)
+answerOf (Conflict c) = conflictAs c
+
+-- and with the head of the log
+abbrev pub loggedOf : Answered → LoggedAnswer
+loggedOf x = record { answer = answerOf (x .outcome); written = x .head .written; free = x .head .free }
+
+-- ---- The outcome that numbers tell
+-- the row of 01's table, by its number, with the place
+abbrev pub refusalOf : ℕ → ℕ → Refusal
+refusalOf n i =
+    getD
+    (NumbersOutOfLimits ∷ FlagsBreakRule ∷ ShortRoom ∷ NotWellFormed ∷ LogTooShort ∷ FlagsDiffer
+    ∷ NoSuchIndex (trackerIndex i) ∷ ExtentOutOfLimits (trackerIndex i) ∷ ExtentDiffers (trackerIndex i)
+    ∷ SelectorEmpty ∷ SelectorPastExtent ∷ StateReserved ∷ StateIncompatible ∷ RangesOutOfOrder ∷ [])
+    (n - 1)
+    NoFreeEntry
+
+-- the conflict, by its numbers
+abbrev pub conflictOf : Answer → Conflicting
+conflictOf a = record {
+  index = trackerIndex (a .index);
+  found = record { selector = select (a .«mip_start») (a .«mip_end») (a .«layer_start») (a .«layer_end»); old = a .«old_state»; new = a .«new_state» };
+}
+
+-- each kind
+abbrev pub outcomeOf : Answer → Outcome
+outcomeOf a = if eqb (a .kind) 0 then Done else if eqb (a .kind) 1 then Refused (refusalOf (a .number) (a .place)) else Conflict (conflictOf a)
+
+-- and with the head of the log
+abbrev pub answeredOf : LoggedAnswer → Answered
+answeredOf a = record { outcome = outcomeOf (a .answer); head = record { written = a .written; free = a .free } }
+
+-- ---- What the exported calls are given in plain numbers
+abbrev pub flagsOf : ℕ → ℕ → ℕ → ℕ → UsageFlags
+flagsOf exclusive uninitialized complex unknown = record { exclusive = exclusive; uninitialized = uninitialized; complex = complex; unknown = unknown }
+
+-- a use of all of a texture, or of what a selector names
+abbrev pub selectionOf : ℕ → Selector → Selection
+selectionOf part q = if eqb part 0 then Full else Part q
+
+-- the head of the log
+abbrev pub headOf : ℕ → ℕ → LogHead
+headOf written free = record { written = written; free = free }
