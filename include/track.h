@@ -1,0 +1,176 @@
+/* The texture state tracker of wgpu-core, proved in Rattle, for C and C++: link target/staticlib/libexports.a (`rt staticlib exports`,
+ * for x86-64 Linux). The archive needs nothing but memset of the C library: no heap, no globals, no locks, no signals.
+ *
+ * A scope gathers how the textures of one pass are used and finds conflicts; a tracker knows the state of each texture as commands leave
+ * it and logs the transitions that a driver must be told of. Both are plain numbers in memory that the caller lends to each call.
+ *
+ * Every call answers on every input, whatever numbers the lent memory holds, and a refusal changes nothing that was lent. This is
+ * proved. What a caller must see to, since no call can look at it:
+ *   - each pointer is not NULL, also where its length is 0, and good for as many uint32_t as the length beside it says; a table is
+ *     TRACK_TABLE_LENGTH of them. The call that opens a set reads none of its numbers: the memory need not be cleared first;
+ *   - what a call writes (no const) overlaps nothing else that the same call is lent;
+ *   - nobody else writes what a call is lent while it runs. Calls on different memory may run at the same time.
+ */
+#ifndef TRACK_H
+#define TRACK_H
+
+#include <stddef.h>
+#include <stdint.h>
+
+#ifdef __cplusplus
+extern "C" {
+#endif
+
+/* ---- Limits of a set ---------------------------------------------------------------------------------------------------------- */
+
+#define TRACK_MAX_TEXTURES 64 /* N: textures of a set, 1 to 64 */
+#define TRACK_MAX_MIPS 16     /* M: mips of a texture, 1 to 16 */
+#define TRACK_MAX_LAYERS 256  /* W: layers of a texture, 1 to 256 */
+
+/* ---- Lent memory, in uint32_t ------------------------------------------------------------------------------------------------- */
+
+/* A table. Callers may read it; what they write into it is theirs to answer for: a set that is then not well formed is refused (4). */
+#define TRACK_TABLE_LENGTH 2376
+#define TRACK_OWNED 8     /* table[TRACK_OWNED + i]: 0 if the set does not own texture i; the next two are told of owned ones */
+#define TRACK_MIPS 72     /* table[TRACK_MIPS + i]: its mips */
+#define TRACK_LAYERS 136  /* table[TRACK_LAYERS + i]: its layers */
+#define TRACK_START 200   /* half h = TRACK_START: a scope's states, or a tracker's states at the start */
+#define TRACK_END 1288    /* half h = TRACK_END: a tracker's states at the end; a scope does not use it */
+/* table[h + i]: the state, where one state holds for all of texture i; the COMPLEX flag, where each mip has ranges of its own */
+#define TRACK_COUNTS 64   /* table[h + TRACK_COUNTS + 16 * i + m]: how many ranges mip m then has */
+
+/* Ranges: a scope has one run of them, a tracker two, starts and ends. Each is three numbers: first layer, layer past the last, state.
+ * Those of mip m of texture i begin at 3 * W * (i * M + m). Numbers past those in use are free: a call may leave anything there. */
+#define TRACK_RANGE_LENGTH 3
+#define TRACK_RANGES_LENGTH(n, m, w) ((size_t)TRACK_RANGE_LENGTH * (n) * (m) * (w))
+
+/* A log. An entry is seven numbers: texture, first mip, mip past the last, first layer, layer past the last, old state, new state.
+ * Its head is two counts of entries, written and free; the caller hands both in and takes them over from the answer. A call writes its
+ * entries after the written ones. No call needs more entries than the tracker has subresources, N * M * W. */
+#define TRACK_LOG_ENTRY_LENGTH 7
+#define TRACK_LOG_LENGTH(entries) ((size_t)TRACK_LOG_ENTRY_LENGTH * (entries))
+
+/* ---- Answers ------------------------------------------------------------------------------------------------------------------ */
+
+/* track_answer.kind */
+enum track_kind {
+    TRACK_DONE = 0,
+    TRACK_REFUSED = 1, /* number and place say why; nothing that was lent has changed */
+    TRACK_CONFLICT = 2 /* two uses exclude each other; what was merged before them stays merged */
+};
+
+/* track_answer.number, where kind is TRACK_REFUSED. Checks are made from the first to the last; place is the index of the texture for
+ * 7, 8 and 9, otherwise 0. */
+enum track_refusal {
+    TRACK_NUMBERS_OUT_OF_LIMITS = 1, /* opening: N, M or W is outside its limits */
+    TRACK_FLAGS_BREAK_RULE = 2,      /* opening: UNINITIALIZED, COMPLEX, UNKNOWN are not one bit of 16 each, all different, with COMPLEX
+                                        and UNKNOWN outside EXCLUSIVE */
+    TRACK_SHORT_ROOM = 3,            /* opening: fewer than N * M * W ranges are lent */
+    TRACK_NOT_WELL_FORMED = 4,       /* a set that is lent is not well formed: not opened, damaged, or with shorter ranges */
+    TRACK_LOG_TOO_SHORT = 5,         /* written and free together are more entries than are lent */
+    TRACK_FLAGS_DIFFER = 6,          /* the two sets were opened with different flags */
+    TRACK_NO_SUCH_INDEX = 7,         /* the index is not below N */
+    TRACK_EXTENT_OUT_OF_LIMITS = 8,  /* mips are not 1 to M, or layers not 1 to W */
+    TRACK_EXTENT_DIFFERS = 9,        /* the set owns the texture with other mips or layers */
+    TRACK_SELECTOR_EMPTY = 10,       /* mips or layers have a start that is not below their end */
+    TRACK_SELECTOR_PAST_EXTENT = 11, /* an end is past the texture's mips or layers */
+    TRACK_STATE_RESERVED = 12,       /* the state is zero, or has UNKNOWN or COMPLEX */
+    TRACK_STATE_INCOMPATIBLE = 13,   /* the state has a bit of EXCLUSIVE and is not one bit */
+    TRACK_RANGES_OUT_OF_ORDER = 14,  /* calls on ranges: more are told than lent, or one is empty, out of order or overlaps */
+    TRACK_NO_FREE_ENTRY = 15         /* the result needs more entries than are free */
+};
+
+/* What a call answers. Fields that its kind does not tell are 0. */
+typedef struct track_answer {
+    uint32_t kind;        /* enum track_kind */
+    uint32_t number;      /* refused: enum track_refusal */
+    uint32_t place;       /* refused: the texture for 7, 8 and 9 */
+    uint32_t index;       /* conflict: the texture, */
+    uint32_t mip_start;   /*   its mips from mip_start up to, not including, mip_end, */
+    uint32_t mip_end;
+    uint32_t layer_start; /*   its layers from layer_start up to, not including, layer_end, */
+    uint32_t layer_end;
+    uint32_t old_state;   /*   the state that they had */
+    uint32_t new_state;   /*   and the one that was given */
+} track_answer;
+
+/* What a call with a log answers, and the head of the log after it; a refusal hands back the head that it was given. */
+typedef struct track_logged_answer {
+    track_answer answer;
+    size_t written;
+    size_t free;
+} track_logged_answer;
+
+/* ---- Opening a set ------------------------------------------------------------------------------------------------------------ */
+
+/* A state is 16 bits. exclusive is the mask of those that suffer no other beside them; uninitialized, complex and unknown are one bit
+ * each. Opened, a set owns no texture. Refuses 1, 2, 3. */
+track_answer track_open_scope(uint32_t table[TRACK_TABLE_LENGTH], const uint32_t *ranges, size_t ranges_length,
+                              uint32_t n, uint32_t m, uint32_t w,
+                              uint32_t exclusive, uint32_t uninitialized_bit, uint32_t complex_bit, uint32_t unknown_bit);
+
+/* mask holds the ordered states: a transition from a state to itself is left out if mask holds that state. Refuses 1, 2, 3. */
+track_answer track_open_tracker(uint32_t table[TRACK_TABLE_LENGTH], const uint32_t *starts, size_t starts_length,
+                                const uint32_t *ends, size_t ends_length,
+                                uint32_t n, uint32_t m, uint32_t w,
+                                uint32_t exclusive, uint32_t uninitialized_bit, uint32_t complex_bit, uint32_t unknown_bit, uint16_t mask);
+
+/* ---- The test of a set, which every call below makes first of each set that it is lent (4): 1 if it is well formed, otherwise 0 --- */
+
+uint32_t track_scope_is_well_formed(const uint32_t table[TRACK_TABLE_LENGTH], const uint32_t *ranges, size_t ranges_length);
+
+uint32_t track_tracker_is_well_formed(const uint32_t table[TRACK_TABLE_LENGTH], const uint32_t *starts, size_t starts_length,
+                                      const uint32_t *ends, size_t ends_length);
+
+/* ---- Merging into a scope ----------------------------------------------------------------------------------------------------- */
+
+/* One use of texture index, which has so many mips and layers. part 0: all of it, and the four numbers after part are not read; otherwise
+ * the mips from mip_start up to mip_end and the layers from layer_start up to layer_end. Refuses 4, 7 to 13. */
+track_answer track_merge_single(uint32_t table[TRACK_TABLE_LENGTH], uint32_t *ranges, size_t ranges_length,
+                                uint32_t index, uint32_t mips, uint32_t layers, uint32_t part,
+                                uint32_t mip_start, uint32_t mip_end, uint32_t layer_start, uint32_t layer_end, uint16_t state);
+
+/* All textures of another scope (given, with its ranges lent), by ascending index, up to the first conflict. Refuses 4, 6 to 9. */
+track_answer track_merge_usage_scope(uint32_t table[TRACK_TABLE_LENGTH], uint32_t *ranges, size_t ranges_length,
+                                     const uint32_t given[TRACK_TABLE_LENGTH], const uint32_t *lent, size_t lent_length);
+
+/* ---- The calls of a tracker: each logs the transitions that its uses make necessary, and none answers a conflict ------------------ */
+
+/* One use of texture index. Refuses 4, 5, 7 to 13, 15. */
+track_logged_answer track_set_single(uint32_t table[TRACK_TABLE_LENGTH], uint32_t *starts, size_t starts_length,
+                                     uint32_t *ends, size_t ends_length,
+                                     uint32_t index, uint32_t mips, uint32_t layers,
+                                     uint32_t mip_start, uint32_t mip_end, uint32_t layer_start, uint32_t layer_end, uint16_t state,
+                                     uint32_t *log, size_t log_length, size_t written, size_t free);
+
+/* All textures of a scope (given, with its ranges lent). Refuses 4 to 9, 15. */
+track_logged_answer track_set_from_usage_scope(uint32_t table[TRACK_TABLE_LENGTH], uint32_t *starts, size_t starts_length,
+                                               uint32_t *ends, size_t ends_length,
+                                               const uint32_t given[TRACK_TABLE_LENGTH], const uint32_t *lent, size_t lent_length,
+                                               uint32_t *log, size_t log_length, size_t written, size_t free);
+
+/* All textures of another tracker (given, with its starts in first and its ends in last): transitions go to the other's start, and its
+ * end is what they leave. Refuses 4 to 9, 15. */
+track_logged_answer track_set_from_tracker(uint32_t table[TRACK_TABLE_LENGTH], uint32_t *starts, size_t starts_length,
+                                           uint32_t *ends, size_t ends_length,
+                                           const uint32_t given[TRACK_TABLE_LENGTH], const uint32_t *first, size_t first_length,
+                                           const uint32_t *last, size_t last_length,
+                                           uint32_t *log, size_t log_length, size_t written, size_t free);
+
+/* The listed textures of a scope, in the list's order; the scope (given) then owns them no more. Textures that it does not own are passed
+ * over, and one listed twice counts once. Refuses 4 to 9, 15. */
+track_logged_answer track_set_and_remove_from_usage_scope_sparse(
+    uint32_t table[TRACK_TABLE_LENGTH], uint32_t *starts, size_t starts_length, uint32_t *ends, size_t ends_length,
+    uint32_t given[TRACK_TABLE_LENGTH], const uint32_t *lent, size_t lent_length, const uint32_t *indices, size_t indices_length,
+    uint32_t *log, size_t log_length, size_t written, size_t free);
+
+/* ---- The log ------------------------------------------------------------------------------------------------------------------ */
+
+/* Empties the log: free gains what was written, written becomes 0, and the entries stay. Refuses 5. */
+track_logged_answer track_empty_log(const uint32_t *log, size_t log_length, size_t written, size_t free);
+
+#ifdef __cplusplus
+}
+#endif
+
+#endif
