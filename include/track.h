@@ -1,5 +1,5 @@
 /* The texture state tracker of wgpu-core, proved in Rattle, for C and C++: link target/staticlib/libexports.a (`rt staticlib exports`,
- * for x86-64 Linux). The archive needs nothing but memset of the C library: no heap, no globals, no locks, no signals.
+ * for x86-64 Linux). Of the C library it needs memset alone, and it keeps nothing of its own between calls.
  *
  * A scope gathers how the textures of one pass are used and finds conflicts; a tracker knows the state of each texture as commands leave
  * it and logs the transitions that a driver must be told of. Both are plain numbers in memory that the caller lends to each call.
@@ -101,6 +101,14 @@ typedef struct track_logged_answer {
     size_t free;
 } track_logged_answer;
 
+/* What a call on ranges answers. Counts that a call does not tell, and those of a refusal, are 0. */
+typedef struct track_ranges_answer {
+    track_answer answer;
+    size_t position; /* track_isolate: where the run begins, in ranges */
+    size_t count;    /* track_isolate: how many ranges the run has; track_iter_filter: how many were listed */
+    size_t told;     /* track_isolate, track_coalesce: how many ranges are in use now */
+} track_ranges_answer;
+
 /* ---- Opening a set ------------------------------------------------------------------------------------------------------------ */
 
 /* A state is 16 bits. exclusive is the mask of those that suffer no other beside them; uninitialized, complex and unknown are one bit
@@ -168,6 +176,20 @@ track_logged_answer track_set_and_remove_from_usage_scope_sparse(
 
 /* Empties the log: free gains what was written, written becomes 0, and the entries stay. Refuses 5. */
 track_logged_answer track_empty_log(const uint32_t *log, size_t log_length, size_t written, size_t free);
+
+/* ---- Ranges by themselves: the first told of them are in use; starts and ends are any 32-bit numbers, and states are not looked at --- */
+
+/* Makes what lies from start up to end a run of ranges of its own, gaps filled with default_state. Refuses 10, 14, and 15 if the ranges
+ * that it leaves are more than are lent. */
+track_ranges_answer track_isolate(uint32_t *ranges, size_t ranges_length, size_t told, uint32_t start, uint32_t end,
+                                  uint32_t default_state);
+
+/* Joins ranges that touch and have one state; those that it frees become zeros. Refuses 14. */
+track_ranges_answer track_coalesce(uint32_t *ranges, size_t ranges_length, size_t told);
+
+/* Lists the overlaps with what lies from start up to end, clipped, in out. Refuses 10, 14, and 15 if they are more than out holds. */
+track_ranges_answer track_iter_filter(const uint32_t *ranges, size_t ranges_length, size_t told, uint32_t start, uint32_t end,
+                                      uint32_t *out, size_t out_length);
 
 #ifdef __cplusplus
 }

@@ -1,4 +1,4 @@
-/* The public calls from C: 01's bench samples B1 to B12, each refusal that a caller can provoke, and slices in every place of an argument
+/* The public calls from C: 01's bench samples B1 to B14, each refusal that a caller can provoke, and slices in every place of an argument
  * list that a calling convention treats differently. Each answer is compared field by field, and after a refusal every lent number. */
 #include "track.h"
 
@@ -9,6 +9,7 @@
 
 _Static_assert(sizeof(track_answer) == 40, "ten numbers");
 _Static_assert(sizeof(track_logged_answer) == 56, "an answer and two counts");
+_Static_assert(sizeof(track_ranges_answer) == 64, "an answer and three counts");
 
 /* 01's bench: two textures of 2 mips and 4 layers. */
 enum { N = 2, M = 2, W = 4, RANGES = 3 * N * M * W, ENTRIES = N * M * W, LOG = 7 * ENTRIES };
@@ -17,7 +18,7 @@ enum { UNINITIALIZED = 1, EXCLUSIVE = 20, COMPLEX = 4096, UNKNOWN = 8192, MASK =
 /* Everything that is lent to the calls stands here, so that "everything lent stays" is one comparison. */
 struct scope { uint32_t table[TRACK_TABLE_LENGTH], ranges[RANGES]; };
 struct tracker { uint32_t table[TRACK_TABLE_LENGTH], starts[RANGES], ends[RANGES]; };
-static struct { struct scope scope, other; struct tracker tracker, join; uint32_t log[LOG]; } lent, before;
+static struct { struct scope scope, other; struct tracker tracker, join; uint32_t log[LOG], ranges[18], out[7]; } lent, before;
 static size_t written, left; /* the head of the log */
 
 static unsigned checks, refusals, conflicts;
@@ -316,6 +317,53 @@ static void sets(void)
     EXPECT(lent.other.table[TRACK_OWNED] == 0 && lent.tracker.table[TRACK_OWNED + 1] == 0);
 }
 
+/* The calls on ranges by themselves: room for six, and for two to list, with a number over that makes no range. */
+enum { A = 2, B = 8, D = 99 };
+
+static track_answer counts(track_ranges_answer got, size_t position, size_t count, size_t told, int line)
+{
+    expect(got.position == position, line, "position");
+    expect(got.count == count, line, "count");
+    expect(got.told == told, line, "told");
+    return got.answer;
+}
+#define COUNTS(position, count, told, call) counts((call), (position), (count), (told), __LINE__)
+
+static void hold(const uint32_t *numbers)
+{
+    memcpy(lent.ranges, numbers, sizeof lent.ranges);
+}
+#define HOLD(...) hold((const uint32_t[18]){ __VA_ARGS__ })
+#define RANGES_ARE(...) EXPECT(memcmp(lent.ranges, (const uint32_t[18]){ __VA_ARGS__ }, sizeof lent.ranges) == 0)
+#define OUT_IS(...) EXPECT(memcmp(lent.out, (const uint32_t[7]){ __VA_ARGS__ }, sizeof lent.out) == 0)
+
+static void ranged(void)
+{
+    start();
+    HOLD(2, 4, A, 6, 8, B, 1, 1, 1, 1, 1, 1, 1, 1, 1, 7, 7, 7); /* B13; the record past the new length stays */
+    DONE(COUNTS(1, 3, 5, track_isolate(lent.ranges, 18, 2, 3, 7, D)));
+    RANGES_ARE(2, 3, A, 3, 4, A, 4, 6, D, 6, 7, B, 7, 8, B, 7, 7, 7);
+    DONE(COUNTS(0, 0, 3, track_coalesce(lent.ranges, 18, 5)));
+    RANGES_ARE(2, 4, A, 4, 6, D, 6, 8, B, 0, 0, 0, 0, 0, 0, 7, 7, 7);
+    DONE(COUNTS(0, 2, 0, track_iter_filter(lent.ranges, 18, 3, 3, 5, lent.out, 7)));
+    OUT_IS(3, 4, A, 4, 5, D, 0xa5a5a5a5);
+    RANGES_ARE(2, 4, A, 4, 6, D, 6, 8, B, 0, 0, 0, 0, 0, 0, 7, 7, 7);
+    DONE(COUNTS(0, 0, 0, track_iter_filter(lent.ranges, 18, 3, 8, UINT32_MAX, lent.out, 0)));
+    REFUSED(TRACK_SELECTOR_EMPTY, 0, COUNTS(0, 0, 0, track_isolate(lent.ranges, 18, 3, 4, 4, D)));
+    REFUSED(TRACK_SELECTOR_EMPTY, 0, COUNTS(0, 0, 0, track_iter_filter(lent.ranges, 18, 3, 5, 4, lent.out, 7)));
+    REFUSED(TRACK_RANGES_OUT_OF_ORDER, 0, COUNTS(0, 0, 0, track_isolate(lent.ranges, 17, 6, 3, 7, D))); /* 17 numbers are five ranges */
+    REFUSED(TRACK_RANGES_OUT_OF_ORDER, 0, COUNTS(0, 0, 0, track_coalesce(lent.ranges, 18, SIZE_MAX)));
+    REFUSED(TRACK_RANGES_OUT_OF_ORDER, 0, COUNTS(0, 0, 0, track_coalesce(lent.ranges, 18, 4))); /* the fourth is empty */
+    REFUSED(TRACK_RANGES_OUT_OF_ORDER, 0, COUNTS(0, 0, 0, track_iter_filter(lent.ranges, 18, 4, 3, 5, lent.out, 7)));
+    REFUSED(TRACK_NO_FREE_ENTRY, 0, COUNTS(0, 0, 0, track_isolate(lent.ranges, 14, 3, 3, 7, D))); /* five are left, four are lent */
+    REFUSED(TRACK_NO_FREE_ENTRY, 0, COUNTS(0, 0, 0, track_iter_filter(lent.ranges, 18, 3, 3, 7, lent.out, 7)));
+    DONE(COUNTS(1, 3, 5, track_isolate(lent.ranges, 15, 3, 3, 7, D)));
+
+    HOLD(0, 2, A); /* B14 */
+    DONE(COUNTS(1, 1, 2, track_isolate(lent.ranges, 18, 1, 5, 7, D)));
+    RANGES_ARE(0, 2, A, 5, 7, D);
+}
+
 /* ---- Refusals, by their numbers: the edge that passes, and the one that does not ---- */
 
 static void opening(void)
@@ -410,9 +458,10 @@ int main(void)
     straddling();
     trackers();
     sets();
+    ranged();
     opening();
     lent_things();
     uses();
-    printf("C boundary: B1 to B12, %u refusals that changed nothing, %u conflicts; %u comparisons hold\n", refusals, conflicts, checks);
+    printf("C boundary: B1 to B14, %u refusals that changed nothing, %u conflicts; %u comparisons hold\n", refusals, conflicts, checks);
     return 0;
 }

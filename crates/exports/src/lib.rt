@@ -1,20 +1,26 @@
-// Exports: every public call of the tracker for C, in target/staticlib/libexports.a after `rt staticlib exports`.
+// Exports: every public call for C, in target/staticlib/libexports.a after `rt staticlib exports`.
 //
-// Place in the picture: the C boundary over `track`. Each function makes the values that `track` takes of plain numbers, calls it, and
-// tells its outcome in a struct of numbers, since a function for C returns no enum. include/track.h is the header, tests/c tries it.
+// Place in the picture: the C boundary over `track` and `range_calls`. Each function makes the values that a call takes of plain numbers,
+// makes the call, and tells its answer in a struct of numbers, since a function for C returns no enum. include/track.h is the header, and
+// tests/c calls every function from C.
 //
 //     sets       opening a scope or a tracker, and the test whether it is well formed
 //     scopes     the two merges
 //     trackers   the four calls of a tracker
 //     logs       emptying the log
+//     ranged     `isolate`, `coalesce` and `iter_filter` on ranges by themselves
 //     answers    from outcomes to numbers
 //
-// What holds: nothing is required, of any argument. The outcome that an answer tells (specs/Answers, `outcomeOf`) meets the very contract
-// of `track`, and the answer has no other numbers than that outcome's (`answerOf`); by specs/AnswerLaws no two outcomes have the same.
-// What C must see to is what the types say in Rust: each pointer is good for the length told beside it (a table's is 2,376), and what
-// one call is lent to write overlaps nothing else that it is lent.
+// What holds: nothing is required of any argument. The outcome that an answer tells (specs/Answers, `outcomeOf`) meets the very contract
+// of the call beneath, and the answer has that outcome's numbers and no others (`answerOf`); no two outcomes have the same numbers
+// (specs/AnswerLaws). The answers of the calls on ranges are told alike (RangesAnswers, RangesAnswerLaws).
+//
+// What C must see to is what the types say here: each pointer is good for the length beside it (a table's is 2,376), and what a call writes
+// overlaps nothing else that it is lent. A slice is passed as a pointer and a length, two arguments of their own, also where one is the
+// last in a register and the other the first on the stack. C declares it so; so must Rust, which would pass a `&[u32]` there otherwise.
 pub mod answers;
 pub mod logs;
+pub mod ranged;
 pub mod scopes;
 pub mod sets;
 pub mod trackers;
@@ -41,4 +47,14 @@ pub struct LoggedAnswer {
     pub answer: Answer,
     pub written: usize,
     pub free: usize,
+}
+
+// What a call on ranges answers: where the isolated run is, how many ranges it has or were listed, and how many are in use now. Counts
+// that a call does not tell, and those of a refusal, are 0.
+#[repr(C)]
+pub struct RangesAnswer {
+    pub answer: Answer,
+    pub position: usize,
+    pub count: usize,
+    pub told: usize,
 }
