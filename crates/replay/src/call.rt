@@ -1,14 +1,14 @@
 // A call: what it is lent, the call, and what it leaves.
-use crate::numbers;
-use crate::numbers::at;
-use crate::numbers::most;
-use crate::numbers::product;
-use crate::numbers::smaller;
-use crate::out::Out;
-use crate::scan;
-use crate::sets;
-use crate::sets::Book;
-use crate::tell;
+use lines::numbers;
+use lines::numbers::at;
+use lines::numbers::most;
+use lines::numbers::product;
+use lines::numbers::smaller;
+use lines::out::Out;
+use lines::scan;
+use lines::sets;
+use lines::sets::Book;
+use lines::tell;
 use model::Extent;
 use model::Layer;
 use model::LayerRange;

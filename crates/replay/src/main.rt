@@ -2,31 +2,23 @@
 //
 // Place in the picture: over all, a user of the public calls. The file `stdin` has the stored calls and `stdout` the answers, written by the
 // oracle, which runs the Rust itself; `rt check` runs this program and compares. `oracle/compare` hands it fresh calls. Lines, answers and
-// storage: oracle/README.md.
-//
-//     scan      the bytes of a line, one by one, to its words and numbers
-//     numbers   reading, writing, copying and comparing runs of numbers
-//     sets      where the numbers of each set are kept, and what is known of it
-//     silent    the lines that answer nothing: put, poke, room, log
-//     call      a call: what it is lent, the call, and what it leaves
-//     tell      answers
-//     out       the bytes that are to be written
-//     ranged    the calls on ranged states
+// storage: oracle/README.md. Crate `lines` reads the lines and writes the answers; here the bytes come in, and `call` makes a call: what it
+// is lent, the call, and what it leaves.
 mod call;
-mod numbers;
-mod out;
-mod ranged;
-mod scan;
-mod sets;
-mod silent;
-mod tell;
 
 use libc::STDIN_FILENO;
-use numbers::at;
-use numbers::smaller;
-use out::Out;
-use scan::Scan;
-use sets::Book;
+use lines::numbers;
+use lines::numbers::at;
+use lines::numbers::smaller;
+use lines::out;
+use lines::out::Out;
+use lines::ranged;
+use lines::scan;
+use lines::scan::Scan;
+use lines::sets;
+use lines::sets::Book;
+use lines::silent;
+use lines::tell;
 use storage::Table;
 ghost use Prim.Native.Nat.{_≤_};
 
