@@ -30,7 +30,8 @@ use Rattle.ready.specs.Tested.{ScopeTested, half-fits}
 use Rattle.ready.specs.Answers.{toldOf}
 use Rattle.merging.specs.declared.single.Use.{Use}
 use Rattle.merging.specs.Merged.{Merged}
-use Rattle.merging.specs.Slot.{slotOf, SlotReady, TakenUse, SlotMerged, slot-view, slot-unread}
+use Rattle.ready.specs.Merges.{TakenUse}
+use Rattle.merging.specs.Slot.{slotOf, SlotReady, SlotMerged, slot-view, slot-unread}
 use Rattle.merging.specs.Single.{UseIs}
 
 -- ---- The test of the sets comes first

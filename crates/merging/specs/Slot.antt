@@ -14,7 +14,6 @@ use Rattle.model.specs.declared.Extent.{Extent}
 use Rattle.model.specs.declared.Selector.{Selector}
 use Rattle.model.specs.declared.InvalidUse.{InvalidUse}
 use Rattle.model.specs.Base.{Stop}
-use Rattle.model.specs.Representation.{full}
 use Rattle.model.specs.Sets.{Numbers, Slot, withSlots}
 use Rattle.model.specs.Calls.{Indexed, owning, mergeSlot, mergeGiven}
 use Rattle.model.specs.Texture.{Held, Given, fromHeld, insert, merge, ranged}
@@ -27,10 +26,10 @@ use Rattle.texture.specs.declared.Stopped.{Stopped}
 use Rattle.texture.specs.declared.Stopped.the-variants.{Nowhere}
 use Rattle.texture.specs.Uses.{UseReady, HeldReady, HalfMerged}
 use Rattle.texture.specs.FromSet.{SetReady, MergeReady}
-use Rattle.checks.specs.Passed.{TexturePassed, SelectorPassed, StatePassed}
+use Rattle.checks.specs.Passed.{TexturePassed, StatePassed}
 use Rattle.agreement.specs.Fits.{ExtentFits}
 use Rattle.ready.specs.Tested.{HalfFits}
-use Rattle.ready.specs.Merges.{own-numbers, own-flags, own-extent, own-passed, own-measured, use-ready, held-ready, set-ready, merge-ready}
+use Rattle.ready.specs.Merges.{TakenUse, word-owned, own-numbers, own-flags, own-extent, own-passed, own-measured, use-ready, held-ready, set-ready, merge-ready}
 use Rattle.ready.specs.Answers.{indexed, metAt}
 
 -- texture i of a scope, as the view has it
@@ -42,13 +41,6 @@ pub record SlotReady (t r : List ℕ) (i : ℕ) (sh : Extent) : Type 0 where
   pub measured : Measured (numbersOf t) startHalf t r
   pub texture : TexturePassed t i sh
   pub held : ownedOf t i ≡ true → HalfFits startHalf t r i
-
--- a use that passed the checks
-pub record TakenUse (t : List ℕ) (sh : Extent) (all : Bool) (q : Selector) (p : UsageFlags) (new : ℕ) : Type 0 where
-  pub flags : p ≡ flagsOf t
-  pub selector : SelectorPassed sh q
-  pub whole : all ≡ true → q ≡ full sh
-  pub state : StatePassed p new
 
 -- the texture that a given scope holds at the same index, from a scope that passed the test and the checks
 pub record TakenTexture (t : List ℕ) (i : ℕ) (sh : Extent) (g l : List ℕ) (p : UsageFlags) : Type 0 where
@@ -101,7 +93,7 @@ module _ {t r : List ℕ} {i : ℕ} {sh : Extent} (q : SlotReady t r i sh) (p : 
       let m = q .measured in let n = q .texture in
       let f = b .into .frame in
       let low = half-low m (n .texture) f in
-      let e : extentOf t i ≡ sh = n .own (rw (ne-eqb (getD t (8 + i) 0) 0 own)) in
+      let e : extentOf t i ≡ sh = n .own (word-owned t i own) in
       let o : getD t′ (8 + i) 0 ≡ 0 → ⊥ = λ z. own (sym (low (8 + i) (omega (arith, m .textures, n .texture))) ∙ z) in
       let s : extentOf t′ i ≡ sh = rw (low (72 + i) (omega (arith, m .textures, n .texture)), low (136 + i) (omega (arith, m .textures, n .texture))) e in
       rw (ne-eqb (getD t (8 + i) 0) 0 own) (record {
@@ -124,7 +116,7 @@ module _ {t r : List ℕ} {i : ℕ} {sh : Extent} {all : Bool} {q : Selector} {p
 
   module _ (own : getD t (8 + i) 0 ≡ 0 → ⊥) where
     is-owned : ownedOf t i ≡ true
-    is-owned = rw (ne-eqb (getD t (8 + i) 0) 0 own)
+    is-owned = word-owned t i own
 
     state-is : StatePassed (flagsOf t) new
     state-is = subst (λ (f : UsageFlags). StatePassed f new) (u .flags) (u .state)
@@ -148,7 +140,7 @@ module _ {t r : List ℕ} {i : ℕ} {sh : Extent} {g l : List ℕ} {p : UsageFla
 
   module _ (own : getD t (8 + i) 0 ≡ 0 → ⊥) where
     was-owned : ownedOf t i ≡ true
-    was-owned = rw (ne-eqb (getD t (8 + i) 0) 0 own)
+    was-owned = word-owned t i own
 
     pub old-given : SetReady startHalf t r i sh startHalf g l p
     old-given =
@@ -169,7 +161,7 @@ module _ {t r : List ℕ} {i : ℕ} {g l : List ℕ} {p : UsageFlags} (o : Owned
 
   module _ (own : getD g (8 + i) 0 ≡ 0 → ⊥) where
     pub taken-ready : SlotReady t r i (extentOf g i) × TakenTexture t i (extentOf g i) g l p
-    taken-ready = let e : ownedOf g i ≡ true = rw (ne-eqb (getD g (8 + i) 0) 0 own) in (o .slot e, o .given e)
+    taken-ready = let e = word-owned g i own in (o .slot e, o .given e)
 
     -- it does: the texture took what it holds
     pub slot-taken : {x : Stopped} {t′ r′ : List ℕ} → SlotMerged t r i (mergeSlot ranged p (extentOf g i) (fromHeld (heldOf (numbersOf g) startHalf g l i)) i (slotOf t r i)) x t′ r′ → SlotMerged t r i (mergeGiven ranged p i (slotOf t r i) (slotOf g l i)) x t′ r′

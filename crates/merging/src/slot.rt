@@ -17,7 +17,8 @@ ghost use Rattle.model.specs.Calls.{mergeSlot, mergeGiven};
 ghost use Rattle.model.specs.Texture.{fromHeld, ranged};
 ghost use Rattle.storage.specs.Storage.{numbersOf, startHalf, heldOf};
 ghost use Rattle.texture.specs.Uses.{useOf};
-ghost use Rattle.merging.specs.Slot.{slotOf, SlotReady, TakenUse, TakenTexture, OwnedReady, SlotMerged};
+ghost use Rattle.ready.specs.Merges.{TakenUse};
+ghost use Rattle.merging.specs.Slot.{slotOf, SlotReady, TakenTexture, OwnedReady, SlotMerged};
 
 // A use of the texture.
 pub fn merge_use_at(

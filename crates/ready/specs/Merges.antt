@@ -7,7 +7,7 @@ use mathlib.Core.Bool.{Bool, true, false}
 use mathlib.Core.List.{List}
 use lib.Bits.{bitAnd, bitOr}
 use lib.ListN.{length, getD, set, length-set}
-use borrow.Author.Tests.{not-false, eqb-true}
+use borrow.Author.Tests.{ne-eqb, not-false, eqb-true}
 use Rattle.model.specs.declared.UsageFlags.{UsageFlags}
 use Rattle.model.specs.declared.Extent.{Extent}
 use Rattle.model.specs.declared.Range.{Range}
@@ -15,7 +15,7 @@ use Rattle.model.specs.declared.Selector.{Selector}
 use Rattle.model.specs.Flags.{meets}
 use Rattle.model.specs.Representation.{full}
 use Rattle.model.specs.RangedStates.{Tiles}
-use Rattle.storage.specs.Storage.{numbersOf, flagsOf, extentOf, mipOf}
+use Rattle.storage.specs.Storage.{numbersOf, flagsOf, extentOf, ownedOf, mipOf}
 use Rattle.storage.specs.Frames.{Measured}
 use Rattle.storage.specs.Slots.{ownWords, own-word, own-mips, own-layers}
 use Rattle.texture.specs.Uses.{UseReady, HeldReady}
@@ -37,6 +37,17 @@ module _ {p : UsageFlags} {st : ℕ} (k : StatePassed p st) where
 
   pub state-union : (x : ℕ) → bitOr x st ≡ p .complex → ⊥
   state-union x = union-not-bit x st (p .complex) (k .nonzero) (apart st (p .complex) (k .plain))
+
+-- ---- A use that passed the checks
+pub record TakenUse (t : List ℕ) (sh : Extent) (all : Bool) (q : Selector) (p : UsageFlags) (new : ℕ) : Type 0 where
+  pub flags : p ≡ flagsOf t
+  pub selector : SelectorPassed sh q
+  pub whole : all ≡ true → q ≡ full sh
+  pub state : StatePassed p new
+
+-- ---- Its word says whether a texture is owned
+pub word-owned : (t : List ℕ) (i : ℕ) → (getD t (8 + i) 0 ≡ 0 → ⊥) → ownedOf t i ≡ true
+word-owned t i own = rw (ne-eqb (getD t (8 + i) 0) 0 own)
 
 -- ---- A use of a texture that has the extent already
 module _ {h i : ℕ} {t r : List ℕ} {sh : Extent} (m : Measured (numbersOf t) h t r) (x : TexturePassed t i sh) (e : extentOf t i ≡ sh) where

@@ -35,7 +35,8 @@ use Rattle.ready.specs.Selectors.{full-is}
 use Rattle.setting.specs.declared.Answered.{Answered}
 use Rattle.setting.specs.Tracked.{Tracked}
 use Rattle.setting.specs.Slot.{slotOf, slotEntries, SlotReady, SlotSet, slot-view, slot-pending}
-use Rattle.setting.specs.Single.{TakenUse, usedEntries, usedTracker}
+use Rattle.ready.specs.Merges.{TakenUse}
+use Rattle.setting.specs.Single.{usedEntries, usedTracker}
 use Rattle.setting.specs.Logging.{headFits, refusedWith, movedOn, head-le}
 use Rattle.setting.specs.Changed.{Changed, away-own, changed-tracked}
 

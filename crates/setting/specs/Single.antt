@@ -10,7 +10,6 @@ use Rattle.model.specs.declared.UsageFlags.{UsageFlags}
 use Rattle.model.specs.declared.Extent.{Extent}
 use Rattle.model.specs.declared.Selector.{Selector}
 use Rattle.model.specs.declared.PendingTransition.{PendingTransition}
-use Rattle.model.specs.Representation.{full}
 use Rattle.model.specs.Sets.{Numbers, Tracker, withTracker}
 use Rattle.model.specs.Calls.{setSlot}
 use Rattle.model.specs.Texture.{Held, Given, givenSingle, givenMany, insert, barrier, ranged}
@@ -23,17 +22,10 @@ use Rattle.updating.specs.Update.{UpdateReady, Selecting}
 use Rattle.barrier.specs.Ready.{Textured, Selects}
 use Rattle.barrier.specs.Logged.{entriesAt}
 use Rattle.barrier.specs.Textures.{piece}
-use Rattle.checks.specs.Passed.{TexturePassed, SelectorPassed, StatePassed}
-use Rattle.ready.specs.Merges.{own-numbers, own-flags, own-extent, own-passed, own-measured, use-ready}
+use Rattle.checks.specs.Passed.{StatePassed}
+use Rattle.ready.specs.Merges.{TakenUse, word-owned, own-numbers, own-flags, own-extent, own-passed, own-measured, use-ready}
 use Rattle.ready.specs.Updates.{update-ready, textured, selecting, selects}
 use Rattle.setting.specs.Slot.{slotOf, slotEntries, SlotReady, SlotSet, slot-new}
-
--- a use that passed the checks
-pub record TakenUse (t : List ℕ) (sh : Extent) (all : Bool) (q : Selector) (p : UsageFlags) (new : ℕ) : Type 0 where
-  pub flags : p ≡ flagsOf t
-  pub selector : SelectorPassed sh q
-  pub whole : all ≡ true → q ≡ full sh
-  pub state : StatePassed p new
 
 module _ {t s e : List ℕ} {i : ℕ} {sh : Extent} {all : Bool} {q : Selector} {p : UsageFlags} {new : ℕ} (r : SlotReady t s e i sh) (u : TakenUse t sh all q p new) where
   -- ---- a texture that has just become owned: its start, and then its end
@@ -87,7 +79,7 @@ module _ {t s e : List ℕ} {i : ℕ} {sh : Extent} {all : Bool} {q : Selector} 
   -- ---- an owned one
   module _ (own : getD t (8 + i) 0 ≡ 0 → ⊥) where
     is-owned : ownedOf t i ≡ true
-    is-owned = rw (ne-eqb (getD t (8 + i) 0) 0 own)
+    is-owned = word-owned t i own
 
     pub old-update : UpdateReady t s e i sh p new
     old-update =

@@ -19,7 +19,7 @@ ghost use Rattle.texture.specs.Uses.{useOf};
 ghost use Rattle.barrier.specs.Steps.{logTop};
 ghost use Rattle.barrier.specs.Logged.{Room, Logged};
 ghost use Rattle.setting.specs.Slot.{slotOf, slotEntries, SlotReady, SlotSet};
-ghost use Rattle.setting.specs.Single.{TakenUse};
+ghost use Rattle.ready.specs.Merges.{TakenUse};
 
 // What the texture becomes.
 pub fn set_use_at(
