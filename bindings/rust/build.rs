@@ -1,0 +1,58 @@
+//! Finds the proved library, and takes the Rust examples out of the repository's README.
+use std::{env, fs, io, path::PathBuf};
+
+const ARCHIVE: &str = "libexports.a";
+const README: &str = "../../README.md";
+
+fn main() -> io::Result<()> {
+    println!("cargo::rerun-if-changed=build.rs");
+    link();
+    readme()
+}
+
+/// Links the archive, or says how it is made.
+fn link() {
+    println!("cargo::rerun-if-env-changed=TEXTURE_TRACKER_LIB_DIR");
+    let dir = env::var_os("TEXTURE_TRACKER_LIB_DIR").map_or_else(in_repository, PathBuf::from);
+    let archive = dir.join(ARCHIVE);
+    println!("cargo::rerun-if-changed={}", archive.display());
+    if env::var("CARGO_CFG_TARGET_ARCH").as_deref() != Ok("x86_64") {
+        println!("cargo::error=the proved library is compiled for x86-64 Linux and links into no other program");
+    }
+    if !archive.is_file() {
+        println!(
+            "cargo::error={} is not there. `rt staticlib exports`, run at the top of the repository, proves and \
+             writes it (some minutes the first time). If it stands elsewhere, set TEXTURE_TRACKER_LIB_DIR to its \
+             directory.",
+            archive.display()
+        );
+    }
+    println!("cargo::rustc-link-search=native={}", dir.display());
+    println!("cargo::rustc-link-lib=static=exports");
+}
+
+/// Where `rt staticlib exports` writes.
+fn in_repository() -> PathBuf {
+    let package = PathBuf::from(env::var_os("CARGO_MANIFEST_DIR").unwrap_or_default());
+    let target = package.join("../../target/staticlib");
+    target.canonicalize().unwrap_or(target)
+}
+
+/// Writes the README with nothing but its blocks that begin with "```rust", for `lib.rs` to include as
+/// documentation tests. To rustdoc the indented blocks would be Rust too. Lines keep their numbers.
+fn readme() -> io::Result<()> {
+    println!("cargo::rerun-if-changed={README}");
+    let text = fs::read_to_string(README).unwrap_or_default();
+    let mut inside = false;
+    let mut kept = String::new();
+    for line in text.lines() {
+        let fence = line.starts_with("```");
+        if inside || line.starts_with("```rust") {
+            kept.push_str(line);
+            inside = !(inside && fence);
+        }
+        kept.push('\n');
+    }
+    let out = PathBuf::from(env::var_os("OUT_DIR").unwrap_or_default());
+    fs::write(out.join("readme.md"), kept)
+}

@@ -1,0 +1,275 @@
+//! Why a call did not do what it was asked: refused, or a conflict of two uses.
+use crate::{
+    storage::state,
+    sys::Answer,
+    values::{Layer, Mip, Selector, State, TrackerIndex},
+};
+use std::{error::Error, fmt};
+
+/// A call that was turned away. Everything that it was lent is as it was before.
+///
+/// There is one case for each number of the scope document's table; [`number`](Self::number) gives it. Which calls
+/// can give which:
+///
+/// | numbers | given by |
+/// |---|---|
+/// | 1, 2 | opening a scope or a tracker |
+/// | 6 to 9 | calls that are handed a whole set, or a list of its textures |
+/// | 7 to 13 | `merge_single`, `set_single` |
+/// | 15 | calls that are lent a log |
+/// | 3, 4, 5 | none: this crate lends enough room, and nobody else writes what it lends |
+/// | 14 | none: the calls on ranges alone are not in this crate |
+///
+/// ```
+/// use texture_tracker::{uses, Extent, Refusal, UsageScope};
+/// let refused = UsageScope::open(65, Extent { mips: 1, layers: 1 }, uses::FLAGS).unwrap_err();
+/// assert_eq!(refused, Refusal::NumbersOutOfLimits);
+/// assert_eq!(refused.number(), 1);
+/// assert_eq!(refused.to_string(), "a set has 1 to 64 textures, 1 to 16 mips and 1 to 256 layers (refusal 1)");
+/// ```
+#[derive(Clone, Copy, Debug, PartialEq, Eq, Hash)]
+#[non_exhaustive]
+pub enum Refusal {
+    /// 1: the number of textures, mips or layers is outside its limits.
+    NumbersOutOfLimits,
+    /// 2: the usage flags break their rule.
+    FlagsBreakRule,
+    /// 3: the lent room is short.
+    ShortRoom,
+    /// 4: a set is not well formed: something else has written its storage.
+    NotWellFormed,
+    /// 5: the log tells of more entries than were lent.
+    LogTooShort,
+    /// 6: the two sets were opened with different usage flags.
+    FlagsDiffer,
+    /// 7: the set has no such index.
+    NoSuchIndex(TrackerIndex),
+    /// 8: the texture has more mips or layers than the set was opened for, or none.
+    ExtentOutOfLimits(TrackerIndex),
+    /// 9: the set holds this texture with another extent.
+    ExtentDiffers(TrackerIndex),
+    /// 10: the selector has no mips or no layers.
+    SelectorEmpty,
+    /// 11: the selector ends past the texture's extent.
+    SelectorPastExtent,
+    /// 12: the state is zero, or has `unknown` or `complex` in it.
+    StateReserved,
+    /// 13: the state has an exclusive use beside another use.
+    StateIncompatible,
+    /// 14: the ranges are empty, out of order or overlap.
+    RangesOutOfOrder,
+    /// 15: the call needs more log entries than are free.
+    NoFreeEntry,
+    /// A number that this crate does not know: the library is of another version.
+    Unlisted(u32),
+}
+
+impl Refusal {
+    fn new(number: u32, place: u32) -> Self {
+        let index = TrackerIndex(place);
+        match number {
+            1 => Self::NumbersOutOfLimits,
+            2 => Self::FlagsBreakRule,
+            3 => Self::ShortRoom,
+            4 => Self::NotWellFormed,
+            5 => Self::LogTooShort,
+            6 => Self::FlagsDiffer,
+            7 => Self::NoSuchIndex(index),
+            8 => Self::ExtentOutOfLimits(index),
+            9 => Self::ExtentDiffers(index),
+            10 => Self::SelectorEmpty,
+            11 => Self::SelectorPastExtent,
+            12 => Self::StateReserved,
+            13 => Self::StateIncompatible,
+            14 => Self::RangesOutOfOrder,
+            15 => Self::NoFreeEntry,
+            other => Self::Unlisted(other),
+        }
+    }
+
+    /// The number in the scope document's table.
+    pub const fn number(self) -> u32 {
+        match self {
+            Self::NumbersOutOfLimits => 1,
+            Self::FlagsBreakRule => 2,
+            Self::ShortRoom => 3,
+            Self::NotWellFormed => 4,
+            Self::LogTooShort => 5,
+            Self::FlagsDiffer => 6,
+            Self::NoSuchIndex(_) => 7,
+            Self::ExtentOutOfLimits(_) => 8,
+            Self::ExtentDiffers(_) => 9,
+            Self::SelectorEmpty => 10,
+            Self::SelectorPastExtent => 11,
+            Self::StateReserved => 12,
+            Self::StateIncompatible => 13,
+            Self::RangesOutOfOrder => 14,
+            Self::NoFreeEntry => 15,
+            Self::Unlisted(number) => number,
+        }
+    }
+
+    /// The texture that was turned away, for 7 to 9.
+    pub const fn index(self) -> Option<TrackerIndex> {
+        match self {
+            Self::NoSuchIndex(index)
+            | Self::ExtentOutOfLimits(index)
+            | Self::ExtentDiffers(index) => Some(index),
+            _ => None,
+        }
+    }
+
+    fn words(self) -> &'static str {
+        match self {
+            Self::NumbersOutOfLimits => "a set has 1 to 64 textures, 1 to 16 mips and 1 to 256 layers",
+            Self::FlagsBreakRule => {
+                "uninitialized, complex and unknown must be one bit each, all different, complex and unknown not \
+                 in exclusive"
+            }
+            Self::ShortRoom => "the lent room is short",
+            Self::NotWellFormed => "a set is not well formed: something else has written its storage",
+            Self::LogTooShort => "the log tells of more entries than were lent",
+            Self::FlagsDiffer => "the two sets were opened with different usage flags",
+            Self::NoSuchIndex(_) => "the set has no such index",
+            Self::ExtentOutOfLimits(_) => "it has no mips or layers, or more than the set was opened for",
+            Self::ExtentDiffers(_) => "the set holds it with another extent",
+            Self::SelectorEmpty => "the selector has no mips or no layers",
+            Self::SelectorPastExtent => "the selector ends past the texture's extent",
+            Self::StateReserved => "the state is zero, or has unknown or complex in it",
+            Self::StateIncompatible => "the state has an exclusive use beside another use",
+            Self::RangesOutOfOrder => "the ranges are empty, out of order or overlap",
+            Self::NoFreeEntry => "the call needs more log entries than are free",
+            Self::Unlisted(_) => "the library gives a reason that this crate does not know",
+        }
+    }
+}
+
+impl fmt::Display for Refusal {
+    fn fmt(&self, f: &mut fmt::Formatter<'_>) -> fmt::Result {
+        if let Some(TrackerIndex(index)) = self.index() {
+            write!(f, "texture {index}: ")?;
+        }
+        write!(f, "{} (refusal {})", self.words(), self.number())
+    }
+}
+
+impl Error for Refusal {}
+
+/// Two uses that one subresource cannot have in one usage scope, and where: wgpu-core's
+/// `ResourceUsageCompatibilityError`.
+#[derive(Clone, Debug, PartialEq, Eq, Hash)]
+pub struct Conflict {
+    /// The texture.
+    pub index: TrackerIndex,
+    /// The mips and layers. Its first subresource conflicts for certain.
+    pub selector: Selector,
+    /// What the scope holds there.
+    pub current_state: State,
+    /// What was to be merged into it.
+    pub new_state: State,
+}
+
+impl Conflict {
+    /// The same in words, with names for the states.
+    ///
+    /// ```
+    /// use texture_tracker::{uses, Conflict, Layer, Mip, Selector, TrackerIndex};
+    /// let conflict = Conflict {
+    ///     index: TrackerIndex(0),
+    ///     selector: Selector::one(Mip(0), Layer(5)),
+    ///     current_state: uses::RESOURCE,
+    ///     new_state: uses::COPY_DST,
+    /// };
+    /// assert_eq!(
+    ///     conflict.named(uses::name).to_string(),
+    ///     "texture 0, mip 0, layer 5: in use as RESOURCE, cannot be used as COPY_DST beside it"
+    /// );
+    /// ```
+    pub fn named<N: Fn(State) -> String>(&self, naming: N) -> impl fmt::Display + use<'_, N> {
+        fmt::from_fn(move |f| {
+            let TrackerIndex(index) = self.index;
+            let (current, new) = (naming(self.current_state), naming(self.new_state));
+            let selector = &self.selector;
+            write!(f, "texture {index}, {selector}: in use as {current}, cannot be used as {new} beside it")
+        })
+    }
+}
+
+impl fmt::Display for Conflict {
+    fn fmt(&self, f: &mut fmt::Formatter<'_>) -> fmt::Result {
+        self.named(|state| state.to_string()).fmt(f)
+    }
+}
+
+impl Error for Conflict {}
+
+/// Why a merge into a usage scope did not pass.
+#[derive(Clone, Debug, PartialEq, Eq, Hash)]
+pub enum MergeError {
+    /// The call was turned away, and nothing changed.
+    Refused(Refusal),
+    /// Two uses conflict. What was merged before the conflict stays, as in wgpu-core.
+    Conflict(Conflict),
+}
+
+impl fmt::Display for MergeError {
+    fn fmt(&self, f: &mut fmt::Formatter<'_>) -> fmt::Result {
+        match self {
+            Self::Refused(refusal) => refusal.fmt(f),
+            Self::Conflict(conflict) => conflict.fmt(f),
+        }
+    }
+}
+
+impl Error for MergeError {
+    fn source(&self) -> Option<&(dyn Error + 'static)> {
+        match self {
+            Self::Refused(refusal) => Some(refusal),
+            Self::Conflict(conflict) => Some(conflict),
+        }
+    }
+}
+
+impl From<Refusal> for MergeError {
+    fn from(refusal: Refusal) -> Self {
+        Self::Refused(refusal)
+    }
+}
+
+impl From<Conflict> for MergeError {
+    fn from(conflict: Conflict) -> Self {
+        Self::Conflict(conflict)
+    }
+}
+
+/// The answer of a call that may meet a conflict.
+pub(crate) fn merged(answer: Answer) -> Result<(), MergeError> {
+    match answer.kind {
+        0 => Ok(()),
+        2 => Err(MergeError::Conflict(conflict(answer))),
+        _ => Err(MergeError::Refused(Refusal::new(
+            answer.number,
+            answer.place,
+        ))),
+    }
+}
+
+/// The answer of a call that meets no conflict: any but a merge.
+pub(crate) fn passed(answer: Answer) -> Result<(), Refusal> {
+    match answer.kind {
+        0 => Ok(()),
+        _ => Err(Refusal::new(answer.number, answer.place)),
+    }
+}
+
+fn conflict(answer: Answer) -> Conflict {
+    Conflict {
+        index: TrackerIndex(answer.index),
+        selector: Selector {
+            mips: Mip(answer.mip_start)..Mip(answer.mip_end),
+            layers: Layer(answer.layer_start)..Layer(answer.layer_end),
+        },
+        current_state: state(answer.old_state),
+        new_state: state(answer.new_state),
+    }
+}

@@ -1,0 +1,80 @@
+//! Which use is each camera's picture in? The texture state tracker of wgpu-core, proved in Rattle, for frame code.
+//!
+//! A sorter's cameras fill the layers of a texture array, smaller pictures (mips) are made of them, and a classifier
+//! reads them all:
+//!
+//! ```text
+//!                     mip 0          mip 1      mip 2
+//!   camera 0  ─►  layer 0  ▓▓▓▓▓▓▓▓    ▓▓▓▓       ▓▓
+//!   camera 1  ─►  layer 1  ▓▓▓▓▓▓▓▓    ▓▓▓▓       ▓▓   ─►  classifier
+//!      ...           ...
+//!   camera 7  ─►  layer 7  ▓▓▓▓▓▓▓▓    ▓▓▓▓       ▓▓
+//! ```
+//!
+//! Each square, a mip of a layer, is a *subresource* and is at every moment in one *state*: being copied into, being
+//! drawn to, being read. The driver has to be told of each change, and a square that is read while it is written is a
+//! picture of nothing. Two kinds of sets keep account of this:
+//!
+//! - A [`UsageScope`] holds the uses of one pass, which happen at the same time. Reads are united; a use that excludes
+//!   others, beside any other, is a [`Conflict`], told with its mips, layers and both states.
+//! - A [`TextureTracker`] puts passes in order. Each call that takes it further writes the changes that the driver has
+//!   to be told into a [`TransitionLog`].
+//!
+//! # Quick start
+//!
+//! ```
+//! use texture_tracker::*;
+//!
+//! # fn main() -> Result<(), Box<dyn std::error::Error>> {
+//! let extent = Extent { mips: 1, layers: 8 };                        // eight cameras
+//! let beans = Texture { index: TrackerIndex(0), extent };
+//! let mut tracker = TextureTracker::open(1, extent, uses::FLAGS, uses::ORDERED)?;
+//! let mut log = TransitionLog::with_room_for(1, extent);
+//! tracker.set_single(beans, extent.full_range(), uses::COPY_DST, &mut log)?;   // the cameras' pictures are copied in
+//!
+//! let mut pass = UsageScope::open(1, extent, uses::FLAGS)?;
+//! pass.merge_single(beans, None, uses::RESOURCE)?;                             // the classifier reads them all
+//! tracker.set_from_usage_scope(&pass, &mut log)?;
+//! for transition in log.drain_transitions()? {
+//!     println!("{}", transition.named(uses::name));   // texture 0, mip 0, layers 0 to 7: COPY_DST to RESOURCE
+//! }
+//! # Ok(())
+//! # }
+//! ```
+//!
+//! `./demo` at the top of the repository shows a whole frame.
+//!
+//! # What holds
+//!
+//! Behind these calls is a library that is proved, for every input: a call ends, stays inside the memory that it is
+//! lent, and gives what the definitions say, which are those of wgpu-core's `track/texture.rs` on plain lists; a
+//! refusal changes nothing. This crate lends it the memory, names its answers, and is not proved: it is tested
+//! against wgpu-core's own code (`tests/oracle.rs`). All memory is taken at opening; no call takes more, and none
+//! panics. States are any 16 bits, told apart by [`UsageFlags`]; [`uses`] has wgpu's.
+//!
+//! The archive is found in `target/staticlib` of the repository, where `rt staticlib exports` writes it, or in the
+//! directory that `TEXTURE_TRACKER_LIB_DIR` names when this crate is built.
+#![deny(missing_docs, unsafe_code, unsafe_op_in_unsafe_fn)]
+
+mod errors;
+mod log;
+mod scope;
+mod states;
+mod storage;
+#[rustfmt::skip]
+mod sys;
+mod tracker;
+pub mod uses;
+mod values;
+
+pub use errors::{Conflict, MergeError, Refusal};
+pub use log::{PendingTransition, TransitionLog};
+pub use scope::UsageScope;
+pub use states::TextureStates;
+pub use tracker::TextureTracker;
+pub use values::{Extent, Layer, Mip, Selector, State, Texture, TrackerIndex, UsageFlags};
+
+/// The Rust examples of the repository's README, as documentation tests (`build.rs` takes them out).
+#[cfg(doctest)]
+#[doc = include_str!(concat!(env!("OUT_DIR"), "/readme.md"))]
+struct Readme;

@@ -1,0 +1,247 @@
+//! The proved library: its functions as the archive has them, and for each one caller that lends it storage.
+//!
+//! A slice goes over as a pointer and a count of numbers, a table as a pointer to 2,376 of them. The library asks
+//! nothing else of its caller: it is proved that every call ends, stays inside what it is lent, and answers whatever
+//! numbers stand there. So all that each SAFETY below has to say is that the pointers are good for their lengths and
+//! that what is written is lent to nobody else; references say both.
+//!
+//! One line of arguments for each thing that is lent; rustfmt is told to leave this file alone.
+#![allow(unsafe_code)]
+use crate::{
+    storage::{LogStorage, ScopeStorage, TrackerStorage},
+    values::{Extent, Selector, State, Texture, TrackerIndex, UsageFlags},
+};
+
+/// What a call answers. `kind` is 0 for done, 1 for refused (`number` and `place`), 2 for a conflict (the others).
+#[repr(C)]
+#[derive(Clone, Copy, Debug, Default)]
+pub(crate) struct Answer {
+    pub kind: u32,
+    pub number: u32,
+    pub place: u32,
+    pub index: u32,
+    pub mip_start: u32,
+    pub mip_end: u32,
+    pub layer_start: u32,
+    pub layer_end: u32,
+    pub old_state: u32,
+    pub new_state: u32,
+}
+
+/// What a call that is lent a log answers, with the log's head after it.
+#[repr(C)]
+struct LoggedAnswer {
+    answer: Answer,
+    written: usize,
+    free: usize,
+}
+
+unsafe extern "C" {
+    fn track_open_scope(
+        table: *mut u32, ranges: *const u32, ranges_len: usize,
+        n: u32, m: u32, w: u32, exclusive: u32, uninitialized: u32, complex: u32, unknown: u32,
+    ) -> Answer;
+
+    fn track_open_tracker(
+        table: *mut u32, starts: *const u32, starts_len: usize, ends: *const u32, ends_len: usize,
+        n: u32, m: u32, w: u32, exclusive: u32, uninitialized: u32, complex: u32, unknown: u32, mask: u16,
+    ) -> Answer;
+
+    fn track_merge_single(
+        table: *mut u32, ranges: *mut u32, ranges_len: usize, index: u32, mips: u32, layers: u32,
+        part: u32, mip_start: u32, mip_end: u32, layer_start: u32, layer_end: u32, state: u16,
+    ) -> Answer;
+
+    fn track_merge_usage_scope(
+        table: *mut u32, ranges: *mut u32, ranges_len: usize,
+        given: *const u32, lent: *const u32, lent_len: usize,
+    ) -> Answer;
+
+    fn track_set_single(
+        table: *mut u32, starts: *mut u32, starts_len: usize, ends: *mut u32, ends_len: usize,
+        index: u32, mips: u32, layers: u32,
+        mip_start: u32, mip_end: u32, layer_start: u32, layer_end: u32, state: u16,
+        log: *mut u32, log_len: usize, written: usize, free: usize,
+    ) -> LoggedAnswer;
+
+    fn track_set_from_usage_scope(
+        table: *mut u32, starts: *mut u32, starts_len: usize, ends: *mut u32, ends_len: usize,
+        given: *const u32, lent: *const u32, lent_len: usize,
+        log: *mut u32, log_len: usize, written: usize, free: usize,
+    ) -> LoggedAnswer;
+
+    fn track_set_from_tracker(
+        table: *mut u32, starts: *mut u32, starts_len: usize, ends: *mut u32, ends_len: usize,
+        given: *const u32, first: *const u32, first_len: usize, last: *const u32, last_len: usize,
+        log: *mut u32, log_len: usize, written: usize, free: usize,
+    ) -> LoggedAnswer;
+
+    fn track_set_and_remove_from_usage_scope_sparse(
+        table: *mut u32, starts: *mut u32, starts_len: usize, ends: *mut u32, ends_len: usize,
+        given: *mut u32, lent: *const u32, lent_len: usize, indices: *const u32, indices_len: usize,
+        log: *mut u32, log_len: usize, written: usize, free: usize,
+    ) -> LoggedAnswer;
+
+    fn track_empty_log(log: *const u32, log_len: usize, written: usize, free: usize) -> LoggedAnswer;
+
+    fn track_scope_is_well_formed(table: *const u32, ranges: *const u32, ranges_len: usize) -> u32;
+
+    fn track_tracker_is_well_formed(
+        table: *const u32, starts: *const u32, starts_len: usize, ends: *const u32, ends_len: usize,
+    ) -> u32;
+}
+
+/// Takes over the head that a call leaves.
+fn logged(log: &mut LogStorage, after: LoggedAnswer) -> Answer {
+    log.written = after.written;
+    log.free = after.free;
+    after.answer
+}
+
+fn ends_of(selector: &Selector) -> [u32; 4] {
+    let Selector { mips, layers } = selector;
+    [mips.start.0, mips.end.0, layers.start.0, layers.end.0]
+}
+
+fn numbers(flags: UsageFlags) -> [u32; 4] {
+    [flags.exclusive, flags.uninitialized, flags.complex, flags.unknown].map(|state| state.0.into())
+}
+
+pub(crate) fn open_scope(to: &mut ScopeStorage, n: u32, largest: Extent, flags: UsageFlags) -> Answer {
+    let ScopeStorage { table, ranges } = to;
+    let [exclusive, uninitialized, complex, unknown] = numbers(flags);
+    // SAFETY: each pointer comes from a reference, with its length; the table is lent mutably and alone.
+    unsafe {
+        track_open_scope(
+            table.as_mut_ptr(), ranges.as_ptr(), ranges.len(),
+            n, largest.mips, largest.layers, exclusive, uninitialized, complex, unknown,
+        )
+    }
+}
+
+pub(crate) fn open_tracker(
+    to: &mut TrackerStorage, n: u32, largest: Extent, flags: UsageFlags, mask: State,
+) -> Answer {
+    let TrackerStorage { table, starts, ends } = to;
+    let [exclusive, uninitialized, complex, unknown] = numbers(flags);
+    // SAFETY: each pointer comes from a reference, with its length; the table is lent mutably and alone.
+    unsafe {
+        track_open_tracker(
+            table.as_mut_ptr(), starts.as_ptr(), starts.len(), ends.as_ptr(), ends.len(),
+            n, largest.mips, largest.layers, exclusive, uninitialized, complex, unknown, mask.0,
+        )
+    }
+}
+
+pub(crate) fn merge_single(
+    to: &mut ScopeStorage, texture: Texture, selector: Option<&Selector>, state: State,
+) -> Answer {
+    let ScopeStorage { table, ranges } = to;
+    let Texture { index, extent } = texture;
+    let [mip_start, mip_end, layer_start, layer_end] = selector.map_or([0; 4], ends_of);
+    // SAFETY: each pointer comes from a mutable reference, with its length; the two are separate allocations.
+    unsafe {
+        track_merge_single(
+            table.as_mut_ptr(), ranges.as_mut_ptr(), ranges.len(), index.0, extent.mips, extent.layers,
+            selector.is_some().into(), mip_start, mip_end, layer_start, layer_end, state.0,
+        )
+    }
+}
+
+pub(crate) fn merge_usage_scope(to: &mut ScopeStorage, given: &ScopeStorage) -> Answer {
+    let ScopeStorage { table, ranges } = to;
+    // SAFETY: each pointer comes from a reference, with its length; `to` is lent mutably, so `given` is another.
+    unsafe {
+        track_merge_usage_scope(
+            table.as_mut_ptr(), ranges.as_mut_ptr(), ranges.len(),
+            given.table.as_ptr(), given.ranges.as_ptr(), given.ranges.len(),
+        )
+    }
+}
+
+pub(crate) fn set_single(
+    to: &mut TrackerStorage, texture: Texture, selector: &Selector, state: State, log: &mut LogStorage,
+) -> Answer {
+    let TrackerStorage { table, starts, ends } = to;
+    let Texture { index, extent } = texture;
+    let [mip_start, mip_end, layer_start, layer_end] = ends_of(selector);
+    // SAFETY: each pointer comes from a mutable reference, with its length; all are separate allocations.
+    let after = unsafe {
+        track_set_single(
+            table.as_mut_ptr(), starts.as_mut_ptr(), starts.len(), ends.as_mut_ptr(), ends.len(),
+            index.0, extent.mips, extent.layers,
+            mip_start, mip_end, layer_start, layer_end, state.0,
+            log.entries.as_mut_ptr(), log.entries.len(), log.written, log.free,
+        )
+    };
+    logged(log, after)
+}
+
+pub(crate) fn set_from_usage_scope(to: &mut TrackerStorage, given: &ScopeStorage, log: &mut LogStorage) -> Answer {
+    let TrackerStorage { table, starts, ends } = to;
+    // SAFETY: each pointer comes from a reference, with its length; what is written is lent mutably.
+    let after = unsafe {
+        track_set_from_usage_scope(
+            table.as_mut_ptr(), starts.as_mut_ptr(), starts.len(), ends.as_mut_ptr(), ends.len(),
+            given.table.as_ptr(), given.ranges.as_ptr(), given.ranges.len(),
+            log.entries.as_mut_ptr(), log.entries.len(), log.written, log.free,
+        )
+    };
+    logged(log, after)
+}
+
+pub(crate) fn set_from_tracker(to: &mut TrackerStorage, given: &TrackerStorage, log: &mut LogStorage) -> Answer {
+    let TrackerStorage { table, starts, ends } = to;
+    let TrackerStorage { table: other, starts: first, ends: last } = given;
+    // SAFETY: each pointer comes from a reference, with its length; `to` is lent mutably, so `given` is another.
+    let after = unsafe {
+        track_set_from_tracker(
+            table.as_mut_ptr(), starts.as_mut_ptr(), starts.len(), ends.as_mut_ptr(), ends.len(),
+            other.as_ptr(), first.as_ptr(), first.len(), last.as_ptr(), last.len(),
+            log.entries.as_mut_ptr(), log.entries.len(), log.written, log.free,
+        )
+    };
+    logged(log, after)
+}
+
+pub(crate) fn set_and_remove_from_usage_scope_sparse(
+    to: &mut TrackerStorage, given: &mut ScopeStorage, indices: &[TrackerIndex], log: &mut LogStorage,
+) -> Answer {
+    let TrackerStorage { table, starts, ends } = to;
+    // SAFETY: each pointer comes from a reference, with its length; what is written is lent mutably. A
+    // `TrackerIndex` is a `u32` (repr(transparent)).
+    let after = unsafe {
+        track_set_and_remove_from_usage_scope_sparse(
+            table.as_mut_ptr(), starts.as_mut_ptr(), starts.len(), ends.as_mut_ptr(), ends.len(),
+            given.table.as_mut_ptr(), given.ranges.as_ptr(), given.ranges.len(),
+            indices.as_ptr().cast(), indices.len(),
+            log.entries.as_mut_ptr(), log.entries.len(), log.written, log.free,
+        )
+    };
+    logged(log, after)
+}
+
+pub(crate) fn empty_log(log: &mut LogStorage) -> Answer {
+    // SAFETY: the pointer comes from a reference, with its length, and is only read.
+    let after = unsafe { track_empty_log(log.entries.as_ptr(), log.entries.len(), log.written, log.free) };
+    logged(log, after)
+}
+
+pub(crate) fn scope_is_well_formed(scope: &ScopeStorage) -> bool {
+    // SAFETY: each pointer comes from a reference, with its length, and is only read.
+    let told = unsafe {
+        track_scope_is_well_formed(scope.table.as_ptr(), scope.ranges.as_ptr(), scope.ranges.len())
+    };
+    told != 0
+}
+
+pub(crate) fn tracker_is_well_formed(tracker: &TrackerStorage) -> bool {
+    let TrackerStorage { table, starts, ends } = tracker;
+    // SAFETY: each pointer comes from a reference, with its length, and is only read.
+    let told = unsafe {
+        track_tracker_is_well_formed(
+            table.as_ptr(), starts.as_ptr(), starts.len(), ends.as_ptr(), ends.len(),
+        )
+    };
+    told != 0
+}
