@@ -34,8 +34,8 @@ fn link() {
 /// Where `rt staticlib exports` writes.
 fn in_repository() -> PathBuf {
     let package = PathBuf::from(env::var_os("CARGO_MANIFEST_DIR").unwrap_or_default());
-    let target = package.join("../../target/staticlib");
-    target.canonicalize().unwrap_or(target)
+    let top = package.ancestors().nth(2).unwrap_or(&package);
+    top.join("target/staticlib")
 }
 
 /// Writes the README with nothing but its blocks that begin with "```rust", for `lib.rs` to include as

@@ -2,6 +2,7 @@
 //!
 //! 3, 4 and 5 cannot arise: the crate lends enough room, nobody else writes what it lends, and the log keeps its own
 //! head. 14 is of calls that are not in this crate.
+#![allow(clippy::reversed_empty_ranges)] // they are refused
 mod bench;
 use bench::*;
 use texture_tracker::*;
