@@ -63,6 +63,8 @@ mod states;
 mod storage;
 #[rustfmt::skip]
 mod sys;
+#[cfg(test)]
+mod tests;
 mod tracker;
 pub mod uses;
 mod values;

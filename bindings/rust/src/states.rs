@@ -62,35 +62,23 @@ impl<'a> TextureStates<'a> {
             .map(|(_, state)| state)
     }
 
-    /// The ranges of a mip, in the order of their layers; of a Single texture one over all layers. None past the
-    /// texture's extent.
+    /// The ranges of a mip, in the order of their layers; of a Single texture one over all layers. There are none
+    /// past the texture's extent.
     pub fn ranges(&self, mip: Mip) -> impl Iterator<Item = (Range<Layer>, State)> + Clone + 'a {
         let extent = self.extent();
         let single = self.single().filter(|_| mip.0 < extent.mips);
-        let many = if self.single().is_none() {
-            Some(self.held.ranges(mip.0))
-        } else {
-            None
-        };
-        let all = move |state| (Layer(0)..Layer(extent.layers), state);
-        single
-            .map(all)
-            .into_iter()
-            .chain(many.into_iter().flatten())
+        let whole = single.map(|state| (Layer(0)..Layer(extent.layers), state));
+        whole.into_iter().chain(self.held.ranges(mip.0))
     }
 
     /// All states with their places, as they are stored: one of a Single texture, otherwise mip by mip each range.
     pub fn iter(&self) -> impl Iterator<Item = (Selector, State)> + Clone + 'a {
         let Self { held } = *self;
-        let extent = held.extent();
-        let mips = if held.single().is_none() {
-            0..extent.mips
-        } else {
-            0..0
-        };
-        let many = mips.flat_map(move |mip| held.ranges(mip).map(move |range| in_mip(mip, range)));
-        let single = held.single().map(|state| (extent.full_range(), state));
-        single.into_iter().chain(many)
+        let whole = self
+            .single()
+            .map(|state| (self.extent().full_range(), state));
+        let of_mip = move |mip| held.ranges(mip).map(move |range| in_mip(mip, range));
+        whole.into_iter().chain(held.mips().flat_map(of_mip))
     }
 }
 

@@ -215,13 +215,18 @@ impl<'a> Held<'a> {
         }
     }
 
+    /// The mips that a Many texture has ranges for: at most as many as there are counts of them.
+    pub fn mips(&self) -> Range<u32> {
+        0..self.extent().mips.min(MOST.mips)
+    }
+
     /// The one state of a Single texture, None where it is Many.
     pub fn single(&self) -> Option<State> {
         let held = state(self.number(self.half));
         (held != flags(self.table).complex).then_some(held)
     }
 
-    /// The ranges of a mip of a Many texture, in their order.
+    /// The ranges of a mip of a Many texture, in their order. What stands there of a Single one means nothing.
     pub fn ranges(&self, mip: u32) -> impl Iterator<Item = (Range<Layer>, State)> + Clone + 'a {
         let range = |numbers: &[u32]| match *numbers {
             [start, end, held] => (Layer(start)..Layer(end), state(held)),
@@ -235,10 +240,10 @@ impl<'a> Held<'a> {
 
     fn records(&self, mip: u32) -> Option<&'a [u32]> {
         let (_, largest) = opened_for(self.table);
-        let (index, mip) = (self.index as usize, mip as usize);
-        if mip >= MOST_MIPS.min(self.extent().mips as usize) {
+        if self.single().is_some() || !self.mips().contains(&mip) {
             return None;
         }
+        let (index, mip) = (self.index as usize, mip as usize);
         let count = number(self.table, self.half + COUNTS + MOST_MIPS * index + mip) as usize;
         let run =
             (index * largest.mips as usize + mip).checked_mul(RANGE * largest.layers as usize)?;
