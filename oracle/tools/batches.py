@@ -10,6 +10,11 @@ SHARES = {"small": 60, "put": 18, "larger": 12, "limit": 2, "ranges": 8}
 BATCH = {"small": 300, "put": 300, "larger": 200, "limit": 10, "ranges": 100}
 
 
+def shares(safe):
+    """Of each kind; a safe interface has no calls on ranges alone."""
+    return {kind: share for kind, share in SHARES.items() if not (safe and kind == "ranges")}
+
+
 def fixed(name, flags):
     """Cases that are always run: 01's table and the ranged states at their edges, samples and examples."""
     yield Edges(flags).cases()

@@ -25,6 +25,8 @@ def arguments():
     parser.add_argument("--program", help="the proved program: reads the calls, writes the answers")
     parser.add_argument("--room", type=int, default=differ.Readers().room,
                         help="numbers that the program has for a slice of ranges; larger cases are not handed to it")
+    parser.add_argument("--safe", action="store_true",
+                        help="the program keeps the storage itself: only calls that it can be given (tools/safe.py)")
     parser.add_argument("--no-build", action="store_true", help="run the drivers that are there")
     parser.add_argument("--self-test", action="store_true", help="break rules one at a time; each must be reported")
     return parser.parse_args()
@@ -40,14 +42,14 @@ def compare_flags(name, calls, seed, readers):
     """Runs the share of one set of usage flags, up to the first batch that differs: counts, and differences."""
     flags, count = expect.FLAGS[name], Counter()
     for cases in batches.fixed(name, flags):
-        found = differ.examine(cases, name, readers, count)
+        found = differ.examine(readers.given(cases), name, readers, count)
         if found:
             return count, found
-    for kind, share in batches.SHARES.items():
+    for kind, share in batches.shares(readers.safe).items():
         wanted, done = calls * share // 100, Counter()
         while done["calls"] < wanted:
             cases = batches.random_batch(kind, name, flags, seed, done["cases"], wanted)
-            found = differ.examine(cases, name, readers, done)
+            found = differ.examine(readers.given(cases), name, readers, done)
             if found:
                 return count + done, found
         count += done
@@ -81,7 +83,7 @@ def stored_faults(path, readers):
     try:
         if answer.answer(answer.read_cases(calls)) != expected:
             yield f"stored {path.stem}: the Rust or 01 answers otherwise now"
-        if readers.program and rust.run(readers.program, calls) != expected:
+        if readers.program and not readers.safe and rust.run(readers.program, calls) != expected:
             yield f"stored {path.stem}: the program answers otherwise"
     except rust.Ended as error:
         yield f"stored {path.stem}: {error}"
@@ -116,7 +118,7 @@ def main():
         build()
     if chosen.self_test:
         return selftest.main()
-    readers = differ.Readers(None, chosen.program, chosen.room)
+    readers = differ.Readers(None, chosen.program, chosen.room, chosen.safe)
     held = samples_hold(readers) and stored_hold(readers)
     same = compare(chosen.flags.split(","), chosen.calls, chosen.seed, readers)
     if not chosen.program:

@@ -5,6 +5,7 @@ from typing import NamedTuple
 
 import expect
 import rust
+import safe
 from grid import Conflict
 from refusals import Refusal
 
@@ -19,10 +20,15 @@ class Difference(NamedTuple):
 
 class Readers(NamedTuple):
     """Who reads the cases: the Rust's driver (None: the one that is built here), and the proved program, if any.
-    `room`: how many numbers the program has for a slice of ranges; larger cases are not for it."""
+    `room`: how many numbers the program has for a slice of ranges; larger cases are not for it.
+    `safe`: it keeps the storage itself, so cases are without what it cannot be given."""
     driver: object = None
     program: object = None
     room: int = 12288
+    safe: bool = False
+
+    def given(self, cases):
+        return [safe.case(lines) for lines in cases] if self.safe else cases
 
 
 def examine(cases, name, readers, count):

@@ -157,7 +157,7 @@ fn any_numbers() {
             .wrapping_mul(6364136223846793005)
             .wrapping_add(1442695040888963407);
         let number = (seed >> 32) as u32;
-        if number % 3 == 0 {
+        if number.is_multiple_of(3) {
             number
         } else {
             number % 20

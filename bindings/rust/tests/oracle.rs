@@ -1,0 +1,53 @@
+//! Random calls through this crate and through the Rust of wgpu-core, every line of their answers compared.
+//!
+//! `./compare` runs ten times as many. Where the Rust is not built, or there is no Python to hold the two together, the
+//! test says so and passes.
+mod built;
+use std::{
+    io::{self, Write},
+    path::PathBuf,
+    process::Command,
+};
+
+const CALLS: &str = "20000";
+
+/// Says it also where the test harness keeps what a passing test prints.
+fn tell(text: &str) {
+    let _ = writeln!(io::stderr(), "tests/oracle.rs: {text}");
+}
+
+fn has_python() -> bool {
+    Command::new("python3").arg("--version").output().is_ok()
+}
+
+#[test]
+fn the_rust_answers_the_same() {
+    let oracle = PathBuf::from(env!("CARGO_MANIFEST_DIR")).join("../../oracle");
+    if !oracle.join("rust/target/release/bench").is_file() {
+        return tell("skipped: the oracle is not built; `oracle/build`, at the top of the repository, builds it");
+    }
+    if !has_python() {
+        return tell("skipped: there is no python3");
+    }
+    let mut compare = Command::new("python3");
+    compare
+        .arg(oracle.join("compare"))
+        .args(["--no-build", "--safe", "--room", "786432"]);
+    compare.args(["--seed", "cargo test", "--calls", CALLS]);
+    let done = compare
+        .arg("--program")
+        .arg(built::example("oracle"))
+        .output()
+        .unwrap();
+    let said = String::from_utf8_lossy(&done.stdout);
+    assert!(
+        done.status.success(),
+        "{said}{}",
+        String::from_utf8_lossy(&done.stderr)
+    );
+    tell(
+        said.lines()
+            .find(|line| line.starts_with("in all:"))
+            .unwrap_or("no summary"),
+    );
+}
