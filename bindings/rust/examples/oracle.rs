@@ -15,6 +15,12 @@ fn malformed(what: &str) -> ! {
     std::process::exit(2)
 }
 
+/// A call was refused that cannot be.
+fn impossible(refusal: Refusal) -> ! {
+    eprintln!("{refusal}");
+    std::process::exit(3)
+}
+
 struct Words<'a>(Split<'a, char>);
 
 impl Words<'_> {
@@ -172,8 +178,7 @@ impl Case {
         let Some(Set::Tracker(mut tracker, mut own)) = self.sets.remove(&number) else {
             malformed("no such tracker")
         };
-        own.clear()
-            .unwrap_or_else(|_| malformed("its log cannot be emptied"));
+        own.clear().unwrap_or_else(|refusal| impossible(refusal));
         let log = self.lent.as_mut().unwrap_or(&mut own);
         let head = (log.len(), log.free());
         let entries: Vec<_> = log.iter().collect();
@@ -249,7 +254,7 @@ fn filled(written: u32, free: u32) -> TransitionLog {
     };
     let mut log = TransitionLog::with_capacity(written + free);
     let tracker = TextureTracker::open(1, extent, uses::FLAGS, State(0));
-    let mut tracker = tracker.unwrap_or_else(|_| malformed("no tracker"));
+    let mut tracker = tracker.unwrap_or_else(|refusal| impossible(refusal));
     // The first use logs nothing.
     for at in 0..=written {
         let state = if at % 2 == 0 {
@@ -258,7 +263,7 @@ fn filled(written: u32, free: u32) -> TransitionLog {
             uses::RESOURCE
         };
         let answer = tracker.set_single(texture, extent.full_range(), state, &mut log);
-        answer.unwrap_or_else(|_| malformed("the log cannot be filled"));
+        answer.unwrap_or_else(|refusal| impossible(refusal));
     }
     log
 }

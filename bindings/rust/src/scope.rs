@@ -70,6 +70,23 @@ impl UsageScope {
     /// Merges every texture of another scope, by ascending index, up to the first conflict.
     ///
     /// Refused with 6 to 9, before any change.
+    ///
+    /// ```
+    /// # use texture_tracker::*;
+    /// # fn main() -> Result<(), Box<dyn std::error::Error>> {
+    /// # let extent = Extent { mips: 1, layers: 8 };
+    /// # let cameras = Texture { index: TrackerIndex(0), extent };
+    /// let mut pass = UsageScope::open(1, extent, uses::FLAGS)?;
+    /// pass.merge_single(cameras, None, uses::RESOURCE)?;
+    /// let mut bundle = UsageScope::open(1, extent, uses::FLAGS)?;
+    /// bundle.merge_single(cameras, None, uses::COPY_SRC)?;
+    ///
+    /// pass.merge_usage_scope(&bundle)?;
+    /// let states = pass.states(TrackerIndex(0)).ok_or("not used")?;
+    /// assert_eq!(states.single(), Some(uses::COPY_SRC | uses::RESOURCE));
+    /// # Ok(())
+    /// # }
+    /// ```
     pub fn merge_usage_scope(&mut self, scope: &UsageScope) -> Result<(), MergeError> {
         merged(sys::merge_usage_scope(&mut self.storage, &scope.storage))
     }

@@ -114,9 +114,30 @@ impl TextureTracker {
     }
 
     /// Joins the tracker with another, whose passes come next: transitions lead to the other's start, and its end is
-    /// what they leave.
+    /// what they leave. So wgpu-core takes a command buffer into its device.
     ///
     /// Refused with 6 to 9, and 15.
+    ///
+    /// ```
+    /// # use texture_tracker::*;
+    /// # fn main() -> Result<(), Refusal> {
+    /// # let extent = Extent { mips: 1, layers: 8 };
+    /// # let cameras = Texture { index: TrackerIndex(0), extent };
+    /// # let mut log = TransitionLog::with_room_for(1, extent);
+    /// # let open = || TextureTracker::open(1, extent, uses::FLAGS, uses::ORDERED);
+    /// let (mut device, mut commands) = (open()?, open()?);
+    /// device.set_single(cameras, extent.full_range(), uses::UNINITIALIZED, &mut log)?;
+    /// commands.set_single(cameras, extent.full_range(), uses::COPY_DST, &mut log)?;
+    /// commands.set_single(cameras, extent.full_range(), uses::RESOURCE, &mut log)?;
+    /// log.clear()?;                            // what happens between the commands was told to the driver
+    ///
+    /// device.set_from_tracker(&commands, &mut log)?;
+    /// let before: Vec<_> = log.drain_transitions()?.map(|each| (each.from, each.to)).collect();
+    /// assert_eq!(before, [(uses::UNINITIALIZED, uses::COPY_DST)]);
+    /// assert_eq!(device.end(TrackerIndex(0)).and_then(|end| end.single()), Some(uses::RESOURCE));
+    /// # Ok(())
+    /// # }
+    /// ```
     pub fn set_from_tracker(
         &mut self,
         tracker: &TextureTracker,
@@ -133,6 +154,23 @@ impl TextureTracker {
     /// does not own is passed over, and an index that is listed twice counts once.
     ///
     /// Refused with 6 to 9, and 15.
+    ///
+    /// ```
+    /// # use texture_tracker::*;
+    /// # fn main() -> Result<(), Box<dyn std::error::Error>> {
+    /// # let extent = Extent { mips: 1, layers: 8 };
+    /// # let mut log = TransitionLog::with_room_for(2, extent);
+    /// # let mut tracker = TextureTracker::open(2, extent, uses::FLAGS, uses::ORDERED)?;
+    /// let mut pass = UsageScope::open(2, extent, uses::FLAGS)?;
+    /// for index in [0, 1].map(TrackerIndex) {
+    ///     pass.merge_single(Texture { index, extent }, None, uses::RESOURCE)?;
+    /// }
+    /// tracker.set_and_remove_from_usage_scope_sparse(&mut pass, &[TrackerIndex(1)], &mut log)?;
+    /// assert!(pass.owned().eq([TrackerIndex(0)]));
+    /// assert!(tracker.owned().eq([TrackerIndex(1)]));
+    /// # Ok(())
+    /// # }
+    /// ```
     pub fn set_and_remove_from_usage_scope_sparse(
         &mut self,
         scope: &mut UsageScope,

@@ -35,7 +35,7 @@ fn its_own_frame() {
 }
 
 /// Each with the number of its bad line, and what is said of it.
-const BAD: [(&str, usize, &str); 25] = [
+const BAD: [(&str, usize, &str); 27] = [
     (
         "textures beans",
         1,
@@ -140,6 +140,12 @@ const BAD: [(&str, usize, &str); 25] = [
         "use a RESOURCE as x\nlate y p",
         4,
         "there is no use named y",
+    ),
+    ("use a RESOURCE as x\nlate x q", 4, "there is no pass q"),
+    (
+        "use a RESOURCE as x\nlate x",
+        4,
+        "a late use is written: late NAME PASS",
     ),
 ];
 

@@ -41,7 +41,8 @@ impl Page {
     /// A heading over a part of the page.
     pub fn heading(&mut self, title: &str) {
         let rule = "─".repeat(COLUMNS.saturating_sub(title.chars().count() + 4));
-        self.line(Ink::Bold, &format!("\n── {title} {rule}"));
+        self.line(Ink::Plain, "");
+        self.line(Ink::Bold, &format!("── {title} {rule}"));
     }
 }
 
@@ -193,7 +194,8 @@ impl Grid {
     }
 
     fn write_mips(&self, page: &mut Page, mips: Range<usize>, labels: usize) {
-        page.put(Ink::Bold, &format!("\n  {:labels$}", self.title));
+        page.line(Ink::Plain, "");
+        page.put(Ink::Bold, &format!("  {:labels$}", self.title));
         let head = |mip| format!("{:width$}", format!("mip {mip}"), width = self.column(mip));
         let heads: String = mips.clone().map(head).collect();
         page.line(Ink::Dim, heads.trim_end());
