@@ -30,16 +30,11 @@ impl Words<'_> {
     }
 
     fn number(&mut self) -> u32 {
-        self.next()
-            .unwrap_or_else(|| malformed("a number is missing"))
+        self.next().unwrap_or_else(|| malformed("a number is missing"))
     }
 
     fn state(&mut self) -> State {
-        State(
-            self.number()
-                .try_into()
-                .unwrap_or_else(|_| malformed("not a 16-bit state")),
-        )
+        State(self.number().try_into().unwrap_or_else(|_| malformed("not a 16-bit state")))
     }
 
     fn extent(&mut self) -> Extent {
@@ -50,20 +45,12 @@ impl Words<'_> {
     fn flags(&mut self) -> UsageFlags {
         let [exclusive, uninitialized] = [self.state(), self.state()];
         let [complex, unknown] = [self.state(), self.state()];
-        UsageFlags {
-            exclusive,
-            uninitialized,
-            complex,
-            unknown,
-        }
+        UsageFlags { exclusive, uninitialized, complex, unknown }
     }
 
     fn texture(&mut self) -> Texture {
         let index = TrackerIndex(self.number());
-        Texture {
-            index,
-            extent: self.extent(),
-        }
+        Texture { index, extent: self.extent() }
     }
 
     /// Four numbers or none.
@@ -74,9 +61,7 @@ impl Words<'_> {
     }
 
     fn indices(&mut self) -> Vec<TrackerIndex> {
-        std::iter::from_fn(|| self.next())
-            .map(TrackerIndex)
-            .collect()
+        std::iter::from_fn(|| self.next()).map(TrackerIndex).collect()
     }
 }
 
@@ -126,17 +111,11 @@ impl Case {
     }
 
     fn open(&mut self, word: &str, words: &mut Words, out: &mut String) {
-        let (number, textures, largest, flags) = (
-            words.number(),
-            words.number(),
-            words.extent(),
-            words.flags(),
-        );
+        let (number, textures, largest, flags) = (words.number(), words.number(), words.extent(), words.flags());
         let opened = match word {
             "open_scope" => UsageScope::open(textures, largest, flags).map(Set::Scope),
-            _ => TextureTracker::open(textures, largest, flags, words.state()).map(|tracker| {
-                Set::Tracker(tracker, TransitionLog::with_room_for(textures, largest))
-            }),
+            _ => TextureTracker::open(textures, largest, flags, words.state())
+                .map(|tracker| Set::Tracker(tracker, TransitionLog::with_room_for(textures, largest))),
         };
         match opened {
             Ok(set) => {
@@ -156,16 +135,12 @@ impl Case {
             let (texture, state) = (words.texture(), words.state());
             scope.merge_single(texture, words.selector(), state)
         } else {
-            let Some(Set::Scope(other)) = self.sets.get(&words.number()) else {
-                malformed("no such scope")
-            };
+            let Some(Set::Scope(other)) = self.sets.get(&words.number()) else { malformed("no such scope") };
             scope.merge_usage_scope(other)
         };
         self.sets.insert(number, Set::Scope(scope));
         match answer {
-            Err(MergeError::Refused(refusal)) => {
-                return refused(out, refusal, shown(&self.sets) == before)
-            }
+            Err(MergeError::Refused(refusal)) => return refused(out, refusal, shown(&self.sets) == before),
             Err(MergeError::Conflict(conflict)) => show_conflict(out, &conflict),
             Ok(()) => say(out, "done"),
         }
@@ -175,9 +150,7 @@ impl Case {
     fn set(&mut self, word: &str, words: &mut Words, out: &mut String) {
         let before = shown(&self.sets);
         let number = words.number();
-        let Some(Set::Tracker(mut tracker, mut own)) = self.sets.remove(&number) else {
-            malformed("no such tracker")
-        };
+        let Some(Set::Tracker(mut tracker, mut own)) = self.sets.remove(&number) else { malformed("no such tracker") };
         own.clear().unwrap_or_else(|refusal| impossible(refusal));
         let log = self.lent.as_mut().unwrap_or(&mut own);
         let head = (log.len(), log.free());
@@ -188,23 +161,10 @@ impl Case {
         let added: Vec<_> = log.iter().skip(head.0).collect();
         self.sets.insert(number, Set::Tracker(tracker, own));
         if let Err(refusal) = answer {
-            return refused(
-                out,
-                refusal,
-                log_kept && head_kept && shown(&self.sets) == before,
-            );
+            return refused(out, refusal, log_kept && head_kept && shown(&self.sets) == before);
         }
-        say(
-            out,
-            if log_kept {
-                "done"
-            } else {
-                "earlier entries changed"
-            },
-        );
-        added
-            .iter()
-            .for_each(|transition| show_transition(out, transition));
+        say(out, if log_kept { "done" } else { "earlier entries changed" });
+        added.iter().for_each(|transition| show_transition(out, transition));
         if let Some(log) = &self.lent {
             say(out, &format!("log {} {}", log.len(), log.free()));
         }
@@ -227,9 +187,7 @@ fn call(
         return tracker.set_single(texture, selector, state, log);
     }
     match (word, sets.get_mut(&words.number())) {
-        ("set_from_usage_scope", Some(Set::Scope(scope))) => {
-            tracker.set_from_usage_scope(scope, log)
-        }
+        ("set_from_usage_scope", Some(Set::Scope(scope))) => tracker.set_from_usage_scope(scope, log),
         ("set_from_tracker", Some(Set::Tracker(other, _))) => tracker.set_from_tracker(other, log),
         ("set_and_remove_from_usage_scope_sparse", Some(Set::Scope(scope))) => {
             tracker.set_and_remove_from_usage_scope_sparse(scope, &words.indices(), log)
@@ -248,20 +206,13 @@ fn take_scope(sets: &mut Sets, number: u32) -> UsageScope {
 /// A log with so many entries written, by calls that log one each, and so many free.
 fn filled(written: u32, free: u32) -> TransitionLog {
     let extent = Extent { mips: 1, layers: 1 };
-    let texture = Texture {
-        index: TrackerIndex(0),
-        extent,
-    };
+    let texture = Texture { index: TrackerIndex(0), extent };
     let mut log = TransitionLog::with_capacity(written + free);
     let tracker = TextureTracker::open(1, extent, uses::FLAGS, State(0));
     let mut tracker = tracker.unwrap_or_else(|refusal| impossible(refusal));
     // The first use logs nothing.
     for at in 0..=written {
-        let state = if at % 2 == 0 {
-            uses::COPY_DST
-        } else {
-            uses::RESOURCE
-        };
+        let state = if at % 2 == 0 { uses::COPY_DST } else { uses::RESOURCE };
         let answer = tracker.set_single(texture, extent.full_range(), state, &mut log);
         answer.unwrap_or_else(|refusal| impossible(refusal));
     }
@@ -289,29 +240,17 @@ fn refused(out: &mut String, refusal: Refusal, kept: bool) {
 }
 
 fn show_selector(index: TrackerIndex, Selector { mips, layers }: &Selector) -> String {
-    format!(
-        "{} {} {} {} {}",
-        index.0, mips.start.0, mips.end.0, layers.start.0, layers.end.0
-    )
+    format!("{} {} {} {} {}", index.0, mips.start.0, mips.end.0, layers.start.0, layers.end.0)
 }
 
 fn show_conflict(out: &mut String, conflict: &Conflict) {
     let place = show_selector(conflict.index, &conflict.selector);
-    say(
-        out,
-        &format!(
-            "conflict {place} {} {}",
-            conflict.current_state, conflict.new_state
-        ),
-    );
+    say(out, &format!("conflict {place} {} {}", conflict.current_state, conflict.new_state));
 }
 
 fn show_transition(out: &mut String, transition: &PendingTransition) {
     let place = show_selector(transition.index, &transition.selector);
-    say(
-        out,
-        &format!("transition {place} {} {}", transition.from, transition.to),
-    );
+    say(out, &format!("transition {place} {} {}", transition.from, transition.to));
 }
 
 fn shown(sets: &Sets) -> String {
@@ -329,16 +268,12 @@ fn show_sets(out: &mut String, sets: &Sets) {
         match set {
             Set::Scope(scope) => {
                 say(out, &format!("scope {number}"));
-                scope
-                    .owned()
-                    .for_each(|index| show_texture(out, &[scope.states(index)]));
+                scope.owned().for_each(|index| show_texture(out, &[scope.states(index)]));
             }
             Set::Tracker(tracker, _) => {
                 say(out, &format!("tracker {number}"));
                 let halves = |index| [tracker.start(index), tracker.end(index)];
-                tracker
-                    .owned()
-                    .for_each(|index| show_texture(out, &halves(index)));
+                tracker.owned().for_each(|index| show_texture(out, &halves(index)));
             }
         }
     }
@@ -350,10 +285,7 @@ fn show_texture(out: &mut String, halves: &[Option<TextureStates<'_>>]) {
     };
     let Extent { mips, layers } = first.extent();
     out.push_str(&format!("texture {} {mips} {layers}", first.index().0));
-    halves
-        .iter()
-        .flatten()
-        .for_each(|states| show_half(out, states));
+    halves.iter().flatten().for_each(|states| show_half(out, states));
     out.push('\n');
 }
 

@@ -112,9 +112,7 @@ impl Refusal {
     /// The texture that was turned away, for 7 to 9.
     pub const fn index(self) -> Option<TrackerIndex> {
         match self {
-            Self::NoSuchIndex(index)
-            | Self::ExtentOutOfLimits(index)
-            | Self::ExtentDiffers(index) => Some(index),
+            Self::NoSuchIndex(index) | Self::ExtentOutOfLimits(index) | Self::ExtentDiffers(index) => Some(index),
             _ => None,
         }
     }
@@ -247,10 +245,7 @@ pub(crate) fn merged(answer: Answer) -> Result<(), MergeError> {
     match answer.kind {
         0 => Ok(()),
         2 => Err(MergeError::Conflict(conflict(answer))),
-        _ => Err(MergeError::Refused(Refusal::new(
-            answer.number,
-            answer.place,
-        ))),
+        _ => Err(MergeError::Refused(Refusal::new(answer.number, answer.place))),
     }
 }
 

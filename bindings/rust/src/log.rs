@@ -22,12 +22,7 @@ pub struct PendingTransition {
 
 impl PendingTransition {
     fn new((index, selector, from, to): Entry) -> Self {
-        Self {
-            index,
-            selector,
-            from,
-            to,
-        }
+        Self { index, selector, from, to }
     }
 
     /// The same in words, with names for the states.
@@ -82,16 +77,12 @@ impl TransitionLog {
     /// A log with a free entry for every subresource of that many textures of that extent: enough for any one call
     /// of a tracker that was opened with the same numbers.
     pub fn with_room_for(textures: u32, largest: Extent) -> Self {
-        Self {
-            storage: LogStorage::new(subresources(textures, largest)),
-        }
+        Self { storage: LogStorage::new(subresources(textures, largest)) }
     }
 
     /// A log with that many free entries, 28 bytes each, taken at once.
     pub fn with_capacity(entries: u32) -> Self {
-        Self {
-            storage: LogStorage::new(entries as usize),
-        }
+        Self { storage: LogStorage::new(entries as usize) }
     }
 
     /// How many entries are written.

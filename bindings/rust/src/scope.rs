@@ -59,12 +59,7 @@ impl UsageScope {
         selector: Option<Selector>,
         new_state: State,
     ) -> Result<(), MergeError> {
-        merged(sys::merge_single(
-            &mut self.storage,
-            texture,
-            selector.as_ref(),
-            new_state,
-        ))
+        merged(sys::merge_single(&mut self.storage, texture, selector.as_ref(), new_state))
     }
 
     /// Merges every texture of another scope, by ascending index, up to the first conflict.

@@ -57,9 +57,7 @@ impl<'a> TextureStates<'a> {
     /// The state of one subresource; None past the texture's extent.
     pub fn state(&self, mip: Mip, layer: Layer) -> Option<State> {
         let mut ranges = self.ranges(mip);
-        ranges
-            .find(|(layers, _)| layers.contains(&layer))
-            .map(|(_, state)| state)
+        ranges.find(|(layers, _)| layers.contains(&layer)).map(|(_, state)| state)
     }
 
     /// The ranges of a mip, in the order of their layers; of a Single texture one over all layers. There are none
@@ -74,9 +72,7 @@ impl<'a> TextureStates<'a> {
     /// All states with their places, as they are stored: one of a Single texture, otherwise mip by mip each range.
     pub fn iter(&self) -> impl Iterator<Item = (Selector, State)> + Clone + 'a {
         let Self { held } = *self;
-        let whole = self
-            .single()
-            .map(|state| (self.extent().full_range(), state));
+        let whole = self.single().map(|state| (self.extent().full_range(), state));
         let of_mip = move |mip| held.ranges(mip).map(move |range| in_mip(mip, range));
         whole.into_iter().chain(held.mips().flat_map(of_mip))
     }

@@ -32,10 +32,7 @@ const ENTRY: usize = 7;
 
 /// The largest set that can be opened.
 const MOST_TEXTURES: u32 = 64;
-const MOST: Extent = Extent {
-    mips: MOST_MIPS as u32,
-    layers: 256,
-};
+const MOST: Extent = Extent { mips: MOST_MIPS as u32, layers: 256 };
 
 #[derive(Clone)]
 pub(crate) struct ScopeStorage {
@@ -77,10 +74,7 @@ pub(crate) fn subresources(textures: u32, largest: Extent) -> usize {
 impl ScopeStorage {
     /// Room for a scope that is not yet opened.
     pub fn new(textures: u32, largest: Extent) -> Self {
-        Self {
-            table: Box::new([0; TABLE]),
-            ranges: vec![0; RANGE * subresources(textures, largest)],
-        }
+        Self { table: Box::new([0; TABLE]), ranges: vec![0; RANGE * subresources(textures, largest)] }
     }
 }
 
@@ -88,21 +82,13 @@ impl TrackerStorage {
     /// Room for a tracker that is not yet opened.
     pub fn new(textures: u32, largest: Extent) -> Self {
         let room = RANGE * subresources(textures, largest);
-        Self {
-            table: Box::new([0; TABLE]),
-            starts: vec![0; room],
-            ends: vec![0; room],
-        }
+        Self { table: Box::new([0; TABLE]), starts: vec![0; room], ends: vec![0; room] }
     }
 }
 
 impl LogStorage {
     pub fn new(entries: usize) -> Self {
-        Self {
-            entries: vec![0; ENTRY * entries],
-            written: 0,
-            free: entries,
-        }
+        Self { entries: vec![0; ENTRY * entries], written: 0, free: entries }
     }
 
     /// The first `count` entries: what moved, and its old and new state.
@@ -116,16 +102,8 @@ pub(crate) type Entry = (TrackerIndex, Selector, State, State);
 
 fn entry(numbers: &[u32]) -> Entry {
     let number = |at: usize| numbers.get(at).copied().unwrap_or(0);
-    let selector = Selector {
-        mips: Mip(number(1))..Mip(number(2)),
-        layers: Layer(number(3))..Layer(number(4)),
-    };
-    (
-        TrackerIndex(number(0)),
-        selector,
-        state(number(5)),
-        state(number(6)),
-    )
+    let selector = Selector { mips: Mip(number(1))..Mip(number(2)), layers: Layer(number(3))..Layer(number(4)) };
+    (TrackerIndex(number(0)), selector, state(number(5)), state(number(6)))
 }
 
 /// A state is 16 bits: the library keeps no larger one.
@@ -139,10 +117,7 @@ fn number(table: &Table, at: usize) -> u32 {
 
 /// The opening numbers: how many textures, and the largest extent.
 pub(crate) fn opened_for(table: &Table) -> (u32, Extent) {
-    let largest = Extent {
-        mips: number(table, 1),
-        layers: number(table, 2),
-    };
+    let largest = Extent { mips: number(table, 1), layers: number(table, 2) };
     (number(table, 0), largest)
 }
 
@@ -166,9 +141,7 @@ pub(crate) fn owns(table: &Table, index: TrackerIndex) -> bool {
 
 /// Every owned index, ascending.
 pub(crate) fn owned(table: &Table) -> impl Iterator<Item = TrackerIndex> + Clone + '_ {
-    (0..MOST_TEXTURES)
-        .map(TrackerIndex)
-        .filter(|&index| owns(table, index))
+    (0..MOST_TEXTURES).map(TrackerIndex).filter(|&index| owns(table, index))
 }
 
 /// One half of an owned texture.
@@ -182,22 +155,12 @@ pub(crate) struct Held<'a> {
 
 impl<'a> Held<'a> {
     /// None if the index is not owned.
-    pub fn of(
-        table: &'a Table,
-        ranges: &'a [u32],
-        half: Half,
-        index: TrackerIndex,
-    ) -> Option<Self> {
+    pub fn of(table: &'a Table, ranges: &'a [u32], half: Half, index: TrackerIndex) -> Option<Self> {
         let half = match half {
             Half::Start => START,
             Half::End => END,
         };
-        owns(table, index).then_some(Self {
-            table,
-            ranges,
-            half,
-            index: index.0,
-        })
+        owns(table, index).then_some(Self { table, ranges, half, index: index.0 })
     }
 
     pub fn index(&self) -> TrackerIndex {
@@ -209,10 +172,7 @@ impl<'a> Held<'a> {
     }
 
     pub fn extent(&self) -> Extent {
-        Extent {
-            mips: self.number(MIPS),
-            layers: self.number(LAYERS),
-        }
+        Extent { mips: self.number(MIPS), layers: self.number(LAYERS) }
     }
 
     /// The mips that a Many texture has ranges for: at most as many as there are counts of them.
@@ -232,10 +192,7 @@ impl<'a> Held<'a> {
             [start, end, held] => (Layer(start)..Layer(end), state(held)),
             _ => (Layer(0)..Layer(0), State(0)),
         };
-        self.records(mip)
-            .unwrap_or_default()
-            .chunks_exact(RANGE)
-            .map(range)
+        self.records(mip).unwrap_or_default().chunks_exact(RANGE).map(range)
     }
 
     fn records(&self, mip: u32) -> Option<&'a [u32]> {
@@ -245,8 +202,7 @@ impl<'a> Held<'a> {
         }
         let (index, mip) = (self.index as usize, mip as usize);
         let count = number(self.table, self.half + COUNTS + MOST_MIPS * index + mip) as usize;
-        let run =
-            (index * largest.mips as usize + mip).checked_mul(RANGE * largest.layers as usize)?;
+        let run = (index * largest.mips as usize + mip).checked_mul(RANGE * largest.layers as usize)?;
         self.ranges.get(run..)?.get(..RANGE * count)
     }
 }

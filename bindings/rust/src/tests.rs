@@ -3,22 +3,17 @@
 use crate::{
     errors::passed,
     storage::{LogStorage, ScopeStorage, TrackerStorage},
-    sys, uses, Extent, Mip, Refusal, Selector, State, Texture, TextureStates, TextureTracker,
-    TrackerIndex, TransitionLog, UsageScope,
+    sys, uses, Extent, Mip, Refusal, Selector, State, Texture, TextureStates, TextureTracker, TrackerIndex,
+    TransitionLog, UsageScope,
 };
 
 const EXTENT: Extent = Extent { mips: 2, layers: 4 };
-const TEXTURE: Texture = Texture {
-    index: TrackerIndex(0),
-    extent: EXTENT,
-};
+const TEXTURE: Texture = Texture { index: TrackerIndex(0), extent: EXTENT };
 
 fn scope() -> UsageScope {
     let mut scope = UsageScope::open(1, EXTENT, uses::FLAGS).unwrap();
     let part = Selector::one(Mip(0), crate::Layer(1));
-    scope
-        .merge_single(TEXTURE, Some(part), uses::COPY_DST)
-        .unwrap();
+    scope.merge_single(TEXTURE, Some(part), uses::COPY_DST).unwrap();
     scope
 }
 
@@ -35,21 +30,9 @@ fn numbers_of_scope(scope: &UsageScope) -> Vec<u32> {
 }
 
 fn numbers_of_tracker(tracker: &TextureTracker, log: &TransitionLog) -> (Vec<u32>, usize, usize) {
-    let TrackerStorage {
-        table,
-        starts,
-        ends,
-    } = &tracker.storage;
-    let LogStorage {
-        entries,
-        written,
-        free,
-    } = &log.storage;
-    (
-        [&table[..], starts, ends, entries].concat(),
-        *written,
-        *free,
-    )
+    let TrackerStorage { table, starts, ends } = &tracker.storage;
+    let LogStorage { entries, written, free } = &log.storage;
+    ([&table[..], starts, ends, entries].concat(), *written, *free)
 }
 
 #[test]
@@ -61,9 +44,7 @@ fn a_refusal_changes_no_number() {
         assert_eq!(numbers_of_scope(&scope), before);
     }
     let (mut tracker, mut log) = tracker();
-    tracker
-        .set_single(TEXTURE, EXTENT.full_range(), uses::RESOURCE, &mut log)
-        .unwrap();
+    tracker.set_single(TEXTURE, EXTENT.full_range(), uses::RESOURCE, &mut log).unwrap();
     let before = numbers_of_tracker(&tracker, &log);
     let answer = tracker.set_single(TEXTURE, EXTENT.full_range(), uses::COPY_DST, &mut log);
     assert_eq!(answer, Err(Refusal::NoFreeEntry));
@@ -78,13 +59,7 @@ fn short_room_3() {
     assert_eq!(answer, Err(Refusal::ShortRoom));
     let mut short = TrackerStorage::new(1, EXTENT);
     short.ends.pop();
-    let answer = passed(sys::open_tracker(
-        &mut short,
-        1,
-        EXTENT,
-        uses::FLAGS,
-        uses::ORDERED,
-    ));
+    let answer = passed(sys::open_tracker(&mut short, 1, EXTENT, uses::FLAGS, uses::ORDERED));
     assert_eq!(answer, Err(Refusal::ShortRoom));
 }
 
@@ -96,10 +71,7 @@ fn damaged_storage_4() {
     assert!(!scope.is_well_formed());
     let answer = scope.merge_single(TEXTURE, None, uses::RESOURCE);
     assert_eq!(answer, Err(Refusal::NotWellFormed.into()));
-    assert_eq!(
-        tracker.set_from_usage_scope(&scope, &mut log),
-        Err(Refusal::NotWellFormed)
-    );
+    assert_eq!(tracker.set_from_usage_scope(&scope, &mut log), Err(Refusal::NotWellFormed));
     tracker.storage.table[0] = 65;
     assert!(!tracker.is_well_formed());
     let answer = tracker.set_single(TEXTURE, EXTENT.full_range(), uses::RESOURCE, &mut log);
@@ -119,31 +91,19 @@ fn a_head_past_the_log_5() {
 #[test]
 fn every_number_is_decoded() {
     let numbers = (1..=99).map(|number| {
-        let answer = sys::Answer {
-            kind: 1,
-            number,
-            place: 7,
-            ..Default::default()
-        };
+        let answer = sys::Answer { kind: 1, number, place: 7, ..Default::default() };
         passed(answer).unwrap_err()
     });
     for (number, refusal) in (1..=99).zip(numbers) {
         assert_eq!(refusal.number(), number);
-        assert_eq!(
-            refusal.index(),
-            (7..=9).contains(&number).then_some(TrackerIndex(7))
-        );
-        assert!(refusal
-            .to_string()
-            .ends_with(&format!("(refusal {number})")));
+        assert_eq!(refusal.index(), (7..=9).contains(&number).then_some(TrackerIndex(7)));
+        assert!(refusal.to_string().ends_with(&format!("(refusal {number})")));
     }
 }
 
 fn read(states: TextureStates<'_>) -> usize {
     let mips = (0..20).chain([u32::MAX]).map(Mip);
-    let ranges = mips.map(|mip| {
-        states.ranges(mip).count() + states.state(mip, crate::Layer(3)).is_some() as usize
-    });
+    let ranges = mips.map(|mip| states.ranges(mip).count() + states.state(mip, crate::Layer(3)).is_some() as usize);
     ranges.sum::<usize>() + states.iter().take(1000).count()
 }
 
@@ -153,9 +113,7 @@ fn any_numbers() {
     let mut seed = 1u64;
     let mut next = move || {
         // Knuth's MMIX generator; the upper bits are the good ones.
-        seed = seed
-            .wrapping_mul(6364136223846793005)
-            .wrapping_add(1442695040888963407);
+        seed = seed.wrapping_mul(6364136223846793005).wrapping_add(1442695040888963407);
         let number = (seed >> 32) as u32;
         if number.is_multiple_of(3) {
             number
@@ -170,18 +128,9 @@ fn any_numbers() {
         tracker.storage.table.fill_with(&mut next);
         log.storage.entries.fill_with(&mut next);
         log.storage.written = next() as usize;
-        scope
-            .owned()
-            .filter_map(|index| scope.states(index))
-            .map(read)
-            .sum::<usize>();
+        scope.owned().filter_map(|index| scope.states(index)).map(read).sum::<usize>();
         for index in tracker.owned() {
-            tracker
-                .start(index)
-                .into_iter()
-                .chain(tracker.end(index))
-                .map(read)
-                .sum::<usize>();
+            tracker.start(index).into_iter().chain(tracker.end(index)).map(read).sum::<usize>();
         }
         assert!(log.iter().len() <= 1);
         let _ = format!("{log:?}");

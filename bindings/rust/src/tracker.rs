@@ -49,20 +49,9 @@ impl TextureTracker {
     ///
     /// A transition from a state to itself is left out if `ordered` contains the state: the hardware keeps such
     /// uses in order without being told.
-    pub fn open(
-        textures: u32,
-        largest: Extent,
-        flags: UsageFlags,
-        ordered: State,
-    ) -> Result<Self, Refusal> {
+    pub fn open(textures: u32, largest: Extent, flags: UsageFlags, ordered: State) -> Result<Self, Refusal> {
         let mut storage = TrackerStorage::new(textures, largest);
-        passed(sys::open_tracker(
-            &mut storage,
-            textures,
-            largest,
-            flags,
-            ordered,
-        ))?;
+        passed(sys::open_tracker(&mut storage, textures, largest, flags, ordered))?;
         Ok(Self { storage })
     }
 
@@ -70,13 +59,7 @@ impl TextureTracker {
     pub fn clear(&mut self) -> Result<(), Refusal> {
         let (textures, largest) = storage::opened_for(&self.storage.table);
         let (flags, ordered) = (self.flags(), self.ordered());
-        passed(sys::open_tracker(
-            &mut self.storage,
-            textures,
-            largest,
-            flags,
-            ordered,
-        ))
+        passed(sys::open_tracker(&mut self.storage, textures, largest, flags, ordered))
     }
 
     /// Sets one use of the selected part of a texture.
@@ -89,28 +72,14 @@ impl TextureTracker {
         new_state: State,
         log: &mut TransitionLog,
     ) -> Result<(), Refusal> {
-        passed(sys::set_single(
-            &mut self.storage,
-            texture,
-            &selector,
-            new_state,
-            &mut log.storage,
-        ))
+        passed(sys::set_single(&mut self.storage, texture, &selector, new_state, &mut log.storage))
     }
 
     /// Sets every texture that a scope owns: the pass that the scope stands for comes next.
     ///
     /// Refused with 6 to 9, and 15.
-    pub fn set_from_usage_scope(
-        &mut self,
-        scope: &UsageScope,
-        log: &mut TransitionLog,
-    ) -> Result<(), Refusal> {
-        passed(sys::set_from_usage_scope(
-            &mut self.storage,
-            &scope.storage,
-            &mut log.storage,
-        ))
+    pub fn set_from_usage_scope(&mut self, scope: &UsageScope, log: &mut TransitionLog) -> Result<(), Refusal> {
+        passed(sys::set_from_usage_scope(&mut self.storage, &scope.storage, &mut log.storage))
     }
 
     /// Joins the tracker with another, whose passes come next: transitions lead to the other's start, and its end is
@@ -138,16 +107,8 @@ impl TextureTracker {
     /// # Ok(())
     /// # }
     /// ```
-    pub fn set_from_tracker(
-        &mut self,
-        tracker: &TextureTracker,
-        log: &mut TransitionLog,
-    ) -> Result<(), Refusal> {
-        passed(sys::set_from_tracker(
-            &mut self.storage,
-            &tracker.storage,
-            &mut log.storage,
-        ))
+    pub fn set_from_tracker(&mut self, tracker: &TextureTracker, log: &mut TransitionLog) -> Result<(), Refusal> {
+        passed(sys::set_from_tracker(&mut self.storage, &tracker.storage, &mut log.storage))
     }
 
     /// Sets the listed textures of a scope, in the order of the list, and takes them out of the scope. What the scope
@@ -221,9 +182,7 @@ impl TextureTracker {
 
 impl fmt::Debug for TextureTracker {
     fn fmt(&self, f: &mut fmt::Formatter<'_>) -> fmt::Result {
-        let states = self
-            .owned()
-            .map(|index| (index, (self.start(index), self.end(index))));
+        let states = self.owned().map(|index| (index, (self.start(index), self.end(index))));
         f.debug_map().entries(states).finish()
     }
 }

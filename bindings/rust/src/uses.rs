@@ -47,21 +47,12 @@ pub const EXCLUSIVE: State = State(
 
 /// The uses that the hardware keeps in order by itself: those that read, and attachments.
 pub const ORDERED: State = State(
-    COPY_SRC.0
-        | RESOURCE.0
-        | DEPTH_STENCIL_READ.0
-        | STORAGE_READ_ONLY.0
-        | COLOR_TARGET.0
-        | DEPTH_STENCIL_WRITE.0,
+    COPY_SRC.0 | RESOURCE.0 | DEPTH_STENCIL_READ.0 | STORAGE_READ_ONLY.0 | COLOR_TARGET.0 | DEPTH_STENCIL_WRITE.0,
 );
 
 /// What a set is opened with to track wgpu's uses.
-pub const FLAGS: UsageFlags = UsageFlags {
-    exclusive: EXCLUSIVE,
-    uninitialized: UNINITIALIZED,
-    complex: COMPLEX,
-    unknown: UNKNOWN,
-};
+pub const FLAGS: UsageFlags =
+    UsageFlags { exclusive: EXCLUSIVE, uninitialized: UNINITIALIZED, complex: COMPLEX, unknown: UNKNOWN };
 
 /// The names, by bit.
 const NAMES: [(State, &str); 15] = [
@@ -112,14 +103,6 @@ pub fn name(state: State) -> String {
 /// assert_eq!(uses::from_name("COPY"), None);
 /// ```
 pub fn from_name(names: &str) -> Option<State> {
-    let one = |name: &str| {
-        NAMES
-            .iter()
-            .find(|(_, known)| *known == name)
-            .map(|(state, _)| *state)
-    };
-    names
-        .split('|')
-        .map(one)
-        .try_fold(State(0), |all, state| Some(all | state?))
+    let one = |name: &str| NAMES.iter().find(|(_, known)| *known == name).map(|(state, _)| *state);
+    names.split('|').map(one).try_fold(State(0), |all, state| Some(all | state?))
 }

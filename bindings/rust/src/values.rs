@@ -79,10 +79,7 @@ pub struct Extent {
 impl Extent {
     /// All mips and layers: wgpu-core's `full_range`.
     pub const fn full_range(self) -> Selector {
-        Selector {
-            mips: Mip(0)..Mip(self.mips),
-            layers: Layer(0)..Layer(self.layers),
-        }
+        Selector { mips: Mip(0)..Mip(self.mips), layers: Layer(0)..Layer(self.layers) }
     }
 }
 
@@ -115,10 +112,7 @@ pub struct Selector {
 impl Selector {
     /// One subresource.
     pub const fn one(mip: Mip, layer: Layer) -> Self {
-        Self {
-            mips: mip..Mip(mip.0.saturating_add(1)),
-            layers: layer..Layer(layer.0.saturating_add(1)),
-        }
+        Self { mips: mip..Mip(mip.0.saturating_add(1)), layers: layer..Layer(layer.0.saturating_add(1)) }
     }
 
     /// Whether a subresource is among these.

@@ -30,24 +30,10 @@ fn the_rust_answers_the_same() {
         return tell("skipped: there is no python3");
     }
     let mut compare = Command::new("python3");
-    compare
-        .arg(oracle.join("compare"))
-        .args(["--no-build", "--safe", "--room", "786432"]);
+    compare.arg(oracle.join("compare")).args(["--no-build", "--safe", "--room", "786432"]);
     compare.args(["--seed", "cargo test", "--calls", CALLS]);
-    let done = compare
-        .arg("--program")
-        .arg(built::example("oracle"))
-        .output()
-        .unwrap();
+    let done = compare.arg("--program").arg(built::example("oracle")).output().unwrap();
     let said = String::from_utf8_lossy(&done.stdout);
-    assert!(
-        done.status.success(),
-        "{said}{}",
-        String::from_utf8_lossy(&done.stderr)
-    );
-    tell(
-        said.lines()
-            .find(|line| line.starts_with("in all:"))
-            .unwrap_or("no summary"),
-    );
+    assert!(done.status.success(), "{said}{}", String::from_utf8_lossy(&done.stderr));
+    tell(said.lines().find(|line| line.starts_with("in all:")).unwrap_or("no summary"));
 }

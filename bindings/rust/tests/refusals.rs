@@ -10,12 +10,7 @@ use texture_tracker::*;
 const ONE: Extent = Extent { mips: 1, layers: 1 };
 
 /// What a merge is refused with. Nothing that can be read back has changed.
-fn refused(
-    scope: &mut UsageScope,
-    texture: Texture,
-    selector: Option<Selector>,
-    state: u16,
-) -> Refusal {
+fn refused(scope: &mut UsageScope, texture: Texture, selector: Option<Selector>, state: u16) -> Refusal {
     let before = format!("{scope:?}");
     let answer = scope.merge_single(texture, selector, State(state));
     assert_eq!(format!("{scope:?}"), before);
@@ -30,14 +25,8 @@ fn refused_by_both(texture: Texture, selector: Selector, state: u16) -> Refusal 
     let refusal = refused(&mut whole(&[8]), texture, Some(selector.clone()), state);
     let (mut tracker, mut log) = (tracked(&[8]), log());
     let before = format!("{tracker:?}");
-    assert_eq!(
-        tracker.set_single(texture, selector, State(state), &mut log),
-        Err(refusal)
-    );
-    assert_eq!(
-        (format!("{tracker:?}"), log.len(), log.free()),
-        (before, 0, 8)
-    );
+    assert_eq!(tracker.set_single(texture, selector, State(state), &mut log), Err(refusal));
+    assert_eq!((format!("{tracker:?}"), log.len(), log.free()), (before, 0, 8));
     refusal
 }
 
@@ -45,24 +34,11 @@ fn refused_by_both(texture: Texture, selector: Selector, state: u16) -> Refusal 
 fn opening_numbers_1() {
     let extent = |mips, layers| Extent { mips, layers };
     let most = u32::MAX;
-    let sizes = [
-        (0, ONE),
-        (65, ONE),
-        (most, ONE),
-        (1, extent(0, 1)),
-        (1, extent(17, 1)),
-        (1, extent(1, 0)),
-    ];
-    for (n, largest) in sizes
-        .into_iter()
-        .chain([(1, extent(1, 257)), (most, extent(most, most))])
-    {
+    let sizes = [(0, ONE), (65, ONE), (most, ONE), (1, extent(0, 1)), (1, extent(17, 1)), (1, extent(1, 0))];
+    for (n, largest) in sizes.into_iter().chain([(1, extent(1, 257)), (most, extent(most, most))]) {
         let scope = UsageScope::open(n, largest, FLAGS).unwrap_err();
         let tracker = TextureTracker::open(n, largest, FLAGS, MASK).unwrap_err();
-        assert_eq!(
-            (scope, tracker),
-            (Refusal::NumbersOutOfLimits, Refusal::NumbersOutOfLimits)
-        );
+        assert_eq!((scope, tracker), (Refusal::NumbersOutOfLimits, Refusal::NumbersOutOfLimits));
         assert_eq!((scope.number(), scope.index()), (1, None));
     }
 }
@@ -70,36 +46,15 @@ fn opening_numbers_1() {
 #[test]
 fn usage_flags_2() {
     let broken = [
-        UsageFlags {
-            uninitialized: State(0),
-            ..FLAGS
-        },
-        UsageFlags {
-            uninitialized: State(3),
-            ..FLAGS
-        },
-        UsageFlags {
-            complex: State(8192),
-            ..FLAGS
-        },
-        UsageFlags {
-            unknown: State(0),
-            ..FLAGS
-        },
-        UsageFlags {
-            exclusive: State(4096),
-            ..FLAGS
-        },
-        UsageFlags {
-            exclusive: State(u16::MAX),
-            ..FLAGS
-        },
+        UsageFlags { uninitialized: State(0), ..FLAGS },
+        UsageFlags { uninitialized: State(3), ..FLAGS },
+        UsageFlags { complex: State(8192), ..FLAGS },
+        UsageFlags { unknown: State(0), ..FLAGS },
+        UsageFlags { exclusive: State(4096), ..FLAGS },
+        UsageFlags { exclusive: State(u16::MAX), ..FLAGS },
     ];
     for flags in broken {
-        assert_eq!(
-            UsageScope::open(1, EXTENT, flags).unwrap_err(),
-            Refusal::FlagsBreakRule
-        );
+        assert_eq!(UsageScope::open(1, EXTENT, flags).unwrap_err(), Refusal::FlagsBreakRule);
         let refusal = TextureTracker::open(1, EXTENT, flags, MASK).unwrap_err();
         assert_eq!(refusal.number(), 2);
     }
@@ -107,20 +62,14 @@ fn usage_flags_2() {
 
 #[test]
 fn other_flags_6() {
-    let flags = UsageFlags {
-        exclusive: State(4),
-        ..FLAGS
-    };
+    let flags = UsageFlags { exclusive: State(4), ..FLAGS };
     let mut other = UsageScope::open(1, EXTENT, flags).unwrap();
     let other_tracker = TextureTracker::open(1, EXTENT, flags, MASK).unwrap();
     let (mut tracker, mut log) = (tracked(&[8]), log());
     let refusal = Refusal::FlagsDiffer;
     assert_eq!(whole(&[8]).merge_usage_scope(&other), Err(refusal.into()));
     assert_eq!(tracker.set_from_usage_scope(&other, &mut log), Err(refusal));
-    assert_eq!(
-        tracker.set_from_tracker(&other_tracker, &mut log),
-        Err(refusal)
-    );
+    assert_eq!(tracker.set_from_tracker(&other_tracker, &mut log), Err(refusal));
     let answer = tracker.set_and_remove_from_usage_scope_sparse(&mut other, &[], &mut log);
     assert_eq!(answer, Err(refusal));
     assert_eq!(refusal.number(), 6);
@@ -131,10 +80,7 @@ fn index_7() {
     for index in [1, 64, u32::MAX] {
         let refusal = refused_by_both(texture(index, EXTENT), EXTENT.full_range(), 8);
         assert_eq!(refusal, Refusal::NoSuchIndex(TrackerIndex(index)));
-        assert_eq!(
-            (refusal.number(), refusal.index()),
-            (7, Some(TrackerIndex(index)))
-        );
+        assert_eq!((refusal.number(), refusal.index()), (7, Some(TrackerIndex(index))));
     }
 }
 
@@ -151,35 +97,18 @@ fn extent_8() {
 #[test]
 fn another_extent_9() {
     let refusal = refused_by_both(texture(0, ONE), ONE.full_range(), 8);
-    assert_eq!(
-        (refusal, refusal.number()),
-        (Refusal::ExtentDiffers(TrackerIndex(0)), 9)
-    );
+    assert_eq!((refusal, refusal.number()), (Refusal::ExtentDiffers(TrackerIndex(0)), 9));
 }
 
 #[test]
 fn selector_10_and_11() {
-    for (mips, layers) in [
-        (0..1, 2..2),
-        (1..1, 0..4),
-        (1..0, 0..4),
-        (0..1, 3..1),
-        (5..5, 0..9),
-    ] {
+    for (mips, layers) in [(0..1, 2..2), (1..1, 0..4), (1..0, 0..4), (0..1, 3..1), (5..5, 0..9)] {
         let refusal = refused_by_both(TEXTURE, selector(mips, layers), 8);
         assert_eq!((refusal, refusal.number()), (Refusal::SelectorEmpty, 10));
     }
-    for (mips, layers) in [
-        (0..1, 0..5),
-        (0..3, 0..4),
-        (2..3, 0..4),
-        (0..u32::MAX, 0..u32::MAX),
-    ] {
+    for (mips, layers) in [(0..1, 0..5), (0..3, 0..4), (2..3, 0..4), (0..u32::MAX, 0..u32::MAX)] {
         let refusal = refused_by_both(TEXTURE, selector(mips, layers), 8);
-        assert_eq!(
-            (refusal, refusal.number()),
-            (Refusal::SelectorPastExtent, 11)
-        );
+        assert_eq!((refusal, refusal.number()), (Refusal::SelectorPastExtent, 11));
     }
     let last = Selector::one(Mip(u32::MAX), Layer(u32::MAX));
     assert_eq!(refused_by_both(TEXTURE, last, 8), Refusal::SelectorEmpty);
@@ -194,10 +123,7 @@ fn state_12_and_13() {
     }
     for state in [24, 20, 5] {
         let refusal = refused_by_both(TEXTURE, part(), state);
-        assert_eq!(
-            (refusal, refusal.number()),
-            (Refusal::StateIncompatible, 13)
-        );
+        assert_eq!((refusal, refusal.number()), (Refusal::StateIncompatible, 13));
     }
 }
 
@@ -205,24 +131,9 @@ fn state_12_and_13() {
 fn whole_sets_7_8_9() {
     let larger = Extent { mips: 3, layers: 4 };
     let cases = [
-        (
-            2,
-            EXTENT,
-            texture(1, EXTENT),
-            Refusal::NoSuchIndex(TrackerIndex(1)),
-        ),
-        (
-            1,
-            larger,
-            texture(0, larger),
-            Refusal::ExtentOutOfLimits(TrackerIndex(0)),
-        ),
-        (
-            1,
-            EXTENT,
-            texture(0, ONE),
-            Refusal::ExtentDiffers(TrackerIndex(0)),
-        ),
+        (2, EXTENT, texture(1, EXTENT), Refusal::NoSuchIndex(TrackerIndex(1))),
+        (1, larger, texture(0, larger), Refusal::ExtentOutOfLimits(TrackerIndex(0))),
+        (1, EXTENT, texture(0, ONE), Refusal::ExtentDiffers(TrackerIndex(0))),
     ];
     for (n, largest, texture, refusal) in cases {
         let mut given = UsageScope::open(n, largest, FLAGS).unwrap();
@@ -246,10 +157,7 @@ fn a_listed_index_that_the_scope_lacks_7() {
     let (mut given, mut tracker, mut log) = (whole(&[8]), tracker(), log());
     let answer = tracker.set_and_remove_from_usage_scope_sparse(&mut given, &list, &mut log);
     assert_eq!(answer, Err(Refusal::NoSuchIndex(TrackerIndex(1))));
-    assert_eq!(
-        (of_scope(&given), tracker.owned().next()),
-        ("8".to_string(), None)
-    );
+    assert_eq!((of_scope(&given), tracker.owned().next()), ("8".to_string(), None));
 }
 
 /// The last free entry is used, and one more is 15.
@@ -259,30 +167,15 @@ fn no_free_entry_15() {
     let mut log = TransitionLog::with_capacity(1);
     let mut none = TransitionLog::with_capacity(0);
     let refusal = Refusal::NoFreeEntry;
-    assert_eq!(
-        tracker.set_single(TEXTURE, part(), State(8), &mut none),
-        Err(refusal)
-    );
-    assert_eq!(
-        tracker.set_from_usage_scope(&whole(&[8]), &mut none),
-        Err(refusal)
-    );
-    assert_eq!(
-        tracker.set_from_tracker(&tracked(&[8]), &mut none),
-        Err(refusal)
-    );
+    assert_eq!(tracker.set_single(TEXTURE, part(), State(8), &mut none), Err(refusal));
+    assert_eq!(tracker.set_from_usage_scope(&whole(&[8]), &mut none), Err(refusal));
+    assert_eq!(tracker.set_from_tracker(&tracked(&[8]), &mut none), Err(refusal));
     let (mut given, list) = (whole(&[8]), [TrackerIndex(0)]);
     let sparse = tracker.set_and_remove_from_usage_scope_sparse(&mut given, &list, &mut none);
     assert_eq!((sparse, of_scope(&given)), (Err(refusal), "8".to_string()));
     assert_eq!(of_tracker(&tracker), ("4".to_string(), "4".to_string()));
-    assert_eq!(
-        tracker.set_single(TEXTURE, part(), State(8), &mut log),
-        Ok(())
-    );
-    assert_eq!(
-        tracker.set_single(TEXTURE, part(), State(4), &mut log),
-        Err(refusal)
-    );
+    assert_eq!(tracker.set_single(TEXTURE, part(), State(8), &mut log), Ok(()));
+    assert_eq!(tracker.set_single(TEXTURE, part(), State(4), &mut log), Err(refusal));
     assert_eq!((refusal.number(), log.len(), log.free()), (15, 1, 0));
 }
 
@@ -291,34 +184,20 @@ fn no_free_entry_15() {
 fn a_log_with_room_is_never_short() {
     let (mut tracker, mut log) = (tracked(&[4]), log());
     for (mip, layer) in (0..8).map(|at| (Mip(at / 4), Layer(at % 4))) {
-        let state = if (mip.0 + layer.0) % 2 == 0 {
-            State(2)
-        } else {
-            State(8)
-        };
+        let state = if (mip.0 + layer.0) % 2 == 0 { State(2) } else { State(8) };
         log.clear().unwrap();
-        tracker
-            .set_single(TEXTURE, Selector::one(mip, layer), state, &mut log)
-            .unwrap();
+        tracker.set_single(TEXTURE, Selector::one(mip, layer), state, &mut log).unwrap();
     }
     log.clear().unwrap();
-    tracker
-        .set_single(TEXTURE, EXTENT.full_range(), State(4), &mut log)
-        .unwrap();
+    tracker.set_single(TEXTURE, EXTENT.full_range(), State(4), &mut log).unwrap();
     assert_eq!((log.len(), log.free()), (8, 0));
 }
 
 #[test]
 fn the_words() {
     let words = Refusal::ExtentDiffers(TrackerIndex(3)).to_string();
-    assert_eq!(
-        words,
-        "texture 3: the set holds it with another extent (refusal 9)"
-    );
+    assert_eq!(words, "texture 3: the set holds it with another extent (refusal 9)");
     let error: Box<dyn std::error::Error> = Box::new(MergeError::from(Refusal::SelectorEmpty));
-    assert_eq!(
-        error.to_string(),
-        "the selector has no mips or no layers (refusal 10)"
-    );
+    assert_eq!(error.to_string(), "the selector has no mips or no layers (refusal 10)");
     assert!(error.source().is_some());
 }

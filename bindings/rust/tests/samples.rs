@@ -59,9 +59,7 @@ fn b8_unknown_conflicts_with_an_exclusive_whole_state() {
 #[test]
 fn b9_part_of_a_whole_texture_moves() {
     let (mut tracker, mut log) = (tracked(&[4]), log());
-    tracker
-        .set_single(TEXTURE, part(), State(8), &mut log)
-        .unwrap();
+    tracker.set_single(TEXTURE, part(), State(8), &mut log).unwrap();
     assert_eq!(log.iter().collect::<Vec<_>>(), [transition(part(), 4, 8)]);
     let end = "0..1 4, 1..3 8, 3..4 4; 0..4 4".to_string();
     assert_eq!(of_tracker(&tracker), ("4".to_string(), end));
@@ -71,9 +69,7 @@ fn b9_part_of_a_whole_texture_moves() {
 fn b10_equal_states_are_skipped_only_if_ordered() {
     for (state, entries) in [(4, 1), (8, 0)] {
         let (mut tracker, mut log) = (tracked(&[state]), log());
-        tracker
-            .set_single(TEXTURE, EXTENT.full_range(), State(state), &mut log)
-            .unwrap();
+        tracker.set_single(TEXTURE, EXTENT.full_range(), State(state), &mut log).unwrap();
         let expected = vec![transition(EXTENT.full_range(), state, state); entries];
         assert_eq!(log.iter().collect::<Vec<_>>(), expected);
     }
@@ -82,13 +78,9 @@ fn b10_equal_states_are_skipped_only_if_ordered() {
 #[test]
 fn b11_the_start_learns_where_nothing_was_known() {
     let (mut tracker, mut log) = (tracker(), log());
-    tracker
-        .set_single(TEXTURE, part(), State(8), &mut log)
-        .unwrap();
+    tracker.set_single(TEXTURE, part(), State(8), &mut log).unwrap();
     assert!(log.is_empty());
-    tracker
-        .set_single(TEXTURE, EXTENT.full_range(), State(4), &mut log)
-        .unwrap();
+    tracker.set_single(TEXTURE, EXTENT.full_range(), State(4), &mut log).unwrap();
     assert_eq!(log.iter().collect::<Vec<_>>(), [transition(part(), 8, 4)]);
     let start = "0..1 4, 1..3 8, 3..4 4; 0..4 4".to_string();
     assert_eq!(of_tracker(&tracker), (start, "4".to_string()));
@@ -100,28 +92,14 @@ fn b12_a_join_goes_to_the_other_start_and_takes_its_end() {
     one.set_from_usage_scope(&parted(8), &mut log).unwrap();
     one.set_from_tracker(&tracked(&[2, 8]), &mut log).unwrap();
     assert_eq!(log.iter().collect::<Vec<_>>(), [transition(part(), 8, 2)]);
-    assert_eq!(
-        of_tracker(&one),
-        ("0..4 8; 0..4 8".to_string(), "8".to_string())
-    );
+    assert_eq!(of_tracker(&one), ("0..4 8; 0..4 8".to_string(), "8".to_string()));
 }
 
 #[test]
 fn edges_that_pass() {
-    assert!(UsageScope::open(
-        64,
-        Extent {
-            mips: 16,
-            layers: 256
-        },
-        FLAGS
-    )
-    .is_ok());
+    assert!(UsageScope::open(64, Extent { mips: 16, layers: 256 }, FLAGS).is_ok());
     let mut scope = scope();
-    assert_eq!(
-        scope.merge_single(TEXTURE, Some(selector(0..1, 2..4)), State(16)),
-        Ok(())
-    );
+    assert_eq!(scope.merge_single(TEXTURE, Some(selector(0..1, 2..4)), State(16)), Ok(()));
     assert_eq!(of_scope(&scope), "0..2 U, 2..4 16; 0..4 U");
 }
 
@@ -132,27 +110,15 @@ fn a_sparse_call_takes_the_listed_textures_out_of_the_scope() {
     let mut tracker = TextureTracker::open(3, one, FLAGS, MASK).unwrap();
     let mut log = TransitionLog::with_room_for(3, one);
     for index in [0, 2] {
-        scope
-            .merge_single(texture(index, one), None, State(8))
-            .unwrap();
-        tracker
-            .set_single(texture(index, one), one.full_range(), State(2), &mut log)
-            .unwrap();
+        scope.merge_single(texture(index, one), None, State(8)).unwrap();
+        tracker.set_single(texture(index, one), one.full_range(), State(2), &mut log).unwrap();
     }
     let list = [2, 1, 0, 2].map(TrackerIndex);
-    tracker
-        .set_and_remove_from_usage_scope_sparse(&mut scope, &list[..2], &mut log)
-        .unwrap();
+    tracker.set_and_remove_from_usage_scope_sparse(&mut scope, &list[..2], &mut log).unwrap();
     assert_eq!(scope.owned().collect::<Vec<_>>(), [TrackerIndex(0)]);
-    tracker
-        .set_and_remove_from_usage_scope_sparse(&mut scope, &list, &mut log)
-        .unwrap();
+    tracker.set_and_remove_from_usage_scope_sparse(&mut scope, &list, &mut log).unwrap();
     assert_eq!(scope.owned().next(), None);
-    let moved: Vec<_> = log
-        .drain_transitions()
-        .unwrap()
-        .map(|each| each.index.0)
-        .collect();
+    let moved: Vec<_> = log.drain_transitions().unwrap().map(|each| each.index.0).collect();
     assert_eq!(moved, [2, 0]);
     assert_eq!((log.len(), log.free()), (0, 3));
 }
@@ -161,10 +127,7 @@ fn a_sparse_call_takes_the_listed_textures_out_of_the_scope() {
 fn clearing_opens_again() {
     let mut scope = parted(8);
     scope.clear().unwrap();
-    assert_eq!(
-        (of_scope(&scope), scope.flags()),
-        ("unowned".to_string(), FLAGS)
-    );
+    assert_eq!((of_scope(&scope), scope.flags()), ("unowned".to_string(), FLAGS));
     let mut tracker = tracked(&[8]);
     tracker.clear().unwrap();
     assert_eq!((tracker.owned().next(), tracker.ordered()), (None, MASK));

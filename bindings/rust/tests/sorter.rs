@@ -8,10 +8,7 @@ fn here(path: &str) -> PathBuf {
 
 /// Status, standard output and standard error of the demonstration on a file.
 fn sorter(frame: &PathBuf) -> (Option<i32>, String, String) {
-    let done = Command::new(built::example("sorter"))
-        .arg(frame)
-        .output()
-        .unwrap();
+    let done = Command::new(built::example("sorter")).arg(frame).output().unwrap();
     let text = |bytes| String::from_utf8(bytes).unwrap();
     (done.status.code(), text(done.stdout), text(done.stderr))
 }
@@ -36,139 +33,41 @@ fn its_own_frame() {
 
 /// Each with the number of its bad line, and what is said of it.
 const BAD: [(&str, usize, &str); 27] = [
-    (
-        "textures beans",
-        1,
-        "\"textures\" is none of: texture, pass, use, late",
-    ),
-    (
-        "texture beans 4 8",
-        1,
-        "a texture is written: texture NAME mips M layers W",
-    ),
-    (
-        "texture beans mips four layers 8",
-        1,
-        "\"four\" is not a number",
-    ),
-    (
-        "texture beans mips -1 layers 8",
-        1,
-        "\"-1\" is not a number",
-    ),
-    (
-        "texture beans mips 17 layers 8",
-        1,
-        "a set has 1 to 64 textures, 1 to 16 mips and 1 to 256 layers (refusal 1)",
-    ),
-    (
-        "texture a mips 1 layers 1\n\ntexture a mips 1 layers 1",
-        3,
-        "there is a texture a already",
-    ),
-    (
-        "texture a mips 1 layers 1\npass p\ntexture b mips 1 layers 1",
-        3,
-        "textures come before the first pass",
-    ),
+    ("textures beans", 1, "\"textures\" is none of: texture, pass, use, late"),
+    ("texture beans 4 8", 1, "a texture is written: texture NAME mips M layers W"),
+    ("texture beans mips four layers 8", 1, "\"four\" is not a number"),
+    ("texture beans mips -1 layers 8", 1, "\"-1\" is not a number"),
+    ("texture beans mips 17 layers 8", 1, "a set has 1 to 64 textures, 1 to 16 mips and 1 to 256 layers (refusal 1)"),
+    ("texture a mips 1 layers 1\n\ntexture a mips 1 layers 1", 3, "there is a texture a already"),
+    ("texture a mips 1 layers 1\npass p\ntexture b mips 1 layers 1", 3, "textures come before the first pass"),
     ("pass", 1, "a pass is written: pass NAME"),
-    (
-        "# a comment\npass one two",
-        2,
-        "a pass is written: pass NAME",
-    ),
-    (
-        "pass one\npass one   # again",
-        2,
-        "there is a pass one already",
-    ),
+    ("# a comment\npass one two", 2, "a pass is written: pass NAME"),
+    ("pass one\npass one   # again", 2, "there is a pass one already"),
     ("use", 1, "a use is written: use TEXTURE PART STATE"),
     ("use beans RESOURCE", 1, "there is no texture beans"),
-    (
-        "texture a mips 1 layers 1\nuse a RESOURCE",
-        2,
-        "a use comes after the pass that makes it",
-    ),
-    (
-        "use a",
-        3,
-        "write the use: PART, then STATE, then, if it has a name, as NAME",
-    ),
-    (
-        "use a layer 0 mip 0 RESOURCE",
-        3,
-        "write the use: PART, then STATE, then, if it has a name, as NAME",
-    ),
-    (
-        "use a mips 0 RESOURCE",
-        3,
-        "write: mip NUMBER, or mips NUMBER to NUMBER",
-    ),
+    ("texture a mips 1 layers 1\nuse a RESOURCE", 2, "a use comes after the pass that makes it"),
+    ("use a", 3, "write the use: PART, then STATE, then, if it has a name, as NAME"),
+    ("use a layer 0 mip 0 RESOURCE", 3, "write the use: PART, then STATE, then, if it has a name, as NAME"),
+    ("use a mips 0 RESOURCE", 3, "write: mip NUMBER, or mips NUMBER to NUMBER"),
     ("use a layer x RESOURCE", 3, "\"x\" is not a number"),
-    (
-        "use a mips 1 to 0 RESOURCE",
-        3,
-        "the selector has no mips or no layers (refusal 10)",
-    ),
-    (
-        "use a layer 4 RESOURCE",
-        3,
-        "the selector ends past the texture's extent (refusal 11)",
-    ),
-    (
-        "use a layer 4294967295 RESOURCE",
-        3,
-        "the selector has no mips or no layers (refusal 10)",
-    ),
+    ("use a mips 1 to 0 RESOURCE", 3, "the selector has no mips or no layers (refusal 10)"),
+    ("use a layer 4 RESOURCE", 3, "the selector ends past the texture's extent (refusal 11)"),
+    ("use a layer 4294967295 RESOURCE", 3, "the selector has no mips or no layers (refusal 10)"),
     ("use a READ", 3, "READ is not a use that wgpu knows"),
-    (
-        "use a UNKNOWN",
-        3,
-        "the state is zero, or has unknown or complex in it (refusal 12)",
-    ),
-    (
-        "use a COPY_DST|RESOURCE",
-        3,
-        "the state has an exclusive use beside another use (refusal 13)",
-    ),
-    (
-        "use a RESOURCE as x\nuse a RESOURCE as x",
-        4,
-        "there is a use named x already",
-    ),
-    (
-        "use a RESOURCE as x\nlate y p",
-        4,
-        "there is no use named y",
-    ),
+    ("use a UNKNOWN", 3, "the state is zero, or has unknown or complex in it (refusal 12)"),
+    ("use a COPY_DST|RESOURCE", 3, "the state has an exclusive use beside another use (refusal 13)"),
+    ("use a RESOURCE as x\nuse a RESOURCE as x", 4, "there is a use named x already"),
+    ("use a RESOURCE as x\nlate y p", 4, "there is no use named y"),
     ("use a RESOURCE as x\nlate x q", 4, "there is no pass q"),
-    (
-        "use a RESOURCE as x\nlate x",
-        4,
-        "a late use is written: late NAME PASS",
-    ),
+    ("use a RESOURCE as x\nlate x", 4, "a late use is written: late NAME PASS"),
 ];
 
 #[test]
 fn bad_lines() {
     for (at, (text, number, what)) in BAD.into_iter().enumerate() {
         let within = text.starts_with("use a") && number > 2;
-        let text = format!(
-            "{}{text}\n",
-            if within {
-                "texture a mips 2 layers 4\npass p\n"
-            } else {
-                ""
-            }
-        );
-        let line = text
-            .lines()
-            .nth(number - 1)
-            .unwrap()
-            .split('#')
-            .next()
-            .unwrap()
-            .trim();
+        let text = format!("{}{text}\n", if within { "texture a mips 2 layers 4\npass p\n" } else { "" });
+        let line = text.lines().nth(number - 1).unwrap().split('#').next().unwrap().trim();
         let name = format!("bad-{at}.frame");
         let (status, shown, errors) = shown(&name, &text);
         assert_eq!((status, shown.as_str()), (Some(2), ""), "{text}");
@@ -184,10 +83,7 @@ fn bad_files() {
     assert!(errors.contains("no such file, No such file"), "{errors}");
     let (status, _, errors) = shown("empty.frame", "# nothing\n");
     assert_eq!(status, Some(2));
-    assert!(
-        errors.ends_with("empty.frame, the frame has no texture\n"),
-        "{errors}"
-    );
+    assert!(errors.ends_with("empty.frame, the frame has no texture\n"), "{errors}");
 }
 
 /// A conflict in the frame itself is status 1.
@@ -196,10 +92,7 @@ fn a_conflict_as_written() {
     let frame = "texture a mips 1 layers 2\npass p\nuse a RESOURCE\nuse a layer 1 COPY_DST\n";
     let (status, shown, errors) = shown("conflict.frame", frame);
     assert_eq!((status, errors.as_str()), (Some(1), ""));
-    assert!(
-        shown.contains("CONFLICT in a, mip 0, layer 1: RESOURCE and COPY_DST at the same time"),
-        "{shown}"
-    );
+    assert!(shown.contains("CONFLICT in a, mip 0, layer 1: RESOURCE and COPY_DST at the same time"), "{shown}");
 }
 
 /// A late use that harms nobody, many mips, and many layers.
@@ -210,8 +103,5 @@ fn wide_and_long() {
     assert_eq!(status, Some(0));
     assert!(shown.contains("\n  layers 100 to 255"), "{shown}");
     assert!(shown.contains("No conflict"), "{shown}");
-    assert!(
-        shown.lines().all(|line| line.chars().count() <= 100),
-        "{shown}"
-    );
+    assert!(shown.lines().all(|line| line.chars().count() <= 100), "{shown}");
 }

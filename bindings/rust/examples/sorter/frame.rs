@@ -50,28 +50,18 @@ type Told<T> = Result<T, String>;
 /// How many textures a frame has, and an extent that none of them exceeds: what sets are opened with.
 pub fn size(textures: &[(String, Texture)]) -> (u32, Extent) {
     let most = |of: fn(Extent) -> u32| textures.iter().map(|(_, texture)| of(texture.extent)).max();
-    let largest = Extent {
-        mips: most(|extent| extent.mips).unwrap_or(0),
-        layers: most(|extent| extent.layers).unwrap_or(0),
-    };
+    let largest =
+        Extent { mips: most(|extent| extent.mips).unwrap_or(0), layers: most(|extent| extent.layers).unwrap_or(0) };
     (textures.len() as u32, largest)
 }
 
 impl Frame {
     pub fn read(text: &str) -> Result<Self, BadLine> {
-        let mut frame = Self {
-            textures: vec![],
-            passes: vec![],
-            late: vec![],
-        };
+        let mut frame = Self { textures: vec![], passes: vec![], late: vec![] };
         for (at, line) in text.lines().enumerate() {
             let said = line.split('#').next().unwrap_or_default();
             let words: Vec<&str> = said.split_whitespace().collect();
-            frame.line(&words).map_err(|what| BadLine {
-                number: at + 1,
-                line: said.trim().to_string(),
-                what,
-            })?;
+            frame.line(&words).map_err(|what| BadLine { number: at + 1, line: said.trim().to_string(), what })?;
         }
         Ok(frame)
     }
@@ -80,9 +70,7 @@ impl Frame {
         match words {
             [] => Ok(()),
             ["texture", name, "mips", mips, "layers", layers] => self.texture(name, mips, layers),
-            ["texture", ..] => {
-                Err("a texture is written: texture NAME mips M layers W".to_string())
-            }
+            ["texture", ..] => Err("a texture is written: texture NAME mips M layers W".to_string()),
             ["pass", name] => self.pass(name),
             ["pass", ..] => Err("a pass is written: pass NAME".to_string()),
             ["use", name, rest @ ..] => self.use_of(name, rest),
@@ -100,15 +88,10 @@ impl Frame {
         if self.textures.iter().any(|(known, _)| known == name) {
             return Err(format!("there is a texture {name} already"));
         }
-        let extent = Extent {
-            mips: number(mips)?,
-            layers: number(layers)?,
-        };
+        let extent = Extent { mips: number(mips)?, layers: number(layers)? };
         let index = TrackerIndex(self.textures.len() as u32);
-        UsageScope::open(index.0 + 1, extent, uses::FLAGS)
-            .map_err(|refusal| refusal.to_string())?;
-        self.textures
-            .push((name.to_string(), Texture { index, extent }));
+        UsageScope::open(index.0 + 1, extent, uses::FLAGS).map_err(|refusal| refusal.to_string())?;
+        self.textures.push((name.to_string(), Texture { index, extent }));
         Ok(())
     }
 
@@ -116,32 +99,19 @@ impl Frame {
         if self.passes.iter().any(|pass| pass.name == name) {
             return Err(format!("there is a pass {name} already"));
         }
-        self.passes.push(Pass {
-            name: name.to_string(),
-            uses: vec![],
-        });
+        self.passes.push(Pass { name: name.to_string(), uses: vec![] });
         Ok(())
     }
 
     fn use_of(&mut self, name: &str, rest: &[&str]) -> Told<()> {
         let named = |(known, _): &&(String, Texture)| known == name;
-        let (_, texture) = self
-            .textures
-            .iter()
-            .find(named)
-            .ok_or(format!("there is no texture {name}"))?;
+        let (_, texture) = self.textures.iter().find(named).ok_or(format!("there is no texture {name}"))?;
         let made = read_use(*texture, rest)?;
         if made.name.is_some() && self.uses().any(|known| known.name == made.name) {
-            return Err(format!(
-                "there is a use named {} already",
-                made.name.unwrap_or_default()
-            ));
+            return Err(format!("there is a use named {} already", made.name.unwrap_or_default()));
         }
         self.try_alone(&made)?;
-        let pass = self
-            .passes
-            .last_mut()
-            .ok_or("a use comes after the pass that makes it")?;
+        let pass = self.passes.last_mut().ok_or("a use comes after the pass that makes it")?;
         pass.uses.push(made);
         Ok(())
     }
@@ -161,10 +131,7 @@ impl Frame {
         }
         let position = self.passes.iter().position(|known| known.name == pass);
         let pass = position.ok_or(format!("there is no pass {pass}"))?;
-        self.late.push(Late {
-            name: name.to_string(),
-            pass,
-        });
+        self.late.push(Late { name: name.to_string(), pass });
         Ok(())
     }
 
@@ -177,10 +144,7 @@ impl Frame {
         let mut passes = self.passes.clone();
         for late in &self.late {
             let is_late = |made: &mut Use| made.name.as_ref() == Some(&late.name);
-            let taken: Vec<Use> = passes
-                .iter_mut()
-                .flat_map(|pass| pass.uses.extract_if(.., is_late))
-                .collect();
+            let taken: Vec<Use> = passes.iter_mut().flat_map(|pass| pass.uses.extract_if(.., is_late)).collect();
             passes[late.pass].uses.extend(taken);
         }
         passes
@@ -188,16 +152,11 @@ impl Frame {
 }
 
 fn number(word: &str) -> Told<u32> {
-    word.parse()
-        .map_err(|_| format!("\"{word}\" is not a number"))
+    word.parse().map_err(|_| format!("\"{word}\" is not a number"))
 }
 
 /// Takes mips or layers off the words, if they are there.
-fn span<'a>(
-    words: &'a [&'a str],
-    one: &str,
-    many: &str,
-) -> Told<(Option<Range<u32>>, &'a [&'a str])> {
+fn span<'a>(words: &'a [&'a str], one: &str, many: &str) -> Told<(Option<Range<u32>>, &'a [&'a str])> {
     match words {
         [word, first, "to", last, rest @ ..] if *word == many => {
             Ok((Some(number(first)?..number(last)?.saturating_add(1)), rest))
@@ -206,9 +165,7 @@ fn span<'a>(
             let at = number(at)?;
             Ok((Some(at..at.saturating_add(1)), rest))
         }
-        [word, ..] if *word == one || *word == many => {
-            Err(format!("write: {one} NUMBER, or {many} NUMBER to NUMBER"))
-        }
+        [word, ..] if *word == one || *word == many => Err(format!("write: {one} NUMBER, or {many} NUMBER to NUMBER")),
         _ => Ok((None, words)),
     }
 }
@@ -219,11 +176,7 @@ fn read_use(texture: Texture, words: &[&str]) -> Told<Use> {
     let (state, name) = match words {
         [state] => (state, None),
         [state, "as", name] => (state, Some(name.to_string())),
-        _ => {
-            return Err(
-                "write the use: PART, then STATE, then, if it has a name, as NAME".to_string(),
-            )
-        }
+        _ => return Err("write the use: PART, then STATE, then, if it has a name, as NAME".to_string()),
     };
     Ok(Use {
         texture,
@@ -234,18 +187,11 @@ fn read_use(texture: Texture, words: &[&str]) -> Told<Use> {
 }
 
 /// None for all of the texture.
-fn selector(
-    extent: Extent,
-    mips: Option<Range<u32>>,
-    layers: Option<Range<u32>>,
-) -> Option<Selector> {
+fn selector(extent: Extent, mips: Option<Range<u32>>, layers: Option<Range<u32>>) -> Option<Selector> {
     if mips.is_none() && layers.is_none() {
         return None;
     }
     let mips = mips.unwrap_or(0..extent.mips);
     let layers = layers.unwrap_or(0..extent.layers);
-    Some(Selector {
-        mips: Mip(mips.start)..Mip(mips.end),
-        layers: Layer(layers.start)..Layer(layers.end),
-    })
+    Some(Selector { mips: Mip(mips.start)..Mip(mips.end), layers: Layer(layers.start)..Layer(layers.end) })
 }

@@ -20,13 +20,9 @@ use texture_tracker::{uses, Refusal};
 
 fn main() -> ExitCode {
     let given = env::args_os().nth(1).map(PathBuf::from);
-    let path =
-        given.unwrap_or(Path::new(env!("CARGO_MANIFEST_DIR")).join("examples/sorter/demo.frame"));
+    let path = given.unwrap_or(Path::new(env!("CARGO_MANIFEST_DIR")).join("examples/sorter/demo.frame"));
     let colours = io::stdout().is_terminal() && env::var_os("NO_COLOR").is_none();
-    let mut page = Page {
-        text: String::new(),
-        colours,
-    };
+    let mut page = Page { text: String::new(), colours };
     match demonstrate(&path, &mut page) {
         Ok(passes) => {
             // A reader that went away is no fault of the frame.
@@ -54,11 +50,11 @@ fn tell(frame: &Frame, page: &mut Page) -> Result<bool, Refusal> {
     let mut run = Run::new(frame)?;
     let (textures, passes) = (frame.textures.len(), frame.passes.len());
     page.heading("A frame of an optical coffee sorter");
+    page.line(Ink::Plain, &format!("\n  textures: {textures}   passes: {passes}"));
     page.line(
         Ink::Plain,
-        &format!("\n  textures: {textures}   passes: {passes}"),
+        "  A texture is shown with a row for each layer and a column for each mip: the use that each is in.",
     );
-    page.line(Ink::Plain, "  A texture is shown with a row for each layer and a column for each mip: the use that each is in.");
     page.heading("Before the frame");
     run.show(page);
     page.heading("The passes, and what the driver is told before each of them");
@@ -83,32 +79,16 @@ fn tell_late(frame: &Frame, page: &mut Page) -> Result<(), Refusal> {
     }
     let mut run = Run::new(frame)?;
     if run.passes(page, &frame.with_late())? {
-        page.line(
-            Ink::Plain,
-            "\n  No conflict: the frame may run like this, too.",
-        );
+        page.line(Ink::Plain, "\n  No conflict: the frame may run like this, too.");
     }
     Ok(())
 }
 
 fn explain(frame: &Frame, late: &Late) -> String {
-    let named = |pass: &&Pass| {
-        pass.uses
-            .iter()
-            .any(|made| made.name.as_ref() == Some(&late.name))
-    };
-    let home = frame
-        .passes
-        .iter()
-        .find(named)
-        .map_or("?", |pass| &pass.name);
-    let state = frame
-        .uses()
-        .find(|made| made.name.as_ref() == Some(&late.name))
-        .map(|made| made.state);
+    let named = |pass: &&Pass| pass.uses.iter().any(|made| made.name.as_ref() == Some(&late.name));
+    let home = frame.passes.iter().find(named).map_or("?", |pass| &pass.name);
+    let state = frame.uses().find(|made| made.name.as_ref() == Some(&late.name)).map(|made| made.state);
     let state = state.map(uses::name).unwrap_or_default();
     let (name, other) = (&late.name, &frame.passes[late.pass].name);
-    format!(
-        "  {name}, which is {state}, is left out of pass {home} and still goes on in pass {other}."
-    )
+    format!("  {name}, which is {state}, is left out of pass {home} and still goes on in pass {other}.")
 }

@@ -25,19 +25,14 @@ impl<'a> Run<'a> {
         };
         for &(_, texture) in &frame.textures {
             let all = texture.extent.full_range();
-            run.tracker
-                .set_single(texture, all, uses::UNINITIALIZED, &mut run.log)?;
+            run.tracker.set_single(texture, all, uses::UNINITIALIZED, &mut run.log)?;
         }
         Ok(run)
     }
 
     /// What the tracker holds now.
     pub fn show(&self, page: &mut Page) {
-        for states in self
-            .tracker
-            .owned()
-            .filter_map(|index| self.tracker.end(index))
-        {
+        for states in self.tracker.owned().filter_map(|index| self.tracker.end(index)) {
             show::grid(page, self.frame, states, None);
         }
     }
@@ -69,15 +64,8 @@ impl<'a> Run<'a> {
     /// All uses of a pass, in one scope.
     fn merge(&mut self, made: &[Use]) -> Result<(), MergeError> {
         self.scope.clear()?;
-        for Use {
-            texture,
-            selector,
-            state,
-            ..
-        } in made
-        {
-            self.scope
-                .merge_single(*texture, selector.clone(), *state)?;
+        for Use { texture, selector, state, .. } in made {
+            self.scope.merge_single(*texture, selector.clone(), *state)?;
         }
         Ok(())
     }
@@ -85,8 +73,7 @@ impl<'a> Run<'a> {
     /// The pass comes next: tells what the driver is told before it.
     fn advance(&mut self, page: &mut Page, title: &str) -> Result<(), Refusal> {
         self.log.clear()?;
-        self.tracker
-            .set_from_usage_scope(&self.scope, &mut self.log)?;
+        self.tracker.set_from_usage_scope(&self.scope, &mut self.log)?;
         let mut title = title;
         for transition in self.log.drain_transitions()? {
             let line = self.frame.transition(&transition);
@@ -103,30 +90,13 @@ impl<'a> Run<'a> {
 
     fn tell_conflict(&self, page: &mut Page, title: &str, pass: &str, conflict: &Conflict) {
         let texture = show::texture_name(self.frame, conflict.index);
-        let (mips, layers) = (
-            show::mips(&conflict.selector),
-            show::layers(&conflict.selector),
-        );
-        let (current, new) = (
-            uses::name(conflict.current_state),
-            uses::name(conflict.new_state),
-        );
+        let (mips, layers) = (show::mips(&conflict.selector), show::layers(&conflict.selector));
+        let (current, new) = (uses::name(conflict.current_state), uses::name(conflict.new_state));
         self.frame.begin(page, title);
-        page.line(
-            Ink::Red,
-            &format!(
-                "CONFLICT in {texture}, {mips}, {layers}: {current} and {new} at the same time"
-            ),
-        );
-        page.line(
-            Ink::Plain,
-            &format!("\n  What pass {pass} holds, and what cannot be merged into it:"),
-        );
+        page.line(Ink::Red, &format!("CONFLICT in {texture}, {mips}, {layers}: {current} and {new} at the same time"));
+        page.line(Ink::Plain, &format!("\n  What pass {pass} holds, and what cannot be merged into it:"));
         self.show_scope(page, conflict);
-        page.line(
-            Ink::Plain,
-            "\n  The pass is turned down before it runs; the driver is told nothing of it.",
-        );
+        page.line(Ink::Plain, "\n  The pass is turned down before it runs; the driver is told nothing of it.");
     }
 }
 
@@ -139,19 +109,8 @@ impl Frame {
     }
 
     fn transition(&self, transition: &PendingTransition) -> String {
-        let width = self
-            .textures
-            .iter()
-            .map(|(name, _)| name.chars().count())
-            .max()
-            .unwrap_or(0)
-            + 2;
-        let PendingTransition {
-            index,
-            selector,
-            from,
-            to,
-        } = transition;
+        let width = self.textures.iter().map(|(name, _)| name.chars().count()).max().unwrap_or(0) + 2;
+        let PendingTransition { index, selector, from, to } = transition;
         let (mips, layers) = (show::mips(selector), show::layers(selector));
         let (from, to) = (uses::name(*from), uses::name(*to));
         let texture = show::texture_name(self, *index);

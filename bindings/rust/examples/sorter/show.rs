@@ -63,10 +63,7 @@ pub fn layers(selector: &Selector) -> String {
 }
 
 pub fn texture_name(frame: &Frame, index: TrackerIndex) -> &str {
-    frame
-        .textures
-        .get(index.0 as usize)
-        .map_or("?", |(name, _)| name)
+    frame.textures.get(index.0 as usize).map_or("?", |(name, _)| name)
 }
 
 /// What is seen of one subresource: nothing where nothing is known.
@@ -84,12 +81,7 @@ struct Grid {
 }
 
 /// Writes what is held of a texture. `conflict` is shown in its subresources.
-pub fn grid(
-    page: &mut Page,
-    frame: &Frame,
-    states: TextureStates<'_>,
-    conflict: Option<&Conflict>,
-) {
+pub fn grid(page: &mut Page, frame: &Frame, states: TextureStates<'_>, conflict: Option<&Conflict>) {
     let Extent { mips, layers } = states.extent();
     let met = conflict.filter(|conflict| conflict.index == states.index());
     let text = |mip, layer| {
@@ -101,31 +93,17 @@ pub fn grid(
     };
     let row = |layer| (0..mips).map(|mip| text(Mip(mip), Layer(layer))).collect();
     let camera = |layer| camera_of(frame, states.index(), layer).unwrap_or_default();
-    let rows = (0..layers)
-        .map(|layer| (camera(layer), row(layer)))
-        .collect();
+    let rows = (0..layers).map(|layer| (camera(layer), row(layer))).collect();
     let title = texture_name(frame, states.index()).to_string();
-    Grid {
-        title,
-        rows: fold(rows),
-    }
-    .write(page);
+    Grid { title, rows: fold(rows) }.write(page);
 }
 
 /// The name of a use of that layer alone, as a camera has.
 fn camera_of(frame: &Frame, index: TrackerIndex, layer: u32) -> Option<String> {
     let alone = Layer(layer)..Layer(layer + 1);
-    let named = |made: &&Use| {
-        made.texture.index == index
-            && made
-                .selector
-                .as_ref()
-                .is_some_and(|part| part.layers == alone)
-    };
-    frame
-        .uses()
-        .filter(named)
-        .find_map(|made| made.name.clone())
+    let named =
+        |made: &&Use| made.texture.index == index && made.selector.as_ref().is_some_and(|part| part.layers == alone);
+    frame.uses().filter(named).find_map(|made| made.name.clone())
 }
 
 /// Gives each row its layers; of many rows, equal neighbours are one.
@@ -139,11 +117,7 @@ fn fold(rows: Vec<(String, Vec<String>)>) -> Vec<(String, Vec<String>)> {
         }
     }
     let label = |(start, end, camera, cells): (u32, u32, String, Vec<String>)| {
-        let camera = if end == start + 1 {
-            camera
-        } else {
-            String::new()
-        };
+        let camera = if end == start + 1 { camera } else { String::new() };
         (format!("{}  {camera}", span("layer", start, end)), cells)
     };
     folded.into_iter().map(label).collect()
@@ -156,12 +130,7 @@ fn width(text: &str) -> usize {
 impl Grid {
     /// As many mips side by side as fit, then the rest below.
     fn write(&self, page: &mut Page) {
-        let labels = self
-            .rows
-            .iter()
-            .map(|(label, _)| width(label))
-            .max()
-            .unwrap_or(0);
+        let labels = self.rows.iter().map(|(label, _)| width(label)).max().unwrap_or(0);
         let labels = labels.max(width(&self.title)) + 3;
         let mips = self.rows.first().map_or(0, |(_, cells)| cells.len());
         let mut first = 0;
@@ -175,12 +144,7 @@ impl Grid {
     /// How wide the column of a mip is.
     fn column(&self, mip: usize) -> usize {
         let cells = self.rows.iter().filter_map(|(_, cells)| cells.get(mip));
-        cells
-            .map(|cell| width(cell))
-            .max()
-            .unwrap_or(0)
-            .max("mip 15".len())
-            + 2
+        cells.map(|cell| width(cell)).max().unwrap_or(0).max("mip 15".len()) + 2
     }
 
     /// How many mips from the first on fit into a line; at least one.

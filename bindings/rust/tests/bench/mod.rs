@@ -2,12 +2,8 @@
 #![allow(dead_code)]
 use texture_tracker::*;
 
-pub const FLAGS: UsageFlags = UsageFlags {
-    exclusive: State(20),
-    uninitialized: State(1),
-    complex: State(4096),
-    unknown: State(8192),
-};
+pub const FLAGS: UsageFlags =
+    UsageFlags { exclusive: State(20), uninitialized: State(1), complex: State(4096), unknown: State(8192) };
 pub const MASK: State = State(10);
 pub const EXTENT: Extent = Extent { mips: 2, layers: 4 };
 pub const TEXTURE: Texture = texture(0, EXTENT);
@@ -15,10 +11,7 @@ pub const TEXTURE: Texture = texture(0, EXTENT);
 pub const U: u16 = 8192;
 
 pub const fn texture(index: u32, extent: Extent) -> Texture {
-    Texture {
-        index: TrackerIndex(index),
-        extent,
-    }
+    Texture { index: TrackerIndex(index), extent }
 }
 
 /// Mip 0, layers 1..3.
@@ -27,10 +20,7 @@ pub fn part() -> Selector {
 }
 
 pub fn selector(mips: std::ops::Range<u32>, layers: std::ops::Range<u32>) -> Selector {
-    Selector {
-        mips: Mip(mips.start)..Mip(mips.end),
-        layers: Layer(layers.start)..Layer(layers.end),
-    }
+    Selector { mips: Mip(mips.start)..Mip(mips.end), layers: Layer(layers.start)..Layer(layers.end) }
 }
 
 pub fn scope() -> UsageScope {
@@ -57,9 +47,7 @@ pub fn whole(states: &[u16]) -> UsageScope {
 /// A scope with one use, of mip 0 and layers 1..3.
 pub fn parted(state: u16) -> UsageScope {
     let mut scope = scope();
-    scope
-        .merge_single(TEXTURE, Some(part()), State(state))
-        .unwrap();
+    scope.merge_single(TEXTURE, Some(part()), State(state)).unwrap();
     scope
 }
 
@@ -68,9 +56,7 @@ pub fn tracked(states: &[u16]) -> TextureTracker {
     let (mut tracker, mut log) = (tracker(), log());
     for &state in states {
         log.clear().unwrap();
-        tracker
-            .set_single(TEXTURE, EXTENT.full_range(), State(state), &mut log)
-            .unwrap();
+        tracker.set_single(TEXTURE, EXTENT.full_range(), State(state), &mut log).unwrap();
     }
     tracker
 }
@@ -85,18 +71,10 @@ pub fn held(states: Option<TextureStates<'_>>) -> String {
     }
     let mips = (0..states.extent().mips).map(|mip| {
         let range = |(layers, State(state)): (std::ops::Range<Layer>, State)| {
-            let name = if state == U {
-                "U".to_string()
-            } else {
-                state.to_string()
-            };
+            let name = if state == U { "U".to_string() } else { state.to_string() };
             format!("{}..{} {name}", layers.start.0, layers.end.0)
         };
-        states
-            .ranges(Mip(mip))
-            .map(range)
-            .collect::<Vec<_>>()
-            .join(", ")
+        states.ranges(Mip(mip)).map(range).collect::<Vec<_>>().join(", ")
     });
     mips.collect::<Vec<_>>().join("; ")
 }
@@ -107,19 +85,11 @@ pub fn of_scope(scope: &UsageScope) -> String {
 
 /// Start and end.
 pub fn of_tracker(tracker: &TextureTracker) -> (String, String) {
-    (
-        held(tracker.start(TrackerIndex(0))),
-        held(tracker.end(TrackerIndex(0))),
-    )
+    (held(tracker.start(TrackerIndex(0))), held(tracker.end(TrackerIndex(0))))
 }
 
 pub fn transition(selector: Selector, from: u16, to: u16) -> PendingTransition {
-    PendingTransition {
-        index: TrackerIndex(0),
-        selector,
-        from: State(from),
-        to: State(to),
-    }
+    PendingTransition { index: TrackerIndex(0), selector, from: State(from), to: State(to) }
 }
 
 pub fn conflict(selector: Selector, current: u16, new: u16) -> Result<(), MergeError> {
