@@ -1,0 +1,6 @@
+pub mod Chain
+pub mod LastParam
+pub mod LentHead
+pub mod Locals
+pub mod Params
+pub mod Walk
