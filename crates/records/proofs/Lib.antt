@@ -1,3 +1,4 @@
+pub mod Again
 pub mod Chain
 pub mod LastParam
 pub mod LentHead

@@ -68,15 +68,12 @@ module _ {M : Type 1} (𝓤 : URA M) (H : Heap 𝓤) (A : Atoms 𝓤) (W : Given
         let head = lent 𝓤 H A (before κs) 1 κs qs (named 1) a in
         let κ = last-lft 1 κs in
         let q = last-share 1 qs in
-        qed W (raw (AllTokens 𝓤 H A passed κ q head) ∷ raw (AllOwns 𝓤 H A passed κ q head (named 1)) ∷ []) ∵
-        entered ! C Λ code.function (flat (rows (params κs)) at) Post refl (λ bs. all-typed 𝓤 H A (rows (params κs)) (lawfuls 𝓤 H A W (params κs)) a at are) (λ b bs.
-        -- [_0; ·; _1; ·; _2; ·; _3; ·; _4; ·; the tokens; what the parameters own]
-        move ! (10 ∷ 11 ∷ 4 ∷ 6 ∷ 8 ∷ 0 ∷ []) $
-        moves-on ! fm passed (named 1) κ q head _ Post refl refl refl
+        qed W (raw (AllTokens 𝓤 H A passed κ q head) ∷ raw (AllOwns 𝓤 H A passed κ q head (named 1)) ∷ []) ∵ entered ! C Λ code.function (flat (rows (params κs)) at) Post refl (λ bs. all-typed 𝓤 H A (rows (params κs)) (lawfuls 𝓤 H A W (params κs)) a at are) (λ b bs.
+        -- [_0; ·; _1; ·; …; _4; ·; the tokens; what the parameters own]
+        move ! (10 ∷ 11 ∷ 4 ∷ 6 ∷ 8 ∷ 0 ∷ []) $ moves-on ! fm passed (named 1) κ q head _ Post refl refl refl
         (known ((fore-lfts 1 κs, fore-shares 1 qs, tt, given, with-vals (rows (before κs)) (Lent 𝓤 H A (before κs) 1 κs qs (named 1)) Head.the-row at (head-val (head .now) ∷ [], tt)), tt))
         (λ r ws. ends 𝓤 H A empty-log.ended (empty-log.clauses 𝓤 H A mem run) ((κs, qs, tt, a, at), tt) W (outcome-val r) (r .outcome) (with-final (rows (before κs)) (Lent 𝓤 H A (before κs) 1 κs qs (named 1)) Head.the-row a (head .now) ws (r .head)))
         (and-then ! (at-local ! 10 refl) (and-then ! (at-local ! 7 refl) (no-more !)))
-        -- [the post; _2; _3; _4; _0; ·0; _1; ·1; ·2; ·3; ·4]
         (λ r. move ! (4 ∷ 5 ∷ 6 ∷ 7 ∷ 1 ∷ 8 ∷ 2 ∷ 9 ∷ 3 ∷ 10 ∷ []) $ released ! _ _ $ by ! (id⊢ 𝓤 _)))
 
 pub empty-log-spec : {M : Type 1} → stated.statement M
