@@ -1,7 +1,1 @@
-pub mod Again
-pub mod Chain
-pub mod LastParam
-pub mod LentHead
-pub mod Locals
-pub mod Params
-pub mod Walk
+pub mod Thin

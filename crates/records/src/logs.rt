@@ -1,4 +1,5 @@
-// The tracker's calls with the head of the log lent by `&mut`.
+// The calls that write a log, with its head lent by `&mut` (01: "the head of the log, entries written and entries free, is lent and moved on
+// by the call itself"). Each hands the head to `track` by value and stores the head of the answer; that of a refusal is the one that was lent.
 use model::Extent;
 use model::LogHead;
 use model::Outcome;
@@ -7,7 +8,7 @@ use model::TrackerIndex;
 use storage::Table;
 ghost use Rattle.track.specs.Trace.{SetSingle, SetFromUsageScope, SetFromTracker, SetAndRemoveSparse, Emptying};
 
-// Sets one use of one texture in a tracker, and logs its transitions.
+// Sets one use of one texture in a tracker, and logs its transitions: `TextureTracker::set_single`, without its drain.
 pub fn set_single(
     table: &mut Table,
     starts: &mut [u32],
@@ -36,7 +37,7 @@ pub fn set_single(
     a.outcome
 }
 
-// Sets every texture that a scope owns in a tracker, and logs their transitions.
+// Sets every texture that a scope owns in a tracker, and logs their transitions: `TextureTracker::set_from_usage_scope`.
 pub fn set_from_usage_scope(
     table: &mut Table,
     starts: &mut [u32],
@@ -48,20 +49,12 @@ pub fn set_from_usage_scope(
 ) -> Outcome
     ensures { λ x. ⌜ SetFromUsageScope (record { table = now (table .entry); starts = now (starts .entry); ends = now (ends .entry) }) (record { table = now (given .entry); ranges = now (lent .entry) }) (now (head .entry)) (now (log .entry)) (record { outcome = x; head = now (head .exit) }) (record { table = now (table .exit); starts = now (starts .exit); ends = now (ends .exit) }) (now (log .exit)) ⌝ }
 {
-    let a = track::set_from_usage_scope(
-        table,
-        starts,
-        ends,
-        given,
-        lent,
-        log,
-        *head,
-    );
+    let a = track::set_from_usage_scope(table, starts, ends, given, lent, log, *head);
     *head = a.head;
     a.outcome
 }
 
-// Joins a tracker with another: transitions go to the other's start, and its end is what they leave.
+// Joins a tracker with another, `TextureTracker::set_from_tracker`: transitions go to the other's start, and its end is what they leave.
 pub fn set_from_tracker(
     table: &mut Table,
     starts: &mut [u32],
@@ -74,21 +67,12 @@ pub fn set_from_tracker(
 ) -> Outcome
     ensures { λ x. ⌜ SetFromTracker (record { table = now (table .entry); starts = now (starts .entry); ends = now (ends .entry) }) (record { table = now (given .entry); starts = now (first .entry); ends = now (last .entry) }) (now (head .entry)) (now (log .entry)) (record { outcome = x; head = now (head .exit) }) (record { table = now (table .exit); starts = now (starts .exit); ends = now (ends .exit) }) (now (log .exit)) ⌝ }
 {
-    let a = track::set_from_tracker(
-        table,
-        starts,
-        ends,
-        given,
-        first,
-        last,
-        log,
-        *head,
-    );
+    let a = track::set_from_tracker(table, starts, ends, given, first, last, log, *head);
     *head = a.head;
     a.outcome
 }
 
-// Moves the listed textures of a scope into a tracker, and logs their transitions: the scope no longer owns them.
+// Moves the listed textures of a scope into a tracker, and logs their transitions: `TextureTracker::set_and_remove_from_usage_scope_sparse`.
 pub fn set_and_remove_from_usage_scope_sparse(
     table: &mut Table,
     starts: &mut [u32],
@@ -115,7 +99,7 @@ pub fn set_and_remove_from_usage_scope_sparse(
     a.outcome
 }
 
-// Empties the log: free gains what was written, written becomes 0, and the entries stay.
+// Empties the log, which is only measured: free gains what was written, written becomes 0, and the entries stay.
 pub fn empty_log(log: &[u32], head: &mut LogHead) -> Outcome
     ensures { λ x. ⌜ Emptying (now (head .entry)) (now (log .entry)) (record { outcome = x; head = now (head .exit) }) ⌝ }
 {

@@ -23,16 +23,15 @@ use denote.Triple.Clauses.{atExit}
 use denote.Triple.Entry.{Args, Vals, onEntry}
 use denote.Triple.Spec.{tripleOf}
 use denote.Triple.Table.{entered as at-entry, cited}
-use Rattle.model.proofs.LogHead as Head
 use Rattle.track.proofs.empty_log as core
 use Rattle.track.proofs.empty_log.Symbol as core-def
 use Rattle.track.proofs.empty_log.Symbol.{name as #track·empty-log}
 use Rattle.track.proofs.empty_log.Met as core-thm
-use Rattle.records.proofs.LastParam.{fore-lfts, fore-shares, last-lft, last-share, with-vals, with-final}
-use Rattle.records.proofs.LentHead.{head-val, outcome-val, Passed, AllTokens, AllOwns, Lent, lent, by-value, passing, moves-on}
-use Rattle.records.proofs.Locals.{entered, at-local, released}
-use Rattle.records.proofs.Params.{Param, mut-ref, shr-slice, rows, spells, tellss, lawfuls}
-use Rattle.records.proofs.Walk.{begins, ends}
+use Rattle.records.proofs.Thin.LastParam.{fore-lfts, fore-shares}
+use Rattle.records.proofs.Thin.LentHead.{outcome-val, Passed, Tokens, Owns, lent-head, by-value, vals-by-value, lasts-behind, passing, moves-on}
+use Rattle.records.proofs.Thin.Locals.{entered, at-local, released}
+use Rattle.records.proofs.Thin.Params.{Param, shr-slice, rows, spells, tellss, lawfuls}
+use Rattle.records.proofs.Thin.Walk.{begins, ends}
 use Rattle.records.proofs.logs.empty_log.Key.{name as #records·logs·empty-log}
 use Rattle.records.proofs.logs.empty_log as empty-log
 use Rattle.records.proofs.logs.empty_log.Statement as stated
@@ -43,7 +42,7 @@ abbrev before : Lfts 2 → List Param
 before κs = shr-slice (named 0) (κs .0) u32 ∷ []
 
 abbrev params : Lfts 2 → List Param
-params κs = before κs ++ (mut-ref (named 1) (κs .1 .0) Head.the-row ∷ [])
+params κs = before κs ++ (lent-head 1 κs ∷ [])
 
 -- the contract that the proof cites
 abbrev Core : {M : Type 1} (𝓤 : URA M) (H : Heap 𝓤) (A : Atoms 𝓤) (mem : Memory → SProp 𝓤) (run : Routine → Fun 𝓤) → Contract 𝓤
@@ -53,11 +52,12 @@ module _ {M : Type 1} (𝓤 : URA M) (H : Heap 𝓤) (A : Atoms 𝓤) (W : Given
   abbrev at : Vals empty-log.signature κs
   at = valss (rows (params κs)) (spells (params κs)) a
 
+  -- what the callee is given, and what is passed on to it
   abbrev given : Args core.signature (fore-lfts 1 κs)
-  given = by-value 𝓤 H A (before κs) 1 κs qs (named 1) a
+  given = by-value (before κs) 1 κs a
 
   abbrev passed : Passed 𝓤
-  passed = passing 𝓤 H A (before κs) 1 κs qs (named 1) a at (λ r ws. core.clauses 𝓤 H A mem run (fore-lfts 1 κs) given .ensures tt r (atExit core.ended (fore-lfts 1 κs) given ws))
+  passed = passing (before κs) 1 κs 𝓤 H A qs a at (λ r ws. core.clauses 𝓤 H A mem run (fore-lfts 1 κs) given .ensures tt r (atExit core.ended (fore-lfts 1 κs) given ws))
 
   abbrev Post : Val → SProp 𝓤
   Post = tripleOf 𝓤 H A empty-log.signature (empty-log.spec 𝓤 H A mem run) .post ((κs, qs, tt, a, at), tt)
@@ -65,15 +65,14 @@ module _ {M : Type 1} (𝓤 : URA M) (H : Heap 𝓤) (A : Atoms 𝓤) (W : Given
   module _ (C : Calls 𝓤 H) (Λ : Loops 𝓤 H) (fm : FmC 𝓤 H (W .laws) C) (known : Triple 𝓤 (C #track·empty-log) (Core 𝓤 H A mem run)) where
     walk : Are (rows (params κs)) (Ises (rows (params κs))) a at → ent 𝓤 (onEntry 𝓤 H A empty-log.signature κs qs a at) (WpFn 𝓤 H C Λ code.function (flat (rows (params κs)) at) Post)
     walk are =
-        let head = lent 𝓤 H A (before κs) 1 κs qs (named 1) a in
-        let κ = last-lft 1 κs in
-        let q = last-share 1 qs in
-        qed W (raw (AllTokens 𝓤 H A passed κ q head) ∷ raw (AllOwns 𝓤 H A passed κ q head (named 1)) ∷ []) ∵ entered ! C Λ code.function (flat (rows (params κs)) at) Post refl (λ bs. all-typed 𝓤 H A (rows (params κs)) (lawfuls 𝓤 H A W (params κs)) a at are) (λ b bs.
+        let typed = all-typed 𝓤 H A (rows (params κs)) (lawfuls 𝓤 H A W (params κs)) a at are in
+        qed W (raw (Tokens 𝓤 H A passed) ∷ raw (Owns 𝓤 H A passed) ∷ []) ∵ entered ! C Λ code.function (flat (rows (params κs)) at) Post refl (λ bs. typed) (λ b bs.
         -- [_0; ·; _1; ·; …; _4; ·; the tokens; what the parameters own]
-        move ! (10 ∷ 11 ∷ 4 ∷ 6 ∷ 8 ∷ 0 ∷ []) $ moves-on ! fm passed (named 1) κ q head _ Post refl refl refl
-        (known ((fore-lfts 1 κs, fore-shares 1 qs, tt, given, with-vals (rows (before κs)) (Lent 𝓤 H A (before κs) 1 κs qs (named 1)) Head.the-row at (head-val (head .now) ∷ [], tt)), tt))
-        (λ r ws. ends 𝓤 H A empty-log.ended (empty-log.clauses 𝓤 H A mem run) ((κs, qs, tt, a, at), tt) W (outcome-val r) (r .outcome) (with-final (rows (before κs)) (Lent 𝓤 H A (before κs) 1 κs qs (named 1)) Head.the-row a (head .now) ws (r .head)))
+        -- the head, behind _2, is copied to _4; the answer lands in _3
+        move ! (10 ∷ 11 ∷ 4 ∷ 6 ∷ 8 ∷ 0 ∷ []) $ moves-on ! fm passed _ Post refl refl refl (known ((fore-lfts 1 κs, fore-shares 1 qs, tt, given, vals-by-value (before κs) 1 κs a at), tt))
+        (λ r ws. ends 𝓤 H A empty-log.ended (empty-log.clauses 𝓤 H A mem run) ((κs, qs, tt, a, at), tt) W (outcome-val r) (r .outcome) (lasts-behind (before κs) 1 κs a ws (r .head)))
         (and-then ! (at-local ! 10 refl) (and-then ! (at-local ! 7 refl) (no-more !)))
+        -- the locals, in their order again
         (λ r. move ! (4 ∷ 5 ∷ 6 ∷ 7 ∷ 1 ∷ 8 ∷ 2 ∷ 9 ∷ 3 ∷ 10 ∷ []) $ released ! _ _ $ by ! (id⊢ 𝓤 _)))
 
 pub empty-log-spec : {M : Type 1} → stated.statement M

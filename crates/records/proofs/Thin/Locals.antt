@@ -69,9 +69,11 @@ module _ {M : Type 1} {𝓤 : URA M} {H : Heap 𝓤} {A : Atoms 𝓤} {K : Type 
   stored t Γ E [] g fit s = pass0 t $ s
   stored t Γ [] (v ∷ vs) g fit s = absurd fit
   stored t Γ (e ∷ E) (v ∷ vs) g fit s = pass1 t (init t 0 refl (fit .0)) $
-      record { prf = via 𝓤 (⋆ 𝓤 H A (cells E [] (‵ (fat fullShare (e .0) (e .1) zero v) ∷ ‵ (fdies (e .0) (e .1)) ∷ Γ))) (to-back 𝓤 H A E [] (‵ (fat fullShare (e .0) (e .1) zero v)) (‵ (fdies (e .0) (e .1))) Γ)
-      (stored t (‵ (fat fullShare (e .0) (e .1) zero v) ∷ ‵ (fdies (e .0) (e .1)) ∷ Γ) E vs g (fit .1)
-      (record { prf = via 𝓤 (⋆ 𝓤 H A (cells (e ∷ E) (v ∷ vs) Γ)) (to-front 𝓤 H A E vs (‵ (fat fullShare (e .0) (e .1) zero v)) (‵ (fdies (e .0) (e .1))) Γ) (s .prf) }) .prf) }
+      record {
+        prf = via 𝓤 (⋆ 𝓤 H A (cells E [] (‵ (fat fullShare (e .0) (e .1) zero v) ∷ ‵ (fdies (e .0) (e .1)) ∷ Γ))) (to-back 𝓤 H A E [] (‵ (fat fullShare (e .0) (e .1) zero v)) (‵ (fdies (e .0) (e .1))) Γ)
+            (stored t (‵ (fat fullShare (e .0) (e .1) zero v) ∷ ‵ (fdies (e .0) (e .1)) ∷ Γ) E vs g (fit .1)
+            (record { prf = via 𝓤 (⋆ 𝓤 H A (cells (e ∷ E) (v ∷ vs) Γ)) (to-front 𝓤 H A E vs (‵ (fat fullShare (e .0) (e .1) zero v)) (‵ (fdies (e .0) (e .1))) Γ) (s .prf) }) .prf);
+      }
 
   -- a function is entered: the result's local holds nothing yet, the parameters' hold vs
   pub entered : K → {Γ : List (Item 𝓤)} {τ : Ty} {h : Home} {ls : List Local} (C : Calls 𝓤 H) (Λ : Loops 𝓤 H) (f : Fn) (vs : List Val) (Kf : Val → SProp 𝓤) → f .locals ≡ local τ h ∷ ls
@@ -80,9 +82,11 @@ module _ {M : Type 1} {𝓤 : URA M} {H : Heap 𝓤} {A : Atoms 𝓤} {K : Type 
       → Seq K W Γ (prop (WpFn 𝓤 H C Λ f vs Kf))
   entered t {Γ} {τ} {h} {ls} C Λ f vs Kf e fit k =
       enter t C Λ f vs Kf $ regoal t (λ (xs : List Local). allocs xs (λ E. params′ E vs (runs C Λ E (f .body) (atRet E Kf)))) e refl $ allocated t Γ (local τ h ∷ ls) (λ bs. params1 t $
-      record { prf = via 𝓤 (⋆ 𝓤 H A (cells (places ls (bs .1)) [] (‵ (froom τ (bs .0) zero) ∷ ‵ (fdies τ (bs .0)) ∷ Γ))) (to-back 𝓤 H A (places ls (bs .1)) [] (‵ (froom τ (bs .0) zero)) (‵ (fdies τ (bs .0))) Γ)
-      (stored t (‵ (froom τ (bs .0) zero) ∷ ‵ (fdies τ (bs .0)) ∷ Γ) (places ls (bs .1)) vs (runs C Λ ((τ, bs .0) ∷ places ls (bs .1)) (f .body) (atRet ((τ, bs .0) ∷ places ls (bs .1)) Kf)) (fit (bs .1))
-      (record { prf = via 𝓤 (⋆ 𝓤 H A (‵ (froom τ (bs .0) zero) ∷ ‵ (fdies τ (bs .0)) ∷ cells (places ls (bs .1)) vs Γ)) (to-front 𝓤 H A (places ls (bs .1)) vs (‵ (froom τ (bs .0) zero)) (‵ (fdies τ (bs .0))) Γ) (k (bs .0) (bs .1) .prf) }) .prf) })
+      record {
+        prf = via 𝓤 (⋆ 𝓤 H A (cells (places ls (bs .1)) [] (‵ (froom τ (bs .0) zero) ∷ ‵ (fdies τ (bs .0)) ∷ Γ))) (to-back 𝓤 H A (places ls (bs .1)) [] (‵ (froom τ (bs .0) zero)) (‵ (fdies τ (bs .0))) Γ)
+            (stored t (‵ (froom τ (bs .0) zero) ∷ ‵ (fdies τ (bs .0)) ∷ Γ) (places ls (bs .1)) vs (runs C Λ ((τ, bs .0) ∷ places ls (bs .1)) (f .body) (atRet ((τ, bs .0) ∷ places ls (bs .1)) Kf)) (fit (bs .1))
+            (record { prf = via 𝓤 (⋆ 𝓤 H A (‵ (froom τ (bs .0) zero) ∷ ‵ (fdies τ (bs .0)) ∷ cells (places ls (bs .1)) vs Γ)) (to-front 𝓤 H A (places ls (bs .1)) vs (‵ (froom τ (bs .0) zero)) (‵ (fdies τ (bs .0))) Γ) (k (bs .0) (bs .1) .prf) }) .prf);
+      })
 
   -- a place, from where its local lies
   pub at-spot : K → {Γ : List (Item 𝓤)} {E : Env 𝓤 H} {i : ℕ} {st : List PStep} {s s′ : Spot 𝓤 H} → spotOf 𝓤 H E i ≡ s → Walks K W Γ E s st s′ → Finds K W Γ E (place i st) s′

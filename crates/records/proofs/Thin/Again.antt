@@ -16,7 +16,7 @@ use types.Kit.{Given, Item, ‵, nth}
 use types.Run.{Reads, Opd, Rv, look, stop, hop, fld, from, load, addr}
 use types.Part.{Part, whole, sub, look-in}
 use denote.Slice.{sliceTy, sliceVal}
-use Rattle.records.proofs.Locals.{at-spot}
+use Rattle.records.proofs.Thin.Locals.{at-spot}
 
 module _ {M : Type 1} {𝓤 : URA M} {H : Heap 𝓤} {A : Atoms 𝓤} {K : Type 0} {W : Given 𝓤 H A} where
   -- a field of a slice's machine value
