@@ -39,5 +39,9 @@ module _ {M : Type 1} (𝓤 : URA M) (H : Heap 𝓤) (A : Atoms 𝓤) (T : Ended
     abbrev pub Ends : Val → Res S (y .0 .0) → SProp 𝓤
     Ends v r = sep 𝓤 (Back 𝓤 H A S (y .0) v r) (ex 𝓤 (Said r))
 
-    pub ends : Given 𝓤 H A → (v : Val) (r : Res S (y .0 .0)) (ws : Lasts T (y .0 .0) (y .0 .3)) → ent 𝓤 (sep 𝓤 (Back 𝓤 H A S (y .0) v r) (Said r ws)) (tripleOf 𝓤 H A S (closing 𝓤 H A T c) .post y v)
-    ends W v r ws = via 𝓤 (ex 𝓤 (Ends v)) (via 𝓤 (Ends v r) (monoR 𝓤 (Back 𝓤 H A S (y .0) v r) (exI 𝓤 (Said r) ws)) (exI 𝓤 (Ends v) r)) (W .laws .⇛-intro (ex 𝓤 (Ends v)))
+    -- N is what shows the `ensures`
+    pub ends : Given 𝓤 H A → (v : Val) (r : Res S (y .0 .0)) (ws : Lasts T (y .0 .0) (y .0 .3)) (N : SProp 𝓤) → ent 𝓤 N (c (y .0 .0) (y .0 .3) .ensures (y .1) r (atExit T (y .0 .0) (y .0 .3) ws))
+        → ent 𝓤 (sep 𝓤 (Back 𝓤 H A S (y .0) v r) (sep 𝓤 (sem 𝓤 H A (lasts T (y .0 .0) (y .0 .3) ws)) N)) (tripleOf 𝓤 H A S (closing 𝓤 H A T c) .post y v)
+    ends W v r ws N e =
+        via 𝓤 (ex 𝓤 (Ends v))
+        (via 𝓤 (Ends v r) (monoR 𝓤 (Back 𝓤 H A S (y .0) v r) (via 𝓤 (Said r ws) (monoR 𝓤 (sem 𝓤 H A (lasts T (y .0 .0) (y .0 .3) ws)) e) (exI 𝓤 (Said r) ws))) (exI 𝓤 (Ends v) r)) (W .laws .⇛-intro (ex 𝓤 (Ends v)))

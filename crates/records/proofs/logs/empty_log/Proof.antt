@@ -23,6 +23,7 @@ use denote.Triple.Clauses.{atExit}
 use denote.Triple.Entry.{Args, Vals, onEntry}
 use denote.Triple.Spec.{tripleOf}
 use denote.Triple.Table.{entered as at-entry, cited}
+use Rattle.setting.specs.declared.Answered.{Answered}
 use Rattle.track.proofs.empty_log as core
 use Rattle.track.proofs.empty_log.Symbol as core-def
 use Rattle.track.proofs.empty_log.Symbol.{name as #track·empty-log}
@@ -59,6 +60,10 @@ module _ {M : Type 1} (𝓤 : URA M) (H : Heap 𝓤) (A : Atoms 𝓤) (W : Given
   abbrev passed : Passed 𝓤
   passed = passing (before κs) 1 κs 𝓤 H A qs a at (λ r ws. core.clauses 𝓤 H A mem run (fore-lfts 1 κs) given .ensures tt r (atExit core.ended (fore-lfts 1 κs) given ws))
 
+  -- what the callee ensures of an answer is what is to be ensured of its outcome and its head
+  ensured : (r : Answered) (ws : passed .Lasts) → ent 𝓤 (passed .ensured r ws) (empty-log.clauses 𝓤 H A mem run κs a .ensures tt (r .outcome) (atExit empty-log.ended κs a (lasts-behind (before κs) 1 κs a ws (r .head))))
+  ensured r ws = id⊢ 𝓤 (passed .ensured r ws)
+
   abbrev Post : Val → SProp 𝓤
   Post = tripleOf 𝓤 H A empty-log.signature (empty-log.spec 𝓤 H A mem run) .post ((κs, qs, tt, a, at), tt)
 
@@ -70,7 +75,7 @@ module _ {M : Type 1} (𝓤 : URA M) (H : Heap 𝓤) (A : Atoms 𝓤) (W : Given
         -- [_0; ·; _1; ·; …; _4; ·; the tokens; what the parameters own]
         -- the head, behind _2, is copied to _4; the answer lands in _3
         move ! (10 ∷ 11 ∷ 4 ∷ 6 ∷ 8 ∷ 0 ∷ []) $ moves-on ! fm passed _ Post refl refl refl (known ((fore-lfts 1 κs, fore-shares 1 qs, tt, given, vals-by-value (before κs) 1 κs a at), tt))
-        (λ r ws. ends 𝓤 H A empty-log.ended (empty-log.clauses 𝓤 H A mem run) ((κs, qs, tt, a, at), tt) W (outcome-val r) (r .outcome) (lasts-behind (before κs) 1 κs a ws (r .head)))
+        (λ r ws. ends 𝓤 H A empty-log.ended (empty-log.clauses 𝓤 H A mem run) ((κs, qs, tt, a, at), tt) W (outcome-val r) (r .outcome) (lasts-behind (before κs) 1 κs a ws (r .head)) (passed .ensured r ws) (ensured r ws))
         (and-then ! (at-local ! 10 refl) (and-then ! (at-local ! 7 refl) (no-more !)))
         -- the locals, in their order again
         (λ r. move ! (4 ∷ 5 ∷ 6 ∷ 7 ∷ 1 ∷ 8 ∷ 2 ∷ 9 ∷ 3 ∷ 10 ∷ []) $ released ! _ _ $ by ! (id⊢ 𝓤 _)))

@@ -24,6 +24,7 @@ use denote.Triple.Clauses.{atExit}
 use denote.Triple.Entry.{Args, Vals, onEntry}
 use denote.Triple.Spec.{tripleOf}
 use denote.Triple.Table.{entered as at-entry, cited}
+use Rattle.setting.specs.declared.Answered.{Answered}
 use Rattle.track.proofs.set_from_usage_scope as core
 use Rattle.track.proofs.set_from_usage_scope.Symbol as core-def
 use Rattle.track.proofs.set_from_usage_scope.Symbol.{name as #track·set-from-usage-scope}
@@ -67,6 +68,10 @@ module _ {M : Type 1} (𝓤 : URA M) (H : Heap 𝓤) (A : Atoms 𝓤) (W : Given
   abbrev passed : Passed 𝓤
   passed = passing (before κs) 6 κs 𝓤 H A qs a at (λ r ws. core.clauses 𝓤 H A mem run (fore-lfts 6 κs) given .ensures tt r (atExit core.ended (fore-lfts 6 κs) given ws))
 
+  -- what the callee ensures of an answer is what is to be ensured of its outcome and its head
+  ensured : (r : Answered) (ws : passed .Lasts) → ent 𝓤 (passed .ensured r ws) (set-from-usage-scope.clauses 𝓤 H A mem run κs a .ensures tt (r .outcome) (atExit set-from-usage-scope.ended κs a (lasts-behind (before κs) 6 κs a ws (r .head))))
+  ensured r ws = id⊢ 𝓤 (passed .ensured r ws)
+
   abbrev Post : Val → SProp 𝓤
   Post = tripleOf 𝓤 H A set-from-usage-scope.signature (set-from-usage-scope.spec 𝓤 H A mem run) .post ((κs, qs, tt, a, at), tt)
 
@@ -86,7 +91,7 @@ module _ {M : Type 1} (𝓤 : URA M) (H : Heap 𝓤) (A : Atoms 𝓤) (W : Given
         assigns ! (first ! 12 refl refl) (from ! (stop !)) (init ! 28 refl (tt, tt)) $ assigns ! (agg ! (and-then ! (at-local ! 28 refl) (and-then ! (count ! 12 refl refl) (no-more !)))) (from ! (stop !)) (init ! 30 refl (typed .1 .1 .1 .1 .1 .0)) $
         -- the head, behind _7, is copied to _16; the answer lands in _8
         move ! (34 ∷ 35 ∷ 14 ∷ 16 ∷ 32 ∷ 0 ∷ []) $ moves-on ! fm passed _ Post refl refl refl (known ((fore-lfts 6 κs, fore-shares 6 qs, tt, given, vals-by-value (before κs) 6 κs a at), tt))
-        (λ r ws. ends 𝓤 H A set-from-usage-scope.ended (set-from-usage-scope.clauses 𝓤 H A mem run) ((κs, qs, tt, a, at), tt) W (outcome-val r) (r .outcome) (lasts-behind (before κs) 6 κs a ws (r .head)))
+        (λ r ws. ends 𝓤 H A set-from-usage-scope.ended (set-from-usage-scope.clauses 𝓤 H A mem run) ((κs, qs, tt, a, at), tt) W (outcome-val r) (r .outcome) (lasts-behind (before κs) 6 κs a ws (r .head)) (passed .ensured r ws) (ensured r ws))
         (and-then ! (at-local ! 24 refl) (and-then ! (at-local ! 28 refl) (and-then ! (at-local ! 32 refl) (and-then ! (at-local ! 16 refl) (and-then ! (at-local ! 18 refl) (and-then ! (at-local ! 36 refl) (and-then ! (at-local ! 7 refl) (no-more !))))))))
         -- the locals, in their order again
         (λ r. move ! (4 ∷ 5 ∷ 6 ∷ 7 ∷ 8 ∷ 9 ∷ 10 ∷ 11 ∷ 12 ∷ 13 ∷ 14 ∷ 15 ∷ 16 ∷ 17 ∷ 1 ∷ 18 ∷ 2 ∷ 19 ∷ 20 ∷ 21 ∷ 22 ∷ 23 ∷ 24 ∷ 25 ∷ 26 ∷ 27 ∷ 28 ∷ 29 ∷ 30 ∷ 31 ∷ 32 ∷ 33 ∷ 3 ∷ 34 ∷ []) $ released ! _ _ $ by ! (id⊢ 𝓤 _)))
