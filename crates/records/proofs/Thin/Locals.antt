@@ -11,7 +11,7 @@ use base.Logic.{SProp, ent, sep, id⊢, via, monoR}
 use base.Fml.{Fml, Share, fat, froom, fdies}
 use prog.Wp.{Heap, Env, Spot, spotOf, Calls, Loops, WpFn}
 use ghost.Atoms.{Atoms}
-use types.Kit.{Given, Item, ‵, mean, ⋆, nth, pop, push, sel⊢, Goal, Seq, Step, step, _$_, regoal, allocs, params′, passes, runs, atRet, prop, frees}
+use types.Kit.{Given, Item, ‵, raw, mean, ⋆, nth, pop, push, sel⊢, Goal, Seq, _$_, by, regoal, allocs, params′, passes, runs, atRet, prop, frees}
 use types.Run.{Walks, Finds, Opd, look, load, from, stop, init, forget, enter, alloc1, alloc0, params1, pass1, pass0, free1, free0}
 
 -- ---- where the locals lie: a block for each
@@ -105,6 +105,7 @@ abbrev pub full : {M : Type 1} {𝓤 : URA M} (E : List (Ty × ℕ)) → Values 
 full [] vs Γ = Γ
 full (e ∷ E) vs Γ = ‵ (fat fullShare (e .0) (e .1) zero (vs .0)) ∷ ‵ (fdies (e .0) (e .1)) ∷ full E (vs .1) Γ
 
-pub released : {M : Type 1} {𝓤 : URA M} {H : Heap 𝓤} {A : Atoms 𝓤} {K : Type 0} {W : Given 𝓤 H A} {Γ : List (Item 𝓤)} → K → (E : Env 𝓤 H) (vs : Values E) {g : Goal 𝓤 H} → Step K W Γ g (full E vs Γ) (frees E g)
-released t [] vs = free0 t
-released t (e ∷ E) vs = step (λ s. forget t 0 refl $ free1 t $ released t E (vs .1) $ s)
+-- the last entry is what is to be shown once they are
+pub released : {M : Type 1} {𝓤 : URA M} {H : Heap 𝓤} {A : Atoms 𝓤} {K : Type 0} {W : Given 𝓤 H A} → K → (E : Env 𝓤 H) (vs : Values E) (P : SProp 𝓤) → Seq K W (full E vs (raw P ∷ [])) (frees E (prop P))
+released {𝓤 = 𝓤} t [] vs P = free0 t $ by t (id⊢ 𝓤 P)
+released t (e ∷ E) vs P = forget t 0 refl $ free1 t $ released t E (vs .1) P

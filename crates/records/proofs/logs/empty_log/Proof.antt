@@ -12,7 +12,7 @@ use ghost.Atoms.{Atoms}
 use contract.Monad.{Fun}
 use contract.Running.{givenOf, tables, tablesOf}
 use contract.Lifetimes.{Lfts, Shares}
-use types.Kit.{Given, raw, _$_, _∵_, !, qed, by, move}
+use types.Kit.{Given, raw, _$_, _∵_, !, qed, move}
 use types.Run.{and-then, no-more}
 use sound.WpLaws.{FmC, fmOf}
 use denote.RattleType.{flat}
@@ -78,7 +78,7 @@ module _ {M : Type 1} (𝓤 : URA M) (H : Heap 𝓤) (A : Atoms 𝓤) (W : Given
         (λ r ws. ends 𝓤 H A empty-log.ended (empty-log.clauses 𝓤 H A mem run) ((κs, qs, tt, a, at), tt) W (outcome-val r) (r .outcome) (lasts-behind (before κs) 1 κs a ws (r .head)) (passed .ensured r ws) (ensured r ws))
         (and-then ! (at-local ! 10 refl) (and-then ! (at-local ! 7 refl) (no-more !)))
         -- the locals, in their order again
-        (λ r. move ! (4 ∷ 5 ∷ 6 ∷ 7 ∷ 1 ∷ 8 ∷ 2 ∷ 9 ∷ 3 ∷ 10 ∷ []) $ released ! _ _ $ by ! (id⊢ 𝓤 _)))
+        (λ r. move ! (4 ∷ 5 ∷ 6 ∷ 7 ∷ 1 ∷ 8 ∷ 2 ∷ 9 ∷ 3 ∷ 10 ∷ []) $ released ! _ _ (Post (outcome-val r))))
 
 pub empty-log-spec : {M : Type 1} → stated.statement M
 unfolding code.routine tablesOf
