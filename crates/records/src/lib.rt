@@ -1,8 +1,8 @@
 // Records: public calls in the forms that 01 names for the edge, with structs lent by reference.
 //
 // Place in the picture: the top, over `track`. 01 wants the head of the log lent by `&mut` and moved on by the call itself (module `logs`).
-// The borrow checker's own plan covers no reference to a struct; so each function here is thin, one call by value and the stores after it,
-// and its proof is a walk of its code by hand. proofs/Thin has what the walks share.
+// The borrow checker's own plan covers no reference to a struct; so each function here is thin, one call with the struct by value and one
+// store, and its proof is a walk of its code by hand. proofs/Thin has what the walks share.
 //
 // What holds: what holds of the call that each function hands on to. The `ensures` are that call's own definitions, at what is lent here; so
 // nothing is required, a refusal leaves everything as it was, and nothing more is to be believed.
