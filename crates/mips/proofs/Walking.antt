@@ -19,8 +19,8 @@ use Rattle.ranges.specs.View.{view, blank, decode, Becomes, view-long, becomes-
 use Rattle.ranges.specs.Coalescing.{Coalesced}
 use Rattle.isolating.specs.Isolation.{Isolating}
 use Rattle.isolating.specs.declared.isolation.Isolated.{Isolated}
-use Rattle.mips.specs.declared.merging.Merged.{Merged}
-use Rattle.mips.specs.declared.merging.Met.the-variants.{Nothing, Conflict}
+use Rattle.mips.specs.declared.uniting.Merged.{Merged}
+use Rattle.mips.specs.declared.uniting.Met.the-variants.{Nothing, Conflict}
 use Rattle.mips.specs.Pass.{passed, passedCount, Passed}
 use Rattle.mips.specs.Merge.{runStops, runTakes, mergeRun, Walked, PieceMerged, EveryMerged}
 use Rattle.mips.proofs.Runs.{coalesced-live, the-run, into-run, ran}

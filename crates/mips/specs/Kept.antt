@@ -17,7 +17,7 @@ use Rattle.model.specs.RangedStates.{range, isolate, paint, coalesce, Tiles}
 use Rattle.model.specs.Texture.{mergeRange, settled, mergeEvery, learn}
 use Rattle.ranges.specs.View.{view, decode, view-long}
 use Rattle.isolating.specs.Tiling.{by-test, tiles-count, tiles-append, isolate-cuts, isolate-few, paint-tiles, coalesce-tiles, tiles-one}
-use Rattle.mips.specs.declared.merging.Merged.{Merged}
+use Rattle.mips.specs.declared.uniting.Merged.{Merged}
 use Rattle.mips.specs.Merge.{mergeRun, Walked}
 use Rattle.mips.specs.Paint.{Leaves, spreadOn}
 use Rattle.mips.specs.Learn.{learnt, LearnFits, LearnRoom}

@@ -14,9 +14,9 @@ use Rattle.model.specs.Representation.{select, layerStart, layerEnd, inMips}
 use Rattle.model.specs.RangedStates.{inState, isolate}
 use Rattle.model.specs.Texture.{Piece, invalidUse, mergeRange, settled, mergeMip, mergeEvery}
 use Rattle.ranges.specs.View.{decode}
-use Rattle.mips.specs.declared.merging.Met.{Met}
-use Rattle.mips.specs.declared.merging.Met.the-variants.{Nothing, Conflict}
-use Rattle.mips.specs.declared.merging.Merged.{Merged}
+use Rattle.mips.specs.declared.uniting.Met.{Met}
+use Rattle.mips.specs.declared.uniting.Met.the-variants.{Nothing, Conflict}
+use Rattle.mips.specs.declared.uniting.Merged.{Merged}
 
 -- ---- One range: it stops where there is no union, and otherwise takes it
 abbrev pub isNone : Option ℕ → Bool

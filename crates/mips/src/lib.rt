@@ -3,7 +3,7 @@
 // Place in the picture: over `ranges`, which cuts and joins ranges, and `usage`, which unites states; under `texture`, which goes over the
 // mips of a texture and knows where their records stand.
 //
-//     merging    a given state on the ranges of a run, or on every range: union by union, up to the first conflict
+//     uniting    a given state on the ranges of a run, or on every range: union by union, up to the first conflict
 //     painting   a run takes one state: what a first insert and an update do; a mip made anew
 //     learning   a mip of a tracker's start takes a state where the end's ranges are UNKNOWN
 //
@@ -11,15 +11,15 @@
 // records at exit and the answer are what the model's definition makes of the first `len` records at entry; numbers past the new count
 // are free. Room is asked for exactly; a mip that tiles its layers has it with as many records as layers (specs/Kept).
 pub mod learning;
-pub mod merging;
 pub mod painting;
+pub mod uniting;
 
 pub use learning::learn;
-pub use merging::Merged;
-pub use merging::Met;
-pub use merging::merge_every;
-pub use merging::merge_piece;
 pub use painting::fresh;
 pub use painting::paint;
 pub use painting::spread;
 pub use painting::update;
+pub use uniting::Merged;
+pub use uniting::Met;
+pub use uniting::merge_every;
+pub use uniting::merge_piece;

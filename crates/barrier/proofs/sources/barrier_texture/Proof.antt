@@ -6,8 +6,8 @@ use Rattle.model.specs.declared.UsageFlags.{UsageFlags}
 use mathlib.Core.Path.{sym, ap, _∙_}
 use native.Mathlib.Omega.{arith}
 use borrow.Author.Needs.{needs}
-use Rattle.barrier.proofs.texture.barrier_texture.Statement.{statement}
-use Rattle.barrier.proofs.texture.barrier_texture.Tie as tie
+use Rattle.barrier.proofs.sources.barrier_texture.Statement.{statement}
+use Rattle.barrier.proofs.sources.barrier_texture.Tie as tie
 
 flags-of-requires : tie.Need-flags-of-requires
 flags-of-requires c κs = search needs

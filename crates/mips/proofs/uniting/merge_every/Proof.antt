@@ -1,8 +1,8 @@
 -- `merge_every` is a merge of a run that is all of the mip.
 use Rattle.mips.proofs.Walking.{every-met, every-done}
 use borrow.Author.Needs.{needs}
-use Rattle.mips.proofs.merging.merge_every.Statement.{statement}
-use Rattle.mips.proofs.merging.merge_every.Tie as tie
+use Rattle.mips.proofs.uniting.merge_every.Statement.{statement}
+use Rattle.mips.proofs.uniting.merge_every.Tie as tie
 
 merge-run-requires : tie.Need-merge-run-requires
 merge-run-requires c κs = search needs

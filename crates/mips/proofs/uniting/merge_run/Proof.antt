@@ -6,8 +6,8 @@ use Rattle.mips.specs.Merge.{runStops, runTakes}
 use Rattle.mips.proofs.Passing.{Passing, start-of, turn, halt, finish}
 use Rattle.mips.proofs.Walking.{stops-at, goes-on, takes}
 use borrow.Author.Needs.{needs}
-use Rattle.mips.proofs.merging.merge_run.Statement.{statement}
-use Rattle.mips.proofs.merging.merge_run.Tie as tie
+use Rattle.mips.proofs.uniting.merge_run.Statement.{statement}
+use Rattle.mips.proofs.uniting.merge_run.Tie as tie
 
 abbrev Inv-loop : tie.InvT-loop
 Inv-loop s₀ from to p new k₀ s k = Passing (runStops p new) (runTakes p new) s₀ from to s k

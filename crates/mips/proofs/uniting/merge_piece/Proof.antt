@@ -1,8 +1,8 @@
 -- `merge_piece` is a merge of the run that `isolate` makes.
 use Rattle.mips.proofs.Walking.{piece-met, piece-done}
 use borrow.Author.Needs.{needs}
-use Rattle.mips.proofs.merging.merge_piece.Statement.{statement}
-use Rattle.mips.proofs.merging.merge_piece.Tie as tie
+use Rattle.mips.proofs.uniting.merge_piece.Statement.{statement}
+use Rattle.mips.proofs.uniting.merge_piece.Tie as tie
 
 isolate-requires : tie.Need-isolate-requires
 isolate-requires c κs = search needs

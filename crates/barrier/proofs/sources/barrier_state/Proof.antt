@@ -6,8 +6,8 @@ use Rattle.model.specs.declared.UsageFlags.{UsageFlags}
 use mathlib.Core.Path.{sym, ap, _∙_}
 use native.Mathlib.Omega.{arith}
 use borrow.Author.Needs.{needs}
-use Rattle.barrier.proofs.texture.barrier_state.Statement.{statement}
-use Rattle.barrier.proofs.texture.barrier_state.Tie as tie
+use Rattle.barrier.proofs.sources.barrier_state.Statement.{statement}
+use Rattle.barrier.proofs.sources.barrier_state.Tie as tie
 
 task-of-requires : tie.Need-task-of-requires
 task-of-requires c κs = search needs
