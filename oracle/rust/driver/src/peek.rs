@@ -103,19 +103,40 @@ impl Set {
     }
 
     pub fn put(&mut self, held: Held) {
-        let index = held.texture.tracker_index().as_usize();
         match self {
-            Set::Scope(scope) => {
-                put_half(&mut scope.set, index, &held.halves[0]);
-                unsafe { scope.metadata.insert(index, held.texture) };
-            }
-            Set::Tracker(tracker) => {
-                put_half(&mut tracker.start_set, index, &held.halves[0]);
-                put_half(&mut tracker.end_set, index, &held.halves[1]);
-                unsafe { tracker.metadata.insert(index, held.texture) };
-            }
+            Set::Scope(scope) => put_in_scope(scope, held),
+            Set::Tracker(tracker) => put_in_tracker(tracker, held),
         }
     }
+}
+
+pub(crate) fn put_in_scope(scope: &mut TextureUsageScope, held: Held) {
+    let index = held.texture.tracker_index().as_usize();
+    put_half(&mut scope.set, index, &held.halves[0]);
+    unsafe { scope.metadata.insert(index, held.texture) };
+}
+
+pub(crate) fn put_in_tracker(tracker: &mut TextureTracker, held: Held) {
+    let index = held.texture.tracker_index().as_usize();
+    put_half(&mut tracker.start_set, index, &held.halves[0]);
+    put_half(&mut tracker.end_set, index, &held.halves[1]);
+    unsafe { tracker.metadata.insert(index, held.texture) };
+}
+
+/// Makes a texture owned whose states are there.
+pub(crate) fn own(scope: &mut TextureUsageScope, texture: &Arc<Texture>) {
+    let index = texture.tracker_index().as_usize();
+    unsafe { scope.metadata.insert(index, Arc::clone(texture)) };
+}
+
+/// The pending transitions, which stay pending.
+pub(crate) fn pending(tracker: &TextureTracker) -> &[PendingTransition<TextureUses>] {
+    &tracker.temp
+}
+
+/// Forgets the pending transitions.
+pub(crate) fn forget(tracker: &mut TextureTracker) {
+    tracker.temp.clear();
 }
 
 pub(crate) fn owned_texture(scope: &TextureUsageScope, index: u32) -> Option<Arc<Texture>> {

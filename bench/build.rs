@@ -1,0 +1,11 @@
+//! Links the port: libexports.a, which `rt staticlib exports` writes. BENCH_ARCHIVE names another one.
+use std::{env, path::PathBuf};
+
+fn main() {
+    let package = PathBuf::from(env::var("CARGO_MANIFEST_DIR").unwrap());
+    let own = package.join("../target/staticlib/libexports.a");
+    let archive = env::var_os("BENCH_ARCHIVE").map_or(own, PathBuf::from);
+    println!("cargo:rustc-link-arg={}", archive.display());
+    println!("cargo:rerun-if-changed={}", archive.display());
+    println!("cargo:rerun-if-env-changed=BENCH_ARCHIVE");
+}

@@ -1,0 +1,116 @@
+//! Measures the port and wgpu-core's Rust, in one process, on the same calls.
+//!
+//!     bench [ROUNDS]                       the table of docs/BENCH.md
+//!     bench count CALL HELD TEXTURES LAYERS rust|port|test LAPS
+//!                                          only makes the calls, for an instruction counter
+mod cases;
+mod measure;
+#[rustfmt::skip]
+mod port;
+
+use cases::{Case, Join, Kind, MergeScope, MergeSingle, SetScope, SetSingle, Shape, Sparse};
+use measure::measure;
+
+const CALLS: [&str; 6] = [
+    "merge_single",
+    "merge_usage_scope",
+    "set_single",
+    "set_from_usage_scope",
+    "set_from_tracker",
+    "set_and_remove_from_usage_scope_sparse",
+];
+const TEXTURES: [u32; 3] = [1, 16, 64];
+
+fn case(call: &str, shape: Shape) -> Box<dyn Case> {
+    match call {
+        "merge_single" => Box::new(MergeSingle::new(shape)),
+        "merge_usage_scope" => Box::new(MergeScope::new(shape)),
+        "set_single" => Box::new(SetSingle::new(shape)),
+        "set_from_usage_scope" => Box::new(SetScope::new(shape)),
+        "set_from_tracker" => Box::new(Join::new(shape)),
+        "set_and_remove_from_usage_scope_sparse" => Box::new(Sparse::new(shape)),
+        _ => panic!("no such call: {call}"),
+    }
+}
+
+/// The kinds of textures and their layers that a call is measured with.
+fn shapes(call: &str) -> Vec<(&'static str, Kind, u32)> {
+    let mut shapes = vec![
+        ("Single", Kind::Single, 256),
+        ("Many", Kind::Many, 1),
+        ("Many", Kind::Many, 16),
+        ("Many", Kind::Many, 256),
+    ];
+    if call == "set_single" {
+        shapes.push(("cut", Kind::Cut, 256));
+    }
+    shapes
+}
+
+/// A time with three figures.
+fn nanoseconds(x: f64) -> String {
+    match x {
+        x if x < 99.95 => format!("{x:.1}"),
+        x if x < 1e5 => format!("{x:.0}"),
+        x => format!("{:.0},000", x / 1e3),
+    }
+}
+
+fn table(rounds: usize) {
+    println!("| call | textures | held | layers | Rust ns | port ns | ratio | of it the test | ratio beside the test |");
+    println!("|---|---|---|---|---|---|---|---|---|");
+    for call in CALLS {
+        for (name, kind, layers) in shapes(call) {
+            for textures in TEXTURES {
+                let shape = Shape {
+                    textures,
+                    kind,
+                    layers,
+                };
+                let times = measure(&mut *case(call, shape), rounds);
+                println!(
+                    "| {call} | {textures} | {name} | {layers} | {} | {} | {:.2} | {} | {:.2} |",
+                    nanoseconds(times.rust),
+                    nanoseconds(times.port),
+                    times.port / times.rust,
+                    nanoseconds(times.test),
+                    (times.port - times.test) / times.rust,
+                );
+            }
+        }
+    }
+}
+
+fn count(words: &[String]) {
+    let [call, kind, textures, layers, part, laps] = words else {
+        panic!("count CALL HELD TEXTURES LAYERS rust|port|test LAPS");
+    };
+    let kind = match kind.as_str() {
+        "Single" => Kind::Single,
+        "Many" => Kind::Many,
+        "cut" => Kind::Cut,
+        _ => panic!("no such kind: {kind}"),
+    };
+    let number = |word: &String| word.parse().expect("a number");
+    let shape = Shape {
+        textures: number(textures),
+        kind,
+        layers: number(layers),
+    };
+    let mut case = case(call, shape);
+    match part.as_str() {
+        "rust" => case.rust(number(laps)),
+        "port" => case.port(number(laps)),
+        "test" => case.test(number(laps)),
+        _ => panic!("no such part: {part}"),
+    }
+}
+
+fn main() {
+    let words: Vec<String> = std::env::args().skip(1).collect();
+    match words.first().map(String::as_str) {
+        Some("count") => count(&words[1..]),
+        Some(rounds) => table(rounds.parse().expect("a number of rounds")),
+        None => table(15),
+    }
+}
