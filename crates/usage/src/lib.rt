@@ -41,10 +41,7 @@ pub fn meets(a: u32, b: u32) -> bool
 pub fn incompatible(p: UsageFlags, s: u32) -> bool
     ensures { λ r. ⌜ r ≡ incompatibleOf p s ⌝ }
 {
-    if meets(s, p.exclusive) {
-        return !one_bit(s);
-    }
-    false
+    meets(s, p.exclusive) & !one_bit(s)
 }
 
 // `skip_barrier`: old equals new and the mask contains old.

@@ -5,3 +5,4 @@ pub mod Holding
 pub mod Agreeing
 pub mod Known
 pub mod Ends
+pub mod Telling

@@ -65,8 +65,11 @@ module _ {A : Type 0} (g : A → Bool) (f : ℕ → A) where
   unfolding listFrom
   every-none = refl
 
+  pub every-next : (n : ℕ) → every g (listFrom f 0 (n + 1)) ≡ every g (listFrom f 0 n) && g (f n)
+  every-next n = let e : 0 + n ≡ n = omega arith in rw (add-one, every-last 0 n, e)
+
   pub every-more : (n : ℕ) → every g (listFrom f 0 n) ≡ true → g (f n) ≡ true → every g (listFrom f 0 (n + 1)) ≡ true
-  every-more n a b = let e : 0 + n ≡ n = omega arith in rw (add-one, every-last 0 n, e, a, b)
+  every-more n a b = rw (every-next n, a, b)
 
   pub every-stop : (k n : ℕ) → every g (listFrom f 0 k) ≡ true → g (f k) ≡ false → k < n → every g (listFrom f 0 n) ≡ false
   every-stop k n a b h =
@@ -83,3 +86,12 @@ module _ {A : Type 0} (g : A → Bool) (f : ℕ → A) where
 
   pub every-at : (n k : ℕ) → every g (listFrom f 0 n) ≡ true → k < n → g (f k) ≡ true
   every-at n k a h = let e : 0 + k ≡ k = omega arith in rw e at (every-from 0 n k a h)
+
+-- where each position that passes one test passes another, and all pass the first, all pass the other
+pub every-also : {A B : Type 0} (g : A → Bool) (f : ℕ → A) (h : B → Bool) (k : ℕ → B) (n : ℕ) → ((i : ℕ) → i < n → g (f i) ≡ true → h (k i) ≡ true) → every g (listFrom f 0 n) ≡ true → every h (listFrom k 0 n) ≡ true
+every-also g f h k zero each a = every-none h k
+every-also g f h k (suc n) each a =
+    let z : 0 + n ≡ n = omega arith in
+    let x = both (every g (listFrom f 0 n)) (g (f (0 + n))) (rw (every-last g f 0 n) at a) in
+    let y : g (f n) ≡ true = rw z at (x .1) in
+    rw (every-last h k 0 n, z, every-also g f h k n (λ i l. each i (omega arith)) (x .0), each n (omega arith) y)

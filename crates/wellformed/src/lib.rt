@@ -4,10 +4,12 @@
 // model's definition (model/specs/WellFormed) at the view, so that a call that passes it has a well-formed set, and one that it
 // refuses has not.
 //
-// What holds: nothing is required and nothing is written. Every call pays for the test, so it looks at an index only if it is owned and
-// at ranges only if they are in use, once each. A scope is tested by `scope_fits`, a tracker by `tracker_fits`, which looks a second
-// time at the ranges of a Many half, to compare where start and end are UNKNOWN.
+// What holds: nothing is required and nothing is written. Every call pays for the test, so it is made in two passes: the words of every
+// index (`words`), which decide a set of Single textures, and then the ranges of the textures that are Many, once each. A scope is tested
+// by `scope_fits`, a tracker by `tracker_fits`, which looks a second time at the ranges of a Many half, to compare where start and end are
+// UNKNOWN. Tests of numbers are written with `&` and `|`, which make no branch, and are the definitions word for word.
 pub mod unknowns;
+pub mod words;
 
 use model::UsageFlags;
 use ranges::get;
@@ -25,43 +27,35 @@ pub use unknowns::tracker_fits;
 use usage::flags_fit;
 use usage::incompatible;
 use usage::meets;
+use words::plain_words;
+use words::scope_words;
 ghost use mathlib.Core.Path.{_≡_};
-ghost use mathlib.Core.Bool.{not};
+ghost use mathlib.Core.Bool.{true};
 ghost use Prim.Native.Nat.{_+_, _*_, _/_, _≤_, _<_};
 ghost use lib.Dec.{leb};
 ghost use lib.ListN.{length, getD};
 ghost use Rattle.model.specs.Base.{every};
-ghost use Rattle.model.specs.Sets.{outside, numbersFit};
+ghost use Rattle.model.specs.Sets.{outside as outsideOf, numbersFit};
 ghost use Rattle.model.specs.WellFormed.{stateFits, singleFits, rangesFit, heldFits, wellFormedScope};
 ghost use Rattle.ranges.specs.View.{decode};
-ghost use Rattle.storage.specs.Storage.{numbersOf, flagsOf, extentOf, mipOf, mipsOf, heldOf, scopeOf, startHalf};
+ghost use Rattle.storage.specs.Storage.{numbersOf, flagsOf, extentOf, mipOf, mipsOf, heldOf, scopeOf, startHalf, listFrom};
 ghost use Rattle.storage.specs.Frames.{Measured, MipReady};
 ghost use Rattle.wellformed.specs.Tests.{TextureReady, numbers, extentFits, headFits, scopeSlotFits, scopeSlotsFit};
+ghost use Rattle.wellformed.specs.Unknowns.{itself};
+ghost use Rattle.wellformed.specs.Words.{scopeWordFits};
 
 // "states nonzero, compatible, without COMPLEX", of 16 bits.
 pub fn state_fits(p: UsageFlags, s: u32) -> bool
     ensures { λ r. ⌜ r ≡ stateFits p s ⌝ }
 {
-    if s == 0 {
-        return false;
-    }
-    if 65536 <= s {
-        return false;
-    }
-    if incompatible(p, s) {
-        return false;
-    }
-    !meets(s, p.complex)
+    (s != 0) & (s < 65536) & !incompatible(p, s) & !meets(s, p.complex)
 }
 
 // A Single texture's state: without UNKNOWN too.
 pub fn single_fits(p: UsageFlags, s: u32) -> bool
     ensures { λ r. ⌜ r ≡ singleFits p s ⌝ }
 {
-    if state_fits(p, s) {
-        return !meets(s, p.unknown);
-    }
-    false
+    state_fits(p, s) & !meets(s, p.unknown)
 }
 
 // Whether the first `len` ranges tile the layers from 0 to `layers`, each in a state that fits.
@@ -160,37 +154,25 @@ pub fn held_fits(table: &Table, ranges: &[u32], half: usize, i: usize, p: UsageF
     single_fits(p, state)
 }
 
-// Whether x is from 1 to top.
-fn inside(x: u32, top: u32) -> bool
-    ensures { λ r. ⌜ r ≡ not (outside x top) ⌝ }
+// Whether x is not from 1 to top.
+fn outside(x: u32, top: u32) -> bool
+    ensures { λ r. ⌜ r ≡ outsideOf x top ⌝ }
 {
-    if x == 0 {
-        return false;
-    }
-    x <= top
+    (x == 0) | (top < x)
 }
 
 // 01, check 1: the numbers of textures, mips and layers.
 pub fn numbers_fit(n: u32, m: u32, w: u32) -> bool
     ensures { λ r. ⌜ r ≡ numbersFit (numbers n m w) ⌝ }
 {
-    if !inside(n, 64) {
-        return false;
-    }
-    if !inside(m, 16) {
-        return false;
-    }
-    inside(w, 256)
+    !outside(n, 64) & !outside(m, 16) & !outside(w, 256)
 }
 
 // 01, check 8: an extent within the set's.
 pub fn extent_fits(m: u32, w: u32, mips: u32, layers: u32) -> bool
     ensures { λ r. ⌜ r ≡ extentFits m w mips layers ⌝ }
 {
-    if !inside(mips, m) {
-        return false;
-    }
-    inside(layers, w)
+    !(outside(mips, m) | outside(layers, w))
 }
 
 // 01, check 3: room for the ranges of every mip; `room` is told in numbers, three a range.
@@ -214,25 +196,32 @@ pub fn head_fits(table: &Table, room: usize) -> bool
     room_fits(table[0], table[1], table[2], room)
 }
 
-// Index i of a scope.
+// Index i of a scope, whose words fit: where it is Many, its ranges.
 fn slot_fits(table: &Table, ranges: &[u32], i: usize, p: UsageFlags) -> bool
     requires { ⌜ TextureReady (numbersOf (now table)) startHalf (now table) (now ranges) i ⌝ }
     requires { ⌜ p ≡ flagsOf (now table) ⌝ }
+    requires { ⌜ scopeWordFits (now table) i ≡ true ⌝ }
     ensures { λ x. ⌜ x ≡ scopeSlotFits (now (table .entry)) (now (ranges .entry)) i ⌝ }
 {
-    if table[OWNED + i] == 0 {
+    if plain_words(p, table[OWNED + i], table[START + i]) {
         return true;
     }
-    if !extent_fits(table[1], table[2], table[MIPS + i], table[LAYERS + i]) {
-        return false;
-    }
-    held_fits(table, ranges, START, i, p)
+    mips_fit(
+        table,
+        ranges,
+        START,
+        i,
+        table[MIPS + i],
+        p,
+        table[LAYERS + i],
+    )
 }
 
-// Every index of a scope.
+// Every index of a scope whose words fit.
 fn slots_fit(table: &Table, ranges: &[u32], n: usize, p: UsageFlags) -> bool
     requires { ⌜ Measured (numbersOf (now table)) startHalf (now table) (now ranges) ⌝ }
     requires { ⌜ (n ≡ getD (now table) 0 0) × (p ≡ flagsOf (now table)) ⌝ }
+    requires { ⌜ every (scopeWordFits (now table)) (listFrom itself 0 n) ≡ true ⌝ }
     ensures { λ x. ⌜ x ≡ scopeSlotsFit (now (table .entry)) (now (ranges .entry)) n ⌝ }
 {
     let mut i = 0;
@@ -245,6 +234,22 @@ fn slots_fit(table: &Table, ranges: &[u32], n: usize, p: UsageFlags) -> bool
     true
 }
 
+// Every index of a scope: the words first, and the ranges only if there are any.
+fn all_fit(table: &Table, ranges: &[u32], n: usize, p: UsageFlags) -> bool
+    requires { ⌜ Measured (numbersOf (now table)) startHalf (now table) (now ranges) ⌝ }
+    requires { ⌜ (n ≡ getD (now table) 0 0) × (p ≡ flagsOf (now table)) ⌝ }
+    ensures { λ x. ⌜ x ≡ scopeSlotsFit (now (table .entry)) (now (ranges .entry)) n ⌝ }
+{
+    let x = scope_words(table, n, p);
+    if !x.fit {
+        return false;
+    }
+    if x.plain {
+        return true;
+    }
+    slots_fit(table, ranges, n, p)
+}
+
 // Whether a scope's storage is a well-formed scope with room for its ranges.
 pub fn scope_fits(table: &Table, ranges: &[u32]) -> bool
     ensures { λ x. ⌜ x ≡ wellFormedScope (length (now (ranges .entry)) / 3) (scopeOf (now (table .entry)) (now (ranges .entry))) ⌝ }
@@ -253,5 +258,5 @@ pub fn scope_fits(table: &Table, ranges: &[u32]) -> bool
     if !head_fits(table, ranges.len()) {
         return false;
     }
-    slots_fit(table, ranges, wide(table[0]), flags_of(table))
+    all_fit(table, ranges, wide(table[0]), flags_of(table))
 }

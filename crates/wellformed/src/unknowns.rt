@@ -2,10 +2,11 @@
 //
 // What holds: a Single state that fits is not UNKNOWN, so two Single halves agree with no further look. Of a Single and a Many half
 // the Many one must have no UNKNOWN range. Two Many halves are walked mip by mip with a place in each, once over the ranges of both.
-use crate::extent_fits;
 use crate::head_fits;
 use crate::held_fits;
 use crate::room_fits;
+use crate::words::plain_pair;
+use crate::words::tracker_words;
 use model::UsageFlags;
 use ranges::get;
 use storage::COUNTS;
@@ -20,15 +21,17 @@ use storage::flags_of;
 use storage::table_len;
 use storage::wide;
 ghost use mathlib.Core.Path.{_≡_};
+ghost use mathlib.Core.Bool.{true};
 ghost use Prim.Native.Nat.{_*_, _/_, _≤_};
 ghost use lib.ListN.{length, getD};
 ghost use Rattle.model.specs.Base.{every};
 ghost use Rattle.model.specs.WellFormed.{endsFit, wellFormedTracker};
 ghost use Rattle.ranges.specs.View.{decode};
-ghost use Rattle.storage.specs.Storage.{numbersOf, flagsOf, extentOf, startHalf, endHalf, mipOf, mipsOf, endsOf, trackerOf};
+ghost use Rattle.storage.specs.Storage.{numbersOf, flagsOf, extentOf, startHalf, endHalf, mipOf, mipsOf, endsOf, trackerOf, listFrom};
 ghost use Rattle.storage.specs.Frames.{Measured};
 ghost use Rattle.wellformed.specs.Tests.{TextureReady};
-ghost use Rattle.wellformed.specs.Unknowns.{agrees, layersAgree, isKnown, passed, SameLayers, MipFits, MipsFit, EndsReady, HalvesFit, mipAgrees, mipsAgree, endsAgree, trackerSlotFits, trackerSlotsFit};
+ghost use Rattle.wellformed.specs.Unknowns.{agrees, layersAgree, isKnown, passed, SameLayers, MipFits, MipsFit, EndsReady, HalvesFit, mipAgrees, mipsAgree, endsAgree, itself, trackerSlotFits, trackerSlotsFit};
+ghost use Rattle.wellformed.specs.Words.{trackerWordFits};
 
 // Whether two states are both exactly UNKNOWN, or neither.
 fn states_agree(a: u32, b: u32, u: u32) -> bool
@@ -189,27 +192,26 @@ fn ends_fit(table: &Table, starts: &[u32], ends: &[u32], i: usize, p: UsageFlags
     ends_agree(table, starts, ends, i, p)
 }
 
-// Index i of a tracker.
+// Index i of a tracker, whose words fit: where a half is Many, what it holds.
 fn slot_fits(table: &Table, starts: &[u32], ends: &[u32], i: usize, p: UsageFlags) -> bool
     requires { ⌜ TextureReady (numbersOf (now table)) startHalf (now table) (now starts) i ⌝ }
     requires { ⌜ TextureReady (numbersOf (now table)) endHalf (now table) (now ends) i ⌝ }
     requires { ⌜ p ≡ flagsOf (now table) ⌝ }
+    requires { ⌜ trackerWordFits (now table) i ≡ true ⌝ }
     ensures { λ x. ⌜ x ≡ trackerSlotFits (now (table .entry)) (now (starts .entry)) (now (ends .entry)) i ⌝ }
 {
-    if table[OWNED + i] == 0 {
+    if plain_pair(p, table[OWNED + i], table[START + i], table[END + i]) {
         return true;
-    }
-    if !extent_fits(table[1], table[2], table[MIPS + i], table[LAYERS + i]) {
-        return false;
     }
     ends_fit(table, starts, ends, i, p)
 }
 
-// Every index of a tracker.
+// Every index of a tracker whose words fit.
 fn slots_fit(table: &Table, starts: &[u32], ends: &[u32], n: usize, p: UsageFlags) -> bool
     requires { ⌜ Measured (numbersOf (now table)) startHalf (now table) (now starts) ⌝ }
     requires { ⌜ Measured (numbersOf (now table)) endHalf (now table) (now ends) ⌝ }
     requires { ⌜ (n ≡ getD (now table) 0 0) × (p ≡ flagsOf (now table)) ⌝ }
+    requires { ⌜ every (trackerWordFits (now table)) (listFrom itself 0 n) ≡ true ⌝ }
     ensures { λ x. ⌜ x ≡ trackerSlotsFit (now (table .entry)) (now (starts .entry)) (now (ends .entry)) n ⌝ }
 {
     let mut i = 0;
@@ -220,6 +222,23 @@ fn slots_fit(table: &Table, starts: &[u32], ends: &[u32], n: usize, p: UsageFlag
         i += 1;
     }
     true
+}
+
+// Every index of a tracker: the words first, and the ranges only if there are any.
+fn all_fit(table: &Table, starts: &[u32], ends: &[u32], n: usize, p: UsageFlags) -> bool
+    requires { ⌜ Measured (numbersOf (now table)) startHalf (now table) (now starts) ⌝ }
+    requires { ⌜ Measured (numbersOf (now table)) endHalf (now table) (now ends) ⌝ }
+    requires { ⌜ (n ≡ getD (now table) 0 0) × (p ≡ flagsOf (now table)) ⌝ }
+    ensures { λ x. ⌜ x ≡ trackerSlotsFit (now (table .entry)) (now (starts .entry)) (now (ends .entry)) n ⌝ }
+{
+    let x = tracker_words(table, n, p);
+    if !x.fit {
+        return false;
+    }
+    if x.plain {
+        return true;
+    }
+    slots_fit(table, starts, ends, n, p)
 }
 
 // Whether a tracker's storage is a well-formed tracker with room for the ranges of start and end.
@@ -233,5 +252,5 @@ pub fn tracker_fits(table: &Table, starts: &[u32], ends: &[u32]) -> bool
     if !room_fits(table[0], table[1], table[2], ends.len()) {
         return false;
     }
-    slots_fit(table, starts, ends, wide(table[0]), flags_of(table))
+    all_fit(table, starts, ends, wide(table[0]), flags_of(table))
 }

@@ -1,5 +1,4 @@
--- `incompatible` is the definition's two tests, in its order.
-use mathlib.Core.Path.{sym, _∙_}
+-- `incompatible` is the definition's two tests.
 use Rattle.model.specs.Flags.{incompatible}
 use borrow.Author.Needs.{needs}
 use Rattle.usage.proofs.incompatible.Statement.{statement}
@@ -13,11 +12,7 @@ one-bit-requires c κs = search needs
 
 returns : tie.Need-returns
 unfolding incompatible
-returns c = let m = sym (c .before .before .meets .ensures) ∙ (c .before .if1 .taken) in rw (m, (c .one-bit .ensures))
-
-returns-2 : tie.Need-returns-2
-unfolding incompatible
-returns-2 c = let m = sym (c .before .meets .ensures) ∙ (c .if1 .left) in rw m
+returns c = rw (c .before .meets .ensures, c .one-bit .ensures)
 
 pub incompatible-spec : {M : Type 1} → statement M
-incompatible-spec = tie.close (tie.spec meets-requires one-bit-requires returns returns-2)
+incompatible-spec = tie.close (tie.spec meets-requires one-bit-requires returns)

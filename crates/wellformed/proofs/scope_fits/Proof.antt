@@ -25,11 +25,11 @@ wide-requires c κs = search needs
 flags-of-requires : tie.Need-flags-of-requires
 flags-of-requires c κs = search needs
 
-slots-fit-requires : tie.Need-slots-fit-requires
-slots-fit-requires c κs = (head-measured _ _ (c .before .before .before .before .before .table-len .ensures .1) (sym (c .before .before .before .before .head-fits .ensures) ∙ not-false _ (c .before .before .before .if1 .left)), ((c .before .wide .ensures .0), (c .flags-of .ensures)))
+all-fit-requires : tie.Need-all-fit-requires
+all-fit-requires c κs = (head-measured _ _ (c .before .before .before .before .before .table-len .ensures .1) (sym (c .before .before .before .before .head-fits .ensures) ∙ not-false _ (c .before .before .before .if1 .left)), ((c .before .wide .ensures .0), (c .flags-of .ensures)))
 
 returns-2 : tie.Need-returns-2
-returns-2 c = rw (scope-is ((c .before .before .before .before .before .before .before .before .args) .table .now) ((c .before .before .before .before .before .before .before .before .args) .ranges .now), sym (c .before .before .before .before .before .head-fits .ensures) ∙ not-false _ (c .before .before .before .before .if1 .left)) (rw (c .before .before .wide .ensures .0) at (c .slots-fit .ensures))
+returns-2 c = rw (scope-is ((c .before .before .before .before .before .before .before .before .args) .table .now) ((c .before .before .before .before .before .before .before .before .args) .ranges .now), sym (c .before .before .before .before .before .head-fits .ensures) ∙ not-false _ (c .before .before .before .before .if1 .left)) (rw (c .before .before .wide .ensures .0) at (c .all-fit .ensures))
 
 pub scope-fits-spec : {M : Type 1} → statement M
 scope-fits-spec =
@@ -41,5 +41,5 @@ scope-fits-spec =
     element-copy-out-wide
     wide-requires
     flags-of-requires
-    slots-fit-requires
+    all-fit-requires
     returns-2)

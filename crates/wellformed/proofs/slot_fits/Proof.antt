@@ -1,76 +1,75 @@
--- `slot_fits` tests whether the index is owned, then its extent, then what it holds.
-use mathlib.Core.Path.{sym, _∙_}
-use borrow.Author.Tests.{eq-eqb, ne-eqb, not-true, not-false}
-use Rattle.wellformed.proofs.Numbers.{extent-in}
+-- `slot_fits` looks at the ranges of an index that is Many; of any other the words are the whole test.
+use mathlib.Core.Path.{refl, sym, _∙_}
+use Rattle.wellformed.proofs.Telling.{scope-plain, scope-extent, scope-many}
 use borrow.Author.Needs.{needs}
 use Rattle.wellformed.proofs.slot_fits.Statement.{statement}
 use Rattle.wellformed.proofs.slot_fits.Tie as tie
 
-add-if1 : tie.Need-add-if1
-add-if1 c = search needs
+add-plain-words : tie.Need-add-plain-words
+add-plain-words c = search needs
 
-mul-if1 : tie.Need-mul-if1
-mul-if1 c = search needs
+mul-plain-words : tie.Need-mul-plain-words
+mul-plain-words c = search needs
 
-element-copy-out-if1 : tie.Need-element-copy-out-if1
-element-copy-out-if1 c = search needs
+element-copy-out-plain-words : tie.Need-element-copy-out-plain-words
+element-copy-out-plain-words c = search needs
+
+add-plain-words-2 : tie.Need-add-plain-words-2
+add-plain-words-2 c = search needs
+
+mul-plain-words-2 : tie.Need-mul-plain-words-2
+mul-plain-words-2 c = search needs
+
+element-copy-out-plain-words-2 : tie.Need-element-copy-out-plain-words-2
+element-copy-out-plain-words-2 c = search needs
+
+plain-words-requires : tie.Need-plain-words-requires
+plain-words-requires c κs = search needs
 
 returns : tie.Need-returns
-returns c = rw (eq-eqb _ _ (c .if1 .taken))
+returns c = let a = (c .before .before .before .before .before .args) in let f = rw (c .before .before .before .before .before .pre .1 .0) at (sym (c .before .plain-words .ensures) ∙ (c .if1 .taken)) in sym (scope-plain (a .table .now) (a .ranges .now) (a .i) (c .before .before .before .before .before .pre .1 .1) f)
 
-element-copy-out-extent-fits : tie.Need-element-copy-out-extent-fits
-element-copy-out-extent-fits c = search needs
+add-mips-fit : tie.Need-add-mips-fit
+add-mips-fit c = search needs
 
-element-copy-out-extent-fits-2 : tie.Need-element-copy-out-extent-fits-2
-element-copy-out-extent-fits-2 c = search needs
+mul-mips-fit : tie.Need-mul-mips-fit
+mul-mips-fit c = search needs
 
-add-extent-fits : tie.Need-add-extent-fits
-add-extent-fits c = search needs
+element-copy-out-mips-fit : tie.Need-element-copy-out-mips-fit
+element-copy-out-mips-fit c = search needs
 
-mul-extent-fits : tie.Need-mul-extent-fits
-mul-extent-fits c = search needs
+add-mips-fit-2 : tie.Need-add-mips-fit-2
+add-mips-fit-2 c = search needs
 
-element-copy-out-extent-fits-3 : tie.Need-element-copy-out-extent-fits-3
-element-copy-out-extent-fits-3 c = search needs
+mul-mips-fit-2 : tie.Need-mul-mips-fit-2
+mul-mips-fit-2 c = search needs
 
-add-extent-fits-2 : tie.Need-add-extent-fits-2
-add-extent-fits-2 c = search needs
+element-copy-out-mips-fit-2 : tie.Need-element-copy-out-mips-fit-2
+element-copy-out-mips-fit-2 c = search needs
 
-mul-extent-fits-2 : tie.Need-mul-extent-fits-2
-mul-extent-fits-2 c = search needs
-
-element-copy-out-extent-fits-4 : tie.Need-element-copy-out-extent-fits-4
-element-copy-out-extent-fits-4 c = search needs
-
-extent-fits-requires : tie.Need-extent-fits-requires
-extent-fits-requires c κs = search needs
+mips-fit-requires : tie.Need-mips-fit-requires
+mips-fit-requires c κs = let b = (c .before .before .before .before .before .before .before .args) in let f = rw (c .before .before .before .before .before .before .before .pre .1 .0) at (sym (c .before .before .before .plain-words .ensures) ∙ (c .before .before .if1 .left)) in let x = scope-extent (b .table .now) (b .ranges .now) (b .i) (c .before .before .before .before .before .before .before .pre .1 .1) f in ((c .before .before .before .before .before .before .before .pre .0), (refl, (x .0 .high, x .1 .low)))
 
 returns-2 : tie.Need-returns-2
-returns-2 c = rw (ne-eqb _ _ (c .before .before .before .before .before .before .if1 .left), sym (c .before .extent-fits .ensures) ∙ not-true _ (c .if2 .taken))
-
-held-fits-requires : tie.Need-held-fits-requires
-held-fits-requires c κs = let x = extent-in _ _ _ _ (sym (c .before .extent-fits .ensures) ∙ not-false _ (c .if2 .left)) in ((c .before .before .before .before .before .before .before .before .before .pre .0), ((c .before .before .before .before .before .before .before .before .before .pre .1), (x .0 .high, x .1 .low)))
-
-returns-3 : tie.Need-returns-3
-returns-3 c = rw (ne-eqb _ _ (c .before .before .before .before .before .before .before .if1 .left), sym (c .before .before .extent-fits .ensures) ∙ not-false _ (c .before .if2 .left)) (rw (c .before .before .before .before .before .before .before .before .before .before .pre .1) at (c .held-fits .ensures))
+returns-2 c = let a = (c .before .before .before .before .before .before .before .before .args) in let f = rw (c .before .before .before .before .before .before .before .before .pre .1 .0) at (sym (c .before .before .before .before .plain-words .ensures) ∙ (c .before .before .before .if1 .left)) in (rw (c .before .before .before .before .before .before .before .before .pre .1 .0) at (c .mips-fit .ensures)) ∙ scope-many (a .table .now) (a .ranges .now) (a .i) (c .before .before .before .before .before .before .before .before .pre .1 .1) f
 
 pub slot-fits-spec : {M : Type 1} → statement M
 slot-fits-spec =
     tie.close
     (tie.spec
-    add-if1
-    mul-if1
-    element-copy-out-if1
+    add-plain-words
+    mul-plain-words
+    element-copy-out-plain-words
+    add-plain-words-2
+    mul-plain-words-2
+    element-copy-out-plain-words-2
+    plain-words-requires
     returns
-    element-copy-out-extent-fits
-    element-copy-out-extent-fits-2
-    add-extent-fits
-    mul-extent-fits
-    element-copy-out-extent-fits-3
-    add-extent-fits-2
-    mul-extent-fits-2
-    element-copy-out-extent-fits-4
-    extent-fits-requires
-    returns-2
-    held-fits-requires
-    returns-3)
+    add-mips-fit
+    mul-mips-fit
+    element-copy-out-mips-fit
+    add-mips-fit-2
+    mul-mips-fit-2
+    element-copy-out-mips-fit-2
+    mips-fit-requires
+    returns-2)

@@ -4,7 +4,9 @@ use native.Mathlib.Omega.{arith}
 use mathlib.Core.Path.{_≡_, sym, _∙_}
 use mathlib.Core.Bool.{true}
 use borrow.Author.Tests.{not-true, not-false}
-use Rattle.wellformed.specs.Tests.{scopeSlotsFit, every-none, every-more, every-stop}
+use Rattle.wellformed.specs.Tests.{scopeSlotsFit, every-none, every-more, every-stop, every-at}
+use Rattle.wellformed.specs.Unknowns.{itself}
+use Rattle.wellformed.specs.Words.{scopeWordFits}
 use borrow.Author.Needs.{needs}
 use Rattle.wellformed.proofs.slots_fit.Statement.{statement}
 use Rattle.wellformed.proofs.slots_fit.Tie as tie
@@ -19,7 +21,7 @@ loop-holds : tie.Need-loop-holds Inv-loop μ-loop
 loop-holds c = (omega arith, every-none _ _)
 
 slot-fits-requires : tie.Need-slot-fits-requires Inv-loop μ-loop
-slot-fits-requires c κs = (record { measured = (c .before .before .before .pre .0); texture = omega arith }, (c .before .before .before .pre .1 .1))
+slot-fits-requires c κs = let x = (c .before .before .before .pre) in (record { measured = x .0; texture = omega arith }, (x .1 .0 .1, every-at (scopeWordFits ((c .before .before .before .args) .table .now)) itself _ _ (x .1 .1) (c .loop-test .taken)))
 
 returns : tie.Need-returns Inv-loop μ-loop
 returns c = sym (every-stop _ _ _ _ (c .before .before .before .loop .inv .1) (sym (c .before .slot-fits .ensures) ∙ not-true _ (c .if1 .taken)) (c .before .before .loop-test .taken))

@@ -1,76 +1,63 @@
--- `slot_fits` tests whether the index is owned, then its extent, then what it holds.
+-- `slot_fits` looks at what an index holds where a half is Many; otherwise the words are the whole test.
 use mathlib.Core.Path.{sym, _∙_}
-use borrow.Author.Tests.{eq-eqb, ne-eqb, not-true, not-false}
-use Rattle.wellformed.proofs.Numbers.{extent-in}
+use Rattle.wellformed.proofs.Telling.{tracker-plain, tracker-extent, tracker-many}
 use borrow.Author.Needs.{needs}
 use Rattle.wellformed.proofs.unknowns.slot_fits.Statement.{statement}
 use Rattle.wellformed.proofs.unknowns.slot_fits.Tie as tie
 
-add-if1 : tie.Need-add-if1
-add-if1 c = search needs
+add-plain-pair : tie.Need-add-plain-pair
+add-plain-pair c = search needs
 
-mul-if1 : tie.Need-mul-if1
-mul-if1 c = search needs
+mul-plain-pair : tie.Need-mul-plain-pair
+mul-plain-pair c = search needs
 
-element-copy-out-if1 : tie.Need-element-copy-out-if1
-element-copy-out-if1 c = search needs
+element-copy-out-plain-pair : tie.Need-element-copy-out-plain-pair
+element-copy-out-plain-pair c = search needs
+
+add-plain-pair-2 : tie.Need-add-plain-pair-2
+add-plain-pair-2 c = search needs
+
+mul-plain-pair-2 : tie.Need-mul-plain-pair-2
+mul-plain-pair-2 c = search needs
+
+element-copy-out-plain-pair-2 : tie.Need-element-copy-out-plain-pair-2
+element-copy-out-plain-pair-2 c = search needs
+
+add-plain-pair-3 : tie.Need-add-plain-pair-3
+add-plain-pair-3 c = search needs
+
+mul-plain-pair-3 : tie.Need-mul-plain-pair-3
+mul-plain-pair-3 c = search needs
+
+element-copy-out-plain-pair-3 : tie.Need-element-copy-out-plain-pair-3
+element-copy-out-plain-pair-3 c = search needs
+
+plain-pair-requires : tie.Need-plain-pair-requires
+plain-pair-requires c κs = search needs
 
 returns : tie.Need-returns
-returns c = rw (eq-eqb _ _ (c .if1 .taken))
-
-element-copy-out-extent-fits : tie.Need-element-copy-out-extent-fits
-element-copy-out-extent-fits c = search needs
-
-element-copy-out-extent-fits-2 : tie.Need-element-copy-out-extent-fits-2
-element-copy-out-extent-fits-2 c = search needs
-
-add-extent-fits : tie.Need-add-extent-fits
-add-extent-fits c = search needs
-
-mul-extent-fits : tie.Need-mul-extent-fits
-mul-extent-fits c = search needs
-
-element-copy-out-extent-fits-3 : tie.Need-element-copy-out-extent-fits-3
-element-copy-out-extent-fits-3 c = search needs
-
-add-extent-fits-2 : tie.Need-add-extent-fits-2
-add-extent-fits-2 c = search needs
-
-mul-extent-fits-2 : tie.Need-mul-extent-fits-2
-mul-extent-fits-2 c = search needs
-
-element-copy-out-extent-fits-4 : tie.Need-element-copy-out-extent-fits-4
-element-copy-out-extent-fits-4 c = search needs
-
-extent-fits-requires : tie.Need-extent-fits-requires
-extent-fits-requires c κs = search needs
-
-returns-2 : tie.Need-returns-2
-returns-2 c = rw (ne-eqb _ _ (c .before .before .before .before .before .before .if1 .left), sym (c .before .extent-fits .ensures) ∙ not-true _ (c .if2 .taken))
+returns c = let a = (c .before .before .before .before .before .before .before .args) in let f = rw (c .before .before .before .before .before .before .before .pre .1 .1 .0) at (sym (c .before .plain-pair .ensures) ∙ (c .if1 .taken)) in sym (tracker-plain (a .table .now) (a .starts .now) (a .ends .now) (a .i) (c .before .before .before .before .before .before .before .pre .1 .1 .1) (c .before .before .before .before .before .before .before .pre .0) (c .before .before .before .before .before .before .before .pre .1 .0) f)
 
 ends-fit-requires : tie.Need-ends-fit-requires
-ends-fit-requires c κs = let x = extent-in _ _ _ _ (sym (c .before .extent-fits .ensures) ∙ not-false _ (c .if2 .left)) in let q = (c .before .before .before .before .before .before .before .before .before .before .pre) in record { start = q .0; end = q .1 .0; flags = q .1 .1; top = x .0 .high; some = x .1 .low }
+ends-fit-requires c κs = let b = (c .before .before .before .before .before .before .before .args) in let f = rw (c .before .before .before .before .before .before .before .pre .1 .1 .0) at (sym (c .before .plain-pair .ensures) ∙ (c .if1 .left)) in let x = tracker-extent (b .table .now) (b .starts .now) (b .ends .now) (b .i) (c .before .before .before .before .before .before .before .pre .1 .1 .1) f in record { start = (c .before .before .before .before .before .before .before .pre .0); end = (c .before .before .before .before .before .before .before .pre .1 .0); flags = (c .before .before .before .before .before .before .before .pre .1 .1 .0); top = x .0 .high; some = x .1 .low }
 
-returns-3 : tie.Need-returns-3
-returns-3 c = rw (ne-eqb _ _ (c .before .before .before .before .before .before .before .if1 .left), sym (c .before .before .extent-fits .ensures) ∙ not-false _ (c .before .if2 .left)) (rw (c .before .before .before .before .before .before .before .before .before .before .before .pre .1 .1) at (c .ends-fit .ensures))
+returns-2 : tie.Need-returns-2
+returns-2 c = let a = (c .before .before .before .before .before .before .before .before .args) in let f = rw (c .before .before .before .before .before .before .before .before .pre .1 .1 .0) at (sym (c .before .before .plain-pair .ensures) ∙ (c .before .if1 .left)) in (rw (c .before .before .before .before .before .before .before .before .pre .1 .1 .0) at (c .ends-fit .ensures)) ∙ tracker-many (a .table .now) (a .starts .now) (a .ends .now) (a .i) (c .before .before .before .before .before .before .before .before .pre .1 .1 .1) f
 
 pub slot-fits-spec : {M : Type 1} → statement M
 slot-fits-spec =
     tie.close
     (tie.spec
-    add-if1
-    mul-if1
-    element-copy-out-if1
+    add-plain-pair
+    mul-plain-pair
+    element-copy-out-plain-pair
+    add-plain-pair-2
+    mul-plain-pair-2
+    element-copy-out-plain-pair-2
+    add-plain-pair-3
+    mul-plain-pair-3
+    element-copy-out-plain-pair-3
+    plain-pair-requires
     returns
-    element-copy-out-extent-fits
-    element-copy-out-extent-fits-2
-    add-extent-fits
-    mul-extent-fits
-    element-copy-out-extent-fits-3
-    add-extent-fits-2
-    mul-extent-fits-2
-    element-copy-out-extent-fits-4
-    extent-fits-requires
-    returns-2
     ends-fit-requires
-    returns-3)
+    returns-2)

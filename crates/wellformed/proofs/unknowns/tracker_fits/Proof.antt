@@ -41,11 +41,11 @@ wide-requires c κs = search needs
 flags-of-requires : tie.Need-flags-of-requires
 flags-of-requires c κs = search needs
 
-slots-fit-requires : tie.Need-slots-fit-requires
-slots-fit-requires c κs = let h = sym (c .before .before .before .before .before .before .before .before .before .head-fits .ensures) ∙ not-false _ (c .before .before .before .before .before .before .before .before .if1 .left) in (head-measured _ _ (c .before .before .before .before .before .before .before .before .before .before .table-len .ensures .1) h, (measured 1288 _ _ (omega arith, omega arith) (c .before .before .before .before .before .before .before .before .before .before .table-len .ensures .1) (head-numbers _ _ h) (sym (c .before .before .before .before .room-fits .ensures) ∙ not-false _ (c .before .before .before .if2 .left)), ((c .before .wide .ensures .0), (c .flags-of .ensures))))
+all-fit-requires : tie.Need-all-fit-requires
+all-fit-requires c κs = let h = sym (c .before .before .before .before .before .before .before .before .before .head-fits .ensures) ∙ not-false _ (c .before .before .before .before .before .before .before .before .if1 .left) in (head-measured _ _ (c .before .before .before .before .before .before .before .before .before .before .table-len .ensures .1) h, (measured 1288 _ _ (omega arith, omega arith) (c .before .before .before .before .before .before .before .before .before .before .table-len .ensures .1) (head-numbers _ _ h) (sym (c .before .before .before .before .room-fits .ensures) ∙ not-false _ (c .before .before .before .if2 .left)), ((c .before .wide .ensures .0), (c .flags-of .ensures))))
 
 returns-3 : tie.Need-returns-3
-returns-3 c = let a = (c .before .before .before .before .before .before .before .before .before .before .before .before .before .before .args) in rw (tracker-is (a .table .now) (a .starts .now) (a .ends .now), sym (c .before .before .before .before .before .before .before .before .before .before .head-fits .ensures) ∙ not-false _ (c .before .before .before .before .before .before .before .before .before .if1 .left), sym (c .before .before .before .before .before .room-fits .ensures) ∙ not-false _ (c .before .before .before .before .if2 .left)) (rw (c .before .before .wide .ensures .0) at (c .slots-fit .ensures))
+returns-3 c = let a = (c .before .before .before .before .before .before .before .before .before .before .before .before .before .before .args) in rw (tracker-is (a .table .now) (a .starts .now) (a .ends .now), sym (c .before .before .before .before .before .before .before .before .before .before .head-fits .ensures) ∙ not-false _ (c .before .before .before .before .before .before .before .before .before .if1 .left), sym (c .before .before .before .before .before .room-fits .ensures) ∙ not-false _ (c .before .before .before .before .if2 .left)) (rw (c .before .before .wide .ensures .0) at (c .all-fit .ensures))
 
 pub tracker-fits-spec : {M : Type 1} → statement M
 tracker-fits-spec =
@@ -62,5 +62,5 @@ tracker-fits-spec =
     element-copy-out-wide
     wide-requires
     flags-of-requires
-    slots-fit-requires
+    all-fit-requires
     returns-3)
