@@ -2,7 +2,7 @@
 use Prim.Native.Nat.{ℕ, zero, suc, _+_, _*_, _-_, _≤_, _<_}
 use native.Mathlib.Omega.{arith}
 use mathlib.Core.Path.{_≡_, refl, sym, _∙_}
-use mathlib.Core.Bool.{Bool, true, false, _&&_, not}
+use mathlib.Core.Bool.{Bool, true, false, _&&_, not, false≢true}
 use mathlib.Core.List.{List, [], _∷_, _++_, map}
 use lib.Dec.{ltb, eqb}
 use lib.Bits.{bitAnd, and-self}
@@ -115,6 +115,30 @@ same-sym false false = refl
 
 pub agrees-sym : (u a b : ℕ) → agrees u a b ≡ agrees u b a
 agrees-sym u a b = same-sym (eqb a u) (eqb b u)
+
+-- ---- Two lists with no UNKNOWN range agree: each does with a state that is not UNKNOWN
+same-both : (a b c : Bool) → sameTest a b ≡ true → sameTest a c ≡ true → sameTest b c ≡ true
+same-both true true c e f = f
+same-both true false c e f = absurd (false≢true e)
+same-both false true c e f = absurd (false≢true e)
+same-both false false c e f = f
+
+all-both : {A : Type 0} (g : A → A → Bool) → ((x y z : A) → g x y ≡ true → g x z ≡ true → g y z ≡ true) → (l s t : List A) → all₂ g l s ≡ true → all₂ g l t ≡ true → all₂ g s t ≡ true
+all-both g each [] [] [] e f = refl
+all-both g each [] [] (z ∷ t) e f = absurd (false≢true f)
+all-both g each [] (y ∷ s) t e f = absurd (false≢true e)
+all-both g each (x ∷ l) [] t e f = absurd (false≢true e)
+all-both g each (x ∷ l) (y ∷ s) [] e f = absurd (false≢true f)
+all-both g each (x ∷ l) (y ∷ s) (z ∷ t) e f =
+    let a = both (g x y) (all₂ g l s) e in
+    let b = both (g x z) (all₂ g l t) f in
+    rw (each x y z (a .0) (b .0), all-both g each l s t (a .1) (b .1))
+
+pub known-agree : (u top : ℕ) (s t : List Range) → Tiles 0 s top → Tiles 0 t top → every (isKnown u) s ≡ true → every (isKnown u) t ≡ true → layersAgree u s t ≡ true
+known-agree u top s t a b e f =
+    let k = ne-eqb (u + 1) u (λ z. omega arith) in
+    all-both (agrees u) (λ x y z. same-both (eqb x u) (eqb y u) (eqb z u)) (replicate (top - 0) (u + 1)) (layerStates s) (layerStates t)
+    (layers-known u (u + 1) k s 0 top a ∙ e) (layers-known u (u + 1) k t 0 top b ∙ f)
 
 -- mips side by side, position by position
 pub mips-beside : (u : ℕ) (f g : ℕ → List Range) (k n : ℕ) → all₂ (all₂ (agrees u)) (map layerStates (listFrom f k n)) (map layerStates (listFrom g k n)) ≡ every (λ (m : ℕ). layersAgree u (f m) (g m)) (listFrom itself k n)

@@ -1,7 +1,8 @@
 // The test of a tracker: each half as a scope's, and that start and end are exactly UNKNOWN at the same subresources.
 //
 // What holds: a Single state that fits is not UNKNOWN, so two Single halves agree with no further look. Of a Single and a Many half
-// the Many one must have no UNKNOWN range. Two Many halves are walked mip by mip with a place in each, once over the ranges of both.
+// the Many one must have no UNKNOWN range. Two Many halves agree on a mip where neither has one; otherwise that mip is walked with a place
+// in each, once over the ranges of both.
 use crate::head_fits;
 use crate::held_fits;
 use crate::room_fits;
@@ -85,6 +86,19 @@ fn ranges_known(s: &[u32], len: usize, u: u32) -> bool
     true
 }
 
+// The same, with no walk where no range is UNKNOWN.
+fn layers_agree(a: &[u32], la: usize, b: &[u32], lb: usize, u: u32) -> bool
+    requires { ⌜ SameLayers (now a) la (now b) lb ⌝ }
+    ensures { λ r. ⌜ r ≡ layersAgree u (decode la (now (a .entry))) (decode lb (now (b .entry))) ⌝ }
+{
+    if ranges_known(a, la, u) {
+        if ranges_known(b, lb, u) {
+            return true;
+        }
+    }
+    ranges_agree(a, la, b, lb, u)
+}
+
 // Mip m of texture i in both halves.
 fn mip_agrees(table: &Table, starts: &[u32], ends: &[u32], i: usize, m: u32, p: UsageFlags) -> bool
     requires { ⌜ MipFits p startHalf (now table) (now starts) i m ⌝ }
@@ -98,7 +112,7 @@ fn mip_agrees(table: &Table, starts: &[u32], ends: &[u32], i: usize, m: u32, p: 
     let lb = wide(table[END + COUNTS + (16 * i + k)]);
     let b = base(i, k, all, deep, starts.len());
     let e = b + deep * 3;
-    ranges_agree(&starts[b..e], la, &ends[b..e], lb, p.unknown)
+    layers_agree(&starts[b..e], la, &ends[b..e], lb, p.unknown)
 }
 
 // Mip m of texture i in one half, where the other is Single.

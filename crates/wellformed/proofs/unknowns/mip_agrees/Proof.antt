@@ -72,35 +72,35 @@ mul-e c = search needs
 add-e : tie.Need-add-e
 add-e c = search needs
 
-mul-ranges-agree : tie.Need-mul-ranges-agree
-mul-ranges-agree c = search needs
+mul-layers-agree : tie.Need-mul-layers-agree
+mul-layers-agree c = search needs
 
-sub-ranges-agree : tie.Need-sub-ranges-agree
-sub-ranges-agree c = search needs
+sub-layers-agree : tie.Need-sub-layers-agree
+sub-layers-agree c = search needs
 
-part-ranges-agree-start : tie.Need-part-ranges-agree-start
-part-ranges-agree-start c = search needs
+part-layers-agree-start : tie.Need-part-layers-agree-start
+part-layers-agree-start c = search needs
 
-part-ranges-agree-end : tie.Need-part-ranges-agree-end
-part-ranges-agree-end c = search needs
+part-layers-agree-end : tie.Need-part-layers-agree-end
+part-layers-agree-end c = search needs
 
-mul-ranges-agree-2 : tie.Need-mul-ranges-agree-2
-mul-ranges-agree-2 c = search needs
+mul-layers-agree-2 : tie.Need-mul-layers-agree-2
+mul-layers-agree-2 c = search needs
 
-sub-ranges-agree-2 : tie.Need-sub-ranges-agree-2
-sub-ranges-agree-2 c = search needs
+sub-layers-agree-2 : tie.Need-sub-layers-agree-2
+sub-layers-agree-2 c = search needs
 
-part-ranges-agree-start-2 : tie.Need-part-ranges-agree-start-2
-part-ranges-agree-start-2 c = search needs
+part-layers-agree-start-2 : tie.Need-part-layers-agree-start-2
+part-layers-agree-start-2 c = search needs
 
-part-ranges-agree-end-2 : tie.Need-part-ranges-agree-end-2
-part-ranges-agree-end-2 c = let eb = rw ((c .before .before .before .before .before .before .before .before .before .before .wide .ensures .0), (c .before .before .before .before .before .before .before .before .wide2 .ensures .0), (c .before .before .before .before .before .before .wide3 .ensures .0)) at (c .before .base .ensures .0) in omega (arith, eb, (c .before .before .before .before .before .before .wide3 .ensures .0), mip-room (c .before .before .before .before .before .before .before .before .before .before .before .before .before .pre .1))
+part-layers-agree-end-2 : tie.Need-part-layers-agree-end-2
+part-layers-agree-end-2 c = let eb = rw ((c .before .before .before .before .before .before .before .before .before .before .wide .ensures .0), (c .before .before .before .before .before .before .before .before .wide2 .ensures .0), (c .before .before .before .before .before .before .wide3 .ensures .0)) at (c .before .base .ensures .0) in omega (arith, eb, (c .before .before .before .before .before .before .wide3 .ensures .0), mip-room (c .before .before .before .before .before .before .before .before .before .before .before .before .before .pre .1))
 
-ranges-agree-requires : tie.Need-ranges-agree-requires
-ranges-agree-requires c κs = let en = rw (c .before .before .before .before .before .before .before .before .before .before .before .wide .ensures .0) at (c .before .before .before .before .before .wide4 .ensures .0) in let eb = rw ((c .before .before .before .before .before .before .before .before .before .before .before .wide .ensures .0), (c .before .before .before .before .before .before .before .before .before .wide2 .ensures .0), (c .before .before .before .before .before .before .before .wide3 .ensures .0)) at (c .before .before .base .ensures .0) in let el = rw (c .before .before .before .before .before .before .before .before .before .before .before .wide .ensures .0) at (c .before .before .before .wide5 .ensures .0) in same-layers (c .before .before .before .before .before .before .before .before .before .before .before .before .before .before .pre .0) (c .before .before .before .before .before .before .before .before .before .before .before .before .before .before .pre .1) _ _ _ _ en el (c .before .before .before .before .before .before .before .wide3 .ensures .0) eb
+layers-agree-requires : tie.Need-layers-agree-requires
+layers-agree-requires c κs = let en = rw (c .before .before .before .before .before .before .before .before .before .before .before .wide .ensures .0) at (c .before .before .before .before .before .wide4 .ensures .0) in let eb = rw ((c .before .before .before .before .before .before .before .before .before .before .before .wide .ensures .0), (c .before .before .before .before .before .before .before .before .before .wide2 .ensures .0), (c .before .before .before .before .before .before .before .wide3 .ensures .0)) at (c .before .before .base .ensures .0) in let el = rw (c .before .before .before .before .before .before .before .before .before .before .before .wide .ensures .0) at (c .before .before .before .wide5 .ensures .0) in same-layers (c .before .before .before .before .before .before .before .before .before .before .before .before .before .before .pre .0) (c .before .before .before .before .before .before .before .before .before .before .before .before .before .before .pre .1) _ _ _ _ en el (c .before .before .before .before .before .before .before .wide3 .ensures .0) eb
 
 returns : tie.Need-returns
-returns c = let en = rw (c .before .before .before .before .before .before .before .before .before .before .before .before .wide .ensures .0) at (c .before .before .before .before .before .before .wide4 .ensures .0) in let eb = rw ((c .before .before .before .before .before .before .before .before .before .before .before .before .wide .ensures .0), (c .before .before .before .before .before .before .before .before .before .before .wide2 .ensures .0), (c .before .before .before .before .before .before .before .before .wide3 .ensures .0)) at (c .before .before .before .base .ensures .0) in let el = rw (c .before .before .before .before .before .before .before .before .before .before .before .before .wide .ensures .0) at (c .before .before .before .before .wide5 .ensures .0) in rw (mip-fits-seen (c .before .before .before .before .before .before .before .before .before .before .before .before .before .before .before .pre .0) _ _ _ en (c .before .before .before .before .before .before .before .before .wide3 .ensures .0) eb, mip-fits-seen (c .before .before .before .before .before .before .before .before .before .before .before .before .before .before .before .pre .1) _ _ _ el (c .before .before .before .before .before .before .before .before .wide3 .ensures .0) eb) (c .ranges-agree .ensures)
+returns c = let en = rw (c .before .before .before .before .before .before .before .before .before .before .before .before .wide .ensures .0) at (c .before .before .before .before .before .before .wide4 .ensures .0) in let eb = rw ((c .before .before .before .before .before .before .before .before .before .before .before .before .wide .ensures .0), (c .before .before .before .before .before .before .before .before .before .before .wide2 .ensures .0), (c .before .before .before .before .before .before .before .before .wide3 .ensures .0)) at (c .before .before .before .base .ensures .0) in let el = rw (c .before .before .before .before .before .before .before .before .before .before .before .before .wide .ensures .0) at (c .before .before .before .before .wide5 .ensures .0) in rw (mip-fits-seen (c .before .before .before .before .before .before .before .before .before .before .before .before .before .before .before .pre .0) _ _ _ en (c .before .before .before .before .before .before .before .before .wide3 .ensures .0) eb, mip-fits-seen (c .before .before .before .before .before .before .before .before .before .before .before .before .before .before .before .pre .1) _ _ _ el (c .before .before .before .before .before .before .before .before .wide3 .ensures .0) eb) (c .layers-agree .ensures)
 
 pub mip-agrees-spec : {M : Type 1} → statement M
 mip-agrees-spec =
@@ -128,13 +128,13 @@ mip-agrees-spec =
     base-requires
     mul-e
     add-e
-    mul-ranges-agree
-    sub-ranges-agree
-    part-ranges-agree-start
-    part-ranges-agree-end
-    mul-ranges-agree-2
-    sub-ranges-agree-2
-    part-ranges-agree-start-2
-    part-ranges-agree-end-2
-    ranges-agree-requires
+    mul-layers-agree
+    sub-layers-agree
+    part-layers-agree-start
+    part-layers-agree-end
+    mul-layers-agree-2
+    sub-layers-agree-2
+    part-layers-agree-start-2
+    part-layers-agree-end-2
+    layers-agree-requires
     returns)
