@@ -1,24 +1,37 @@
--- `coalesce` is the pass of `Joining`.
+-- `coalesce` reads up to the first record that joins, and from there on is the pass of `Joining`.
 use Prim.Native.Nat.{_-_}
+use mathlib.Core.Path.{refl}
+use Rattle.ranges.proofs.Joining.{Joining, all-apart, joining-from, turn-yes, turn-no, finish, none}
 use borrow.Author.Needs.{needs}
-use Rattle.ranges.proofs.Joining.{Joining, start-of, turn-yes, turn-no, finish, none}
 use Rattle.ranges.proofs.coalescing.coalesce.Statement.{statement}
 use Rattle.ranges.proofs.coalescing.coalesce.Tie as tie
 
 abbrev Inv-loop : tie.InvT-loop
-Inv-loop s₀ len w₀ i₀ cur₀ s w i cur = Joining s₀ len s w i cur
+Inv-loop s₀ len i₀ w₀ cur₀ s i w cur = Joining s₀ len s w i cur
 
 abbrev μ-loop : tie.MeasureT-loop
-μ-loop s₀ len w₀ i₀ cur₀ s w i cur = len - i
+μ-loop s₀ len i₀ w₀ cur₀ s i w cur = len - i
 
 returns : tie.Need-returns Inv-loop μ-loop
 returns c = search none
+
+first-join-requires : tie.Need-first-join-requires Inv-loop μ-loop
+first-join-requires c κs = search needs
+
+same-length : tie.Need-same-length Inv-loop μ-loop
+same-length c = search needs
+
+returns-2 : tie.Need-returns-2 Inv-loop μ-loop
+returns-2 c = all-apart (c .before .before .before .before .before .pre) (c .before .first-join .ensures) (c .if2 .taken)
+
+sub-w : tie.Need-sub-w Inv-loop μ-loop
+sub-w c = search needs
 
 get-requires : tie.Need-get-requires Inv-loop μ-loop
 get-requires c κs = search needs
 
 loop-holds : tie.Need-loop-holds Inv-loop μ-loop
-loop-holds c = search start-of
+loop-holds c = joining-from (c .before .before .before .first-join .ensures) refl (c .get .ensures)
 
 get-requires-2 : tie.Need-get-requires-2 Inv-loop μ-loop
 get-requires-2 c κs = search needs
@@ -45,11 +58,7 @@ loop-less-2 : tie.Need-loop-less-2 Inv-loop μ-loop
 loop-less-2 c = search needs
 
 loop-again-2 : tie.Need-loop-again-2 Inv-loop μ-loop
-loop-again-2 c =
-    let branch = c .before .before .before .before in
-    let body = branch .before .before .before .before in
-    let head = body .before in
-    turn-no (head .before .before .before .before .before .pre) (head .loop .inv) (body .loop-test .taken) (branch .before .before .get2 .ensures) (branch .before .joins .ensures) (branch .if2 .left) (c .before .before .put .ensures)
+loop-again-2 c = turn-no (c .before .before .before .before .before .before .before .before .before .before .before .before .before .before .before .before .before .pre) (c .before .before .before .before .before .before .before .before .before .loop .inv) (c .before .before .before .before .before .before .before .before .loop-test .taken) (c .before .before .before .before .before .before .get2 .ensures) (c .before .before .before .before .before .joins .ensures) (c .before .before .before .before .if3 .left) (c .before .before .put .ensures)
 
 put-requires-2 : tie.Need-put-requires-2 Inv-loop μ-loop
 put-requires-2 c κs = search needs
@@ -60,11 +69,11 @@ add-w-2 c = search needs
 clear-requires : tie.Need-clear-requires Inv-loop μ-loop
 clear-requires c κs = search needs
 
-same-length : tie.Need-same-length Inv-loop μ-loop
-same-length c = search needs
+same-length-2 : tie.Need-same-length-2 Inv-loop μ-loop
+same-length-2 c = search needs
 
-returns-2 : tie.Need-returns-2 Inv-loop μ-loop
-returns-2 c = search finish
+returns-3 : tie.Need-returns-3 Inv-loop μ-loop
+returns-3 c = search finish
 
 pub coalesce-spec : {M : Type 1} → statement M
 coalesce-spec =
@@ -73,6 +82,10 @@ coalesce-spec =
     Inv-loop
     μ-loop
     returns
+    first-join-requires
+    same-length
+    returns-2
+    sub-w
     get-requires
     loop-holds
     get-requires-2
@@ -87,5 +100,5 @@ coalesce-spec =
     put-requires-2
     add-w-2
     clear-requires
-    same-length
-    returns-2)
+    same-length-2
+    returns-3)
