@@ -1,1 +1,3 @@
-pub mod Thin
+pub mod Bools
+pub mod Laws
+pub mod Walks

@@ -1,15 +1,20 @@
-// Records: public calls in the forms that 01 names for the edge, with structs lent by reference.
+// Records: `isolate`, `coalesce` and `iter_filter` over a borrowed run of range records, the form that 01 names for them.
 //
-// Place in the picture: the top, over `track`. 01 wants the head of the log lent by `&mut` and moved on by the call itself (module `logs`).
-// The borrow checker's own plan covers no reference to a struct; so each function here is thin, one call with the struct by value and one
-// store, and its proof is a walk of its code by hand. proofs/Thin has what the walks share.
+// Place in the picture: beside `range_calls`, which has the same calls on plain numbers, and over its answers; nothing stands above. 01:
+// "take the strip as a lent run of range records", "although their proofs are long and done by hand": the borrow checker's own plan covers no
+// slice of structs, so each function that has the records in hand is walked by hand.
 //
-// What holds: what holds of the call that each function hands on to. The `ensures` are that call's own definitions, at what is lent here; so
-// nothing is required, a refusal leaves everything as it was, and nothing more is to be believed.
-pub mod logs;
+//     decisions   what a pass has found, what a call answers, which record is written next: on plain numbers, proved as any function
+//     strips      the passes over the records, and the three calls
+//
+// What holds: nothing is required. Each answer, and the records afterwards, equal the definitions of model/specs/RangeCalls, as those of
+// `range_calls` do (range_calls/specs/Answers); a refusal (10, 14, 15) leaves every record as it was, and no room is asked of the caller.
+// specs/Passes says what each pass computes, in the direction of its loop. In proofs/, Laws shows that the passes together are the model's
+// calls, and Walks has the rules by which code that has records in hand is walked.
+pub mod decisions;
+pub mod strips;
 
-pub use logs::empty_log;
-pub use logs::set_and_remove_from_usage_scope_sparse;
-pub use logs::set_from_tracker;
-pub use logs::set_from_usage_scope;
-pub use logs::set_single;
+pub use strips::RangeRecord;
+pub use strips::coalesce;
+pub use strips::isolate;
+pub use strips::iter_filter;

@@ -1,0 +1,15 @@
+// Heads: the calls that log, with the head of the log lent by `&mut`, the form that 01 names for it.
+//
+// Place in the picture: the top, over `track`. 01: "the head of the log, entries written and entries free, is lent and moved on by the call
+// itself". The borrow checker's own plan covers no reference to a struct; so each function is thin, one call with the head by value and
+// one store, and its proof is a walk of its code by hand. proofs/Thin has what the walks share.
+//
+// What holds: what holds of the call that each function hands on to. The `ensures` are that call's own definitions, at what is lent here; so
+// nothing is required, a refusal leaves everything as it was, and nothing more is to be believed.
+pub mod logs;
+
+pub use logs::empty_log;
+pub use logs::set_and_remove_from_usage_scope_sparse;
+pub use logs::set_from_tracker;
+pub use logs::set_from_usage_scope;
+pub use logs::set_single;

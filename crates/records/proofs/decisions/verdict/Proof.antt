@@ -1,0 +1,20 @@
+-- `verdict` is check 14.
+use Rattle.records.specs.Passes.{verdictOf}
+use mathlib.Core.Path.{sym, _∙_}
+use borrow.Author.Needs.{needs}
+use Rattle.records.proofs.decisions.verdict.Statement.{statement}
+use Rattle.records.proofs.decisions.verdict.Tie as tie
+
+out-of-order-requires : tie.Need-out-of-order-requires
+out-of-order-requires c κs = search needs
+
+returns : tie.Need-returns
+unfolding verdictOf
+returns c = rw (sym ((c .before .out-of-order .ensures) .0) ∙ (c .if1 .taken))
+
+returns-2 : tie.Need-returns-2
+unfolding verdictOf
+returns-2 c = rw (sym ((c .before .out-of-order .ensures) .0) ∙ (c .if1 .left))
+
+pub verdict-spec : {M : Type 1} → statement M
+verdict-spec = tie.close (tie.spec out-of-order-requires returns returns-2)
