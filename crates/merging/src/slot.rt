@@ -11,6 +11,7 @@ use texture::Stopped;
 use texture::from_set::insert_given;
 use texture::from_set::merge_given;
 use texture::using::insert_use;
+use texture::using::merge_single_use;
 use texture::using::merge_use;
 use texture::using::own;
 ghost use Rattle.model.specs.Calls.{mergeSlot, mergeGiven};
@@ -39,6 +40,13 @@ pub fn merge_use_at(
         own(table, i, extent);
         insert_use(table, ranges, START, i, extent, all, q, p, new);
         return Stopped::Nowhere;
+    }
+    let cur = table[START + i];
+    if cur == p.complex {
+        return merge_use(table, ranges, START, i, extent, all, q, p, new);
+    }
+    if all {
+        return merge_single_use(table, ranges, START, i, extent, true, q, p, cur, new);
     }
     merge_use(table, ranges, START, i, extent, all, q, p, new)
 }

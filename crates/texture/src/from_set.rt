@@ -4,6 +4,7 @@ use crate::Doing;
 use crate::Stopped;
 use crate::every::fresh_mips;
 use crate::giving::give_mips;
+use crate::using::merge_single_use;
 use crate::using::merge_use;
 use crate::using::set_state;
 use model::Extent;
@@ -92,12 +93,15 @@ pub fn merge_given(
     ensures { λ x. ⌜ HalfMerged (numbersOf (now (table .entry))) half i (merge p extent (heldOf (numbersOf (now (table .entry))) half (now (table .entry)) (now (ranges .entry)) i) (fromHeld (heldOf (numbersOf (now (given .entry))) from (now (given .entry)) (now (lent .entry)) i))) (now (table .entry)) (now (ranges .entry)) x (now (table .exit)) (now (ranges .exit)) ⌝ }
 {
     let word = given[from + i];
+    let cur = table[half + i];
     if word != p.complex {
         let q = full(extent);
+        if cur != p.complex {
+            return merge_single_use(table, ranges, half, i, extent, true, q, p, cur, word);
+        }
         return merge_use(table, ranges, half, i, extent, true, q, p, word);
     }
     let mips = wide(extent.mips);
-    let cur = table[half + i];
     if cur == p.complex {
         return give_mips(
             table,
