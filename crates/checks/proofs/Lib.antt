@@ -1,3 +1,4 @@
 pub mod Tests
 pub mod Verdicts
 pub mod Turns
+pub mod Passing

@@ -2,9 +2,10 @@
 use Prim.Native.Nat.{ℕ, zero, suc, _+_, _≤_, _<_}
 use native.Mathlib.Omega.{arith}
 use mathlib.Core.Path.{_≡_, refl, ap, _∙_}
-use mathlib.Core.Bool.{Bool, true, false, not}
+use mathlib.Core.Bool.{Bool, true, false, _||_, not}
 use mathlib.Core.List.{List, [], _∷_}
 use mathlib.Core.Option.{Option, none, some}
+use lib.Dec.{eqb}
 use lib.ListN.{length, getD}
 use borrow.Author.Tests.{lt-ltb, le-ltb}
 use Rattle.model.specs.declared.Refusal.{Refusal}
@@ -12,10 +13,10 @@ use Rattle.model.specs.declared.Refusal.the-variants.{FlagsDiffer, NoSuchIndex}
 use Rattle.model.specs.declared.Outcome.{Outcome}
 use Rattle.model.specs.Base.{if_then_else_, each, eachAt}
 use Rattle.model.specs.Flags.{sameFlags}
-use Rattle.model.specs.Refusals.{Check, firstFailing, flagsCheck, ownedChecks, setRefusal, sparseChecks, sparseRefusal, trackerIndex}
+use Rattle.model.specs.Refusals.{Check, firstFailing, extentOutside, otherExtent, flagsCheck, ownedChecks, setRefusal, sparseChecks, sparseRefusal, trackerIndex}
 use Rattle.model.specs.Log.{verdict, orNext}
 use Rattle.storage.specs.Part.{by-lt}
-use Rattle.storage.specs.Storage.{flagsOf, listFrom}
+use Rattle.storage.specs.Storage.{numbersOf, flagsOf, extentOf, listFrom}
 use Rattle.checks.specs.Head.{ownedExtent, headIn, extent-at, checks-append}
 use Rattle.checks.specs.Verdict.{none-both}
 
@@ -35,6 +36,13 @@ listedRefusal t g i = firstFailing (sparseChecks (headIn t) (headIn g) i)
 -- the same at the k-th of a list
 abbrev pub listedAt : List ℕ → List ℕ → List ℕ → ℕ → Option Refusal
 listedAt t g list k = listedRefusal t g (getD list k 0)
+
+-- 8 and 9 pass at index i, if the given set g owns it
+abbrev pub ownedPasses : List ℕ → List ℕ → ℕ → Bool
+ownedPasses t g i = eqb (getD g (8 + i) 0) 0 || not (extentOutside (numbersOf t) (extentOf g i) || otherExtent (ownedExtent t i) (extentOf g i))
+
+pub record AllPass (t g : List ℕ) (n : ℕ) : Type 0 where
+  pub each : (i : ℕ) → i < n → ownedPasses t g i ≡ true
 
 -- THE CONTRACTS: the answer of each
 pub record OwnedTold (t g : List ℕ) (i : ℕ) (x : Outcome) : Type 0 where

@@ -36,13 +36,8 @@ pub fn other_extent(table: &Table, k: usize, extent: Extent) -> bool
     requires { ⌜ k < 64 ⌝ }
     ensures { λ r. ⌜ r ≡ otherExtent (ownedExtent (now (table .entry)) k) extent ⌝ }
 {
-    if table[OWNED + k] == 0 {
-        return false;
-    }
-    if table[MIPS + k] != extent.mips {
-        return true;
-    }
-    table[LAYERS + k] != extent.layers
+    let same = (table[MIPS + k] == extent.mips) & (table[LAYERS + k] == extent.layers);
+    (table[OWNED + k] != 0) & !same
 }
 
 // 7, 8, 9: a texture.

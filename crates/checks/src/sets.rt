@@ -1,8 +1,9 @@
 // Checks over sets: 01's table from 6 to 9, for every texture that a given set owns, or for the listed ones of a scope.
 //
 // What holds: 7, 8 and 9 are `check_texture`'s, at the extent that the given set has. A set is looked at by ascending index, a list in
-// its order, and the first check that fails is told.
+// its order, and the first check that fails is told. Of a set it is first asked whether all pass, which finds out faster.
 use crate::check_texture;
+use crate::other_extent;
 use model::Extent;
 use model::Outcome;
 use model::Refusal;
@@ -14,11 +15,12 @@ use storage::Table;
 use storage::flags_of;
 use storage::wide;
 ghost use mathlib.Core.Path.{_≡_};
+ghost use mathlib.Core.Bool.{true};
 ghost use Prim.Native.Nat.{_≤_, _<_};
 ghost use lib.ListN.{getD};
 ghost use Rattle.model.specs.Flags.{sameFlags};
 ghost use Rattle.storage.specs.Storage.{flagsOf};
-ghost use Rattle.checks.specs.Sets.{OwnedTold, ListedTold, SetTold, SparseTold};
+ghost use Rattle.checks.specs.Sets.{ownedPasses, AllPass, OwnedTold, ListedTold, SetTold, SparseTold};
 
 // 6: whether two tables hold the same flags.
 pub fn same_flags(table: &Table, given: &Table) -> bool
@@ -52,14 +54,38 @@ pub fn check_listed(table: &Table, given: &Table, index: TrackerIndex) -> Outcom
     check_owned(table, given, index)
 }
 
-// 6 to 9: every texture that a given set owns, ascending.
-pub fn check_set(table: &Table, given: &Table) -> Outcome
+// Whether 8 and 9 pass at index k, with the extent that the given set has, if it owns it.
+fn owned_passes(table: &Table, given: &Table, k: usize) -> bool
+    requires { ⌜ k < 64 ⌝ }
+    ensures { λ r. ⌜ r ≡ ownedPasses (now (table .entry)) (now (given .entry)) k ⌝ }
+{
+    let mips = given[MIPS + k];
+    let layers = given[LAYERS + k];
+    let outside = (mips == 0) | (table[1] < mips) | ((layers == 0) | (table[2] < layers));
+    let other = other_extent(table, k, Extent { mips, layers });
+    (given[OWNED + k] == 0) | !(outside | other)
+}
+
+// Whether they pass at every index below n, in one pass without branches.
+fn all_pass(table: &Table, given: &Table, n: usize) -> bool
+    requires { ⌜ n ≤ 64 ⌝ }
+    ensures { λ r. ⌜ (r ≡ true → AllPass (now (table .entry)) (now (given .entry)) n) ⌝ }
+{
+    let mut pass = true;
+    let mut i = 0;
+    while i < n {
+        pass = pass & owned_passes(table, given, i);
+        i += 1;
+    }
+    pass
+}
+
+// 7 to 9: every texture that a given set owns, ascending, up to the first that does not pass.
+fn check_each(table: &Table, given: &Table) -> Outcome
     requires { ⌜ (getD (now table) 0 0 ≤ 64) × (getD (now given) 0 0 ≤ 64) ⌝ }
+    requires { ⌜ sameFlags (flagsOf (now table)) (flagsOf (now given)) ≡ true ⌝ }
     ensures { λ x. ⌜ SetTold (now (table .entry)) (now (given .entry)) x ⌝ }
 {
-    if !same_flags(table, given) {
-        return Outcome::Refused(Refusal::FlagsDiffer);
-    }
     let n = given[0];
     let mut i = 0;
     while i < n {
@@ -68,6 +94,23 @@ pub fn check_set(table: &Table, given: &Table) -> Outcome
             Outcome::Refused(r) => return Outcome::Refused(r),
             Outcome::Conflict(k) => return Outcome::Conflict(k),
         }
+    }
+    Outcome::Done
+}
+
+// 6 to 9: every texture that a given set owns. Nearly always all pass; only where one may not are they looked at one by one.
+pub fn check_set(table: &Table, given: &Table) -> Outcome
+    requires { ⌜ (getD (now table) 0 0 ≤ 64) × (getD (now given) 0 0 ≤ 64) ⌝ }
+    ensures { λ x. ⌜ SetTold (now (table .entry)) (now (given .entry)) x ⌝ }
+{
+    if !same_flags(table, given) {
+        return Outcome::Refused(Refusal::FlagsDiffer);
+    }
+    if table[0] < given[0] {
+        return check_each(table, given);
+    }
+    if !all_pass(table, given, wide(given[0])) {
+        return check_each(table, given);
     }
     Outcome::Done
 }

@@ -1,33 +1,26 @@
--- `other_extent` is the definition's tests, in its order.
-use native.Mathlib.Omega.{arith}
-use Rattle.checks.proofs.Tests.{tests}
+-- An index that is not owned has no extent to differ from.
+use Rattle.checks.proofs.Passing.{other-is}
 use borrow.Author.Needs.{needs}
 use Rattle.checks.proofs.other_extent.Statement.{statement}
 use Rattle.checks.proofs.other_extent.Tie as tie
 
-add-if1 : tie.Need-add-if1
-add-if1 c = search needs
+add-same : tie.Need-add-same
+add-same c = search needs
 
-mul-if1 : tie.Need-mul-if1
-mul-if1 c = search needs
+mul-same : tie.Need-mul-same
+mul-same c = search needs
 
-element-copy-out-if1 : tie.Need-element-copy-out-if1
-element-copy-out-if1 c = search needs
+element-copy-out-same : tie.Need-element-copy-out-same
+element-copy-out-same c = search needs
 
-returns : tie.Need-returns
-returns c = search tests
+add-same-2 : tie.Need-add-same-2
+add-same-2 c = search needs
 
-add-if2 : tie.Need-add-if2
-add-if2 c = search needs
+mul-same-2 : tie.Need-mul-same-2
+mul-same-2 c = search needs
 
-mul-if2 : tie.Need-mul-if2
-mul-if2 c = search needs
-
-element-copy-out-if2 : tie.Need-element-copy-out-if2
-element-copy-out-if2 c = search needs
-
-returns-2 : tie.Need-returns-2
-returns-2 c = search tests
+element-copy-out-same-2 : tie.Need-element-copy-out-same-2
+element-copy-out-same-2 c = search needs
 
 add-result : tie.Need-add-result
 add-result c = search needs
@@ -38,22 +31,20 @@ mul-result c = search needs
 element-copy-out-result : tie.Need-element-copy-out-result
 element-copy-out-result c = search needs
 
-returns-3 : tie.Need-returns-3
-returns-3 c = search tests
+returns : tie.Need-returns
+returns c = other-is ((c .before .before .before .before .before .args) .table .now) ((c .before .before .before .before .before .args) .k) ((c .before .before .before .before .before .args) .extent)
 
 pub other-extent-spec : {M : Type 1} → statement M
 other-extent-spec =
     tie.close
     (tie.spec
-    add-if1
-    mul-if1
-    element-copy-out-if1
-    returns
-    add-if2
-    mul-if2
-    element-copy-out-if2
-    returns-2
+    add-same
+    mul-same
+    element-copy-out-same
+    add-same-2
+    mul-same-2
+    element-copy-out-same-2
     add-result
     mul-result
     element-copy-out-result
-    returns-3)
+    returns)

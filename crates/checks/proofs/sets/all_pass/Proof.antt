@@ -1,0 +1,39 @@
+-- One index more is one test more.
+use Prim.Native.Nat.{_≤_, _-_}
+use mathlib.Core.Path.{_≡_}
+use mathlib.Core.Bool.{true}
+use Rattle.checks.specs.Sets.{AllPass}
+use Rattle.checks.proofs.Passing.{passes-more, passes-nothing}
+use native.Mathlib.Omega.{arith}
+use borrow.Author.Needs.{needs}
+use Rattle.checks.proofs.sets.all_pass.Statement.{statement}
+use Rattle.checks.proofs.sets.all_pass.Tie as tie
+
+abbrev Inv-loop : tie.InvT-loop
+Inv-loop table given n pass₀ i₀ pass i = (i ≤ n) × (pass ≡ true → AllPass table given i)
+
+abbrev μ-loop : tie.MeasureT-loop
+μ-loop table given n pass₀ i₀ pass i = n - i
+
+loop-holds : tie.Need-loop-holds Inv-loop μ-loop
+loop-holds c = (omega arith, λ z. passes-nothing _ _)
+
+owned-passes-requires : tie.Need-owned-passes-requires Inv-loop μ-loop
+owned-passes-requires c κs = search needs
+
+add-i : tie.Need-add-i Inv-loop μ-loop
+add-i c = search needs
+
+loop-less : tie.Need-loop-less Inv-loop μ-loop
+loop-less c = search needs
+
+loop-again : tie.Need-loop-again Inv-loop μ-loop
+loop-again c = (omega arith, passes-more _ _ (c .before .before .loop .inv .1) (c .owned-passes .ensures))
+
+returns : tie.Need-returns Inv-loop μ-loop
+returns c = let z : (c .before .loop .i) ≡ ((c .before .before .args) .n) = omega arith in rw (← z) (c .before .loop .inv .1)
+
+pub all-pass-spec : {M : Type 1} → statement M
+all-pass-spec =
+    tie.close
+    (tie.spec Inv-loop μ-loop loop-holds owned-passes-requires add-i loop-less loop-again returns)
