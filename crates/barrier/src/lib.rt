@@ -26,5 +26,6 @@ pub use entries::entry_count;
 pub use entries::get_entry;
 pub use entries::put_entry;
 pub use sources::barrier_selector;
+pub use sources::barrier_single;
 pub use sources::barrier_state;
 pub use sources::barrier_texture;

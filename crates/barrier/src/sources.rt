@@ -23,7 +23,8 @@ ghost use mathlib.Core.Path.{_≡_};
 ghost use mathlib.Core.List.{[], _∷_};
 ghost use Prim.Native.Nat.{_≤_, _<_};
 ghost use Rattle.model.specs.Representation.{full as fullOf};
-ghost use Rattle.model.specs.Texture.{givenSingle, givenMany, fromHeld, barrier};
+ghost use Rattle.model.specs.StateRules.{moveOf};
+ghost use Rattle.model.specs.Texture.{givenSingle, givenMany, fromHeld, entry, barrier};
 ghost use Rattle.storage.specs.Storage.{numbersOf, endHalf, heldOf};
 ghost use Rattle.barrier.specs.Logged.{Room, Logged};
 ghost use Rattle.barrier.specs.Ready.{Textured, Selects};
@@ -59,6 +60,27 @@ fn task_of(i: usize, p: UsageFlags, mask: u32, write: bool) -> Task
     }
 }
 
+// The transition of all of a texture that is held as one state to another.
+pub fn barrier_single(
+    i: usize,
+    extent: Extent,
+    p: UsageFlags,
+    mask: u32,
+    cur: u32,
+    new: u32,
+    log: &mut [u32],
+    at: usize,
+    write: bool,
+) -> usize
+    requires { ⌜ i < 64 ⌝ }
+    requires { ⌜ Room write (now log) at (entry (fullOf extent) (moveOf (p .unknown) mask cur new)) ⌝ }
+    ensures { λ x. ⌜ Logged 1 i write (now (log .entry)) at (entry (fullOf extent) (moveOf (p .unknown) mask cur new)) x (now (log .exit)) ⌝ }
+{
+    let t = task_of(i, p, mask, write);
+    let q = full(extent);
+    log_move(q, cur, new, t, log, at)
+}
+
 // The transitions to one state.
 pub fn barrier_state(
     table: &Table,
@@ -84,8 +106,7 @@ pub fn barrier_state(
         let top = extent.mips;
         return log_mips(table, ends, END, i, 0, top, Step::To(new), t, log, at);
     }
-    let q = full(extent);
-    log_move(q, cur, new, t, log, at)
+    barrier_single(i, extent, p, mask, cur, new, log, at, write)
 }
 
 // The transitions of what a selector names to one state. A Single texture makes one entry over all the mips of the selector.

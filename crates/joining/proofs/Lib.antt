@@ -1,3 +1,4 @@
+pub mod Plain
 pub mod Adding
 pub mod Setting
 pub mod Answers

@@ -1,6 +1,6 @@
 // Every texture that a given set owns: its transitions, and what it becomes.
-use crate::slot::log_owned_at;
-use crate::slot::set_owned_at;
+use crate::slot::log_at;
+use crate::slot::set_at;
 use model::UsageFlags;
 use storage::Table;
 ghost use mathlib.Core.Path.{_≡_};
@@ -33,7 +33,7 @@ pub fn log_set(
     let mut x = 0;
     let mut k = 0;
     while k < n {
-        let y = log_owned_at(
+        let y = log_at(
             table,
             ends,
             k,
@@ -71,7 +71,7 @@ pub fn set_slots(
 {
     let mut k = 0;
     while k < n {
-        set_owned_at(table, starts, ends, k, given, first, from, last, to, p);
+        set_at(table, starts, ends, k, given, first, from, last, to, p);
         k += 1;
     }
 }

@@ -1,5 +1,6 @@
 // One texture of a tracker takes what a given set holds at the same index: `insert_or_barrier_update` of texture.rs, where the states
 // come from `set_from_usage_scope` or `set_from_tracker`.
+use barrier::barrier_single;
 use barrier::barrier_texture;
 use model::Extent;
 use model::UsageFlags;
@@ -11,6 +12,7 @@ use storage::START;
 use storage::Table;
 use texture::from_set::insert_given;
 use texture::using::own;
+use texture::using::set_state;
 use updating::from_set::update_given;
 ghost use Prim.Native.Nat.{_≤_};
 ghost use Rattle.model.specs.Calls.{setSlot};
@@ -164,4 +166,78 @@ pub fn log_owned_at(
         at,
         write,
     )
+}
+
+// The same, with no call for a Single texture to a Single one.
+pub fn log_at(
+    table: &Table,
+    ends: &[u32],
+    i: usize,
+    p: UsageFlags,
+    mask: u32,
+    given: &Table,
+    first: &[u32],
+    from: usize,
+    log: &mut [u32],
+    at: usize,
+    write: bool,
+) -> usize
+    requires { ⌜ LogsAt (now table) (now ends) i from (now given) (now first) ⌝ }
+    requires { ⌜ at ≤ logTop ⌝ }
+    requires { ⌜ Room write (now log) at (givenEntries p mask (now table) (now ends) from (now given) (now first) i) ⌝ }
+    ensures { λ x. ⌜ Logged 1048576 i write (now (log .entry)) at (givenEntries p mask (now (table .entry)) (now (ends .entry)) from (now (given .entry)) (now (first .entry)) i) x (now (log .exit)) ⌝ }
+{
+    if given[OWNED + i] == 0 {
+        return 0;
+    }
+    if table[OWNED + i] == 0 {
+        return 0;
+    }
+    let new = given[from + i];
+    if new == given[5] {
+        return log_owned_at(table, ends, i, p, mask, given, first, from, log, at, write);
+    }
+    let cur = table[END + i];
+    if cur == table[5] {
+        return log_owned_at(table, ends, i, p, mask, given, first, from, log, at, write);
+    }
+    let mips = given[MIPS + i];
+    let layers = given[LAYERS + i];
+    let extent = Extent { mips, layers };
+    barrier_single(i, extent, p, mask, cur, new, log, at, write)
+}
+
+// What the texture becomes, if the set owns index i, with no call for a Single texture that takes a Single one.
+pub fn set_at(
+    table: &mut Table,
+    starts: &mut [u32],
+    ends: &mut [u32],
+    i: usize,
+    given: &Table,
+    first: &[u32],
+    from: usize,
+    last: &[u32],
+    to: usize,
+    p: UsageFlags,
+)
+    requires { ⌜ SetsAt (now table) (now starts) (now ends) i from to (now given) (now first) (now last) p ⌝ }
+    ensures { λ _. ⌜ SlotSet (now (table .entry)) (now (starts .entry)) (now (ends .entry)) i (slotAfter p from to (now (given .entry)) (now (first .entry)) (now (last .entry)) i (slotOf (now (table .entry)) (now (starts .entry)) (now (ends .entry)) i)) (now (table .exit)) (now (starts .exit)) (now (ends .exit)) ⌝ }
+{
+    if given[OWNED + i] == 0 {
+        return;
+    }
+    if table[OWNED + i] == 0 {
+        set_owned_at(table, starts, ends, i, given, first, from, last, to, p);
+        return;
+    }
+    let new = given[to + i];
+    if new == p.complex {
+        set_owned_at(table, starts, ends, i, given, first, from, last, to, p);
+        return;
+    }
+    if table[END + i] == p.complex {
+        set_owned_at(table, starts, ends, i, given, first, from, last, to, p);
+        return;
+    }
+    set_state(table, END, i, new);
 }

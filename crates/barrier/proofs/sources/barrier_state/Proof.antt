@@ -25,25 +25,22 @@ element-copy-out-cur : tie.Need-element-copy-out-cur
 element-copy-out-cur c = search needs
 
 log-mips-requires : tie.Need-log-mips-requires
-log-mips-requires c κs = (ready ((c .before .before .before .before .before .before .before .before .pre) .0) ((c .before .if1 .taken) ∙ ap (λ (f : UsageFlags). f .complex) (c .before .before .before .before .flags-of .ensures)) _ (omega arith), (omega arith, (((c .before .before .before .before .before .before .before .before .pre) .1 .0), rw (c .before .before .before .before .before .task-of .ensures) (rw (state-many ((c .before .before .before .before .before .before .before .before .pre) .0) (c .before .before .before .before .before .before .before .before .args .p) (c .before .before .before .before .before .before .before .before .args .mask) (c .before .before .before .before .before .before .before .before .args .new) ((c .before .if1 .taken) ∙ ap (λ (f : UsageFlags). f .complex) (c .before .before .before .before .flags-of .ensures))) at ((c .before .before .before .before .before .before .before .before .pre) .1 .1)))))
+log-mips-requires c κs = (ready (c .before .before .before .before .before .before .before .before .pre .0) ((c .before .if1 .taken) ∙ ap (λ (f : UsageFlags). f .complex) (c .before .before .before .before .flags-of .ensures)) _ (omega arith), (omega arith, ((c .before .before .before .before .before .before .before .before .pre .1 .0), rw (c .before .before .before .before .before .task-of .ensures) (rw (state-many (c .before .before .before .before .before .before .before .before .pre .0) ((c .before .before .before .before .before .before .before .before .args) .p) ((c .before .before .before .before .before .before .before .before .args) .mask) ((c .before .before .before .before .before .before .before .before .args) .new) ((c .before .if1 .taken) ∙ ap (λ (f : UsageFlags). f .complex) (c .before .before .before .before .flags-of .ensures))) at (c .before .before .before .before .before .before .before .before .pre .1 .1)))))
 
 same-length : tie.Need-same-length
 same-length c = search needs
 
 returns : tie.Need-returns
-returns c = rw (state-many ((c .before .before .before .before .before .before .before .before .before .before .before .pre) .0) (c .before .before .before .before .before .before .before .before .before .before .before .args .p) (c .before .before .before .before .before .before .before .before .before .before .before .args .mask) (c .before .before .before .before .before .before .before .before .before .before .before .args .new) ((c .before .before .before .before .if1 .taken) ∙ ap (λ (f : UsageFlags). f .complex) (c .before .before .before .before .before .before .before .flags-of .ensures))) (rw (c .before .before .before .before .before .before .before .before .task-of .ensures) at (c .before .before .log-mips .ensures))
+returns c = rw (state-many (c .before .before .before .before .before .before .before .before .before .before .before .pre .0) ((c .before .before .before .before .before .before .before .before .before .before .before .args) .p) ((c .before .before .before .before .before .before .before .before .before .before .before .args) .mask) ((c .before .before .before .before .before .before .before .before .before .before .before .args) .new) ((c .before .before .before .before .if1 .taken) ∙ ap (λ (f : UsageFlags). f .complex) (c .before .before .before .before .before .before .before .flags-of .ensures))) (rw (c .before .before .before .before .before .before .before .before .task-of .ensures) at (c .before .before .log-mips .ensures))
 
-full-requires : tie.Need-full-requires
-full-requires c κs = search needs
-
-log-move-requires : tie.Need-log-move-requires
-log-move-requires c κs = rw ((c .before .full .ensures), (c .before .before .before .before .before .before .task-of .ensures)) (rw (state-single ((c .before .before .before .before .before .before .before .before .before .pre) .0) (c .before .before .before .before .before .before .before .before .before .args .p) (c .before .before .before .before .before .before .before .before .before .args .mask) (c .before .before .before .before .before .before .before .before .before .args .new) (λ z. (c .before .before .if1 .left) (z ∙ sym (ap (λ (f : UsageFlags). f .complex) (c .before .before .before .before .before .flags-of .ensures))))) at ((c .before .before .before .before .before .before .before .before .before .pre) .1 .1))
+barrier-single-requires : tie.Need-barrier-single-requires
+barrier-single-requires c κs = (omega (arith, (c .before .before .before .before .before .before .before .before .pre .0) .texture, (c .before .before .before .before .before .before .before .before .pre .0) .measured .textures), rw (state-single (c .before .before .before .before .before .before .before .before .pre .0) ((c .before .before .before .before .before .before .before .before .args) .p) ((c .before .before .before .before .before .before .before .before .args) .mask) ((c .before .before .before .before .before .before .before .before .args) .new) (λ z. (c .before .if1 .left) (z ∙ sym (ap (λ (f : UsageFlags). f .complex) (c .before .before .before .before .flags-of .ensures))))) at (c .before .before .before .before .before .before .before .before .pre .1 .1))
 
 same-length-2 : tie.Need-same-length-2
 same-length-2 c = search needs
 
 returns-2 : tie.Need-returns-2
-returns-2 c = rw (state-single ((c .before .before .before .before .before .before .before .before .before .before .before .before .pre) .0) (c .before .before .before .before .before .before .before .before .before .before .before .before .args .p) (c .before .before .before .before .before .before .before .before .before .before .before .before .args .mask) (c .before .before .before .before .before .before .before .before .before .before .before .before .args .new) (λ z. (c .before .before .before .before .before .if1 .left) (z ∙ sym (ap (λ (f : UsageFlags). f .complex) (c .before .before .before .before .before .before .before .before .flags-of .ensures))))) (logged-within 4096 (omega arith) (rw ((c .before .before .before .before .full .ensures), (c .before .before .before .before .before .before .before .before .before .task-of .ensures)) at (c .before .before .log-move .ensures)))
+returns-2 c = rw (state-single (c .before .before .before .before .before .before .before .before .before .before .before .pre .0) ((c .before .before .before .before .before .before .before .before .before .before .before .args) .p) ((c .before .before .before .before .before .before .before .before .before .before .before .args) .mask) ((c .before .before .before .before .before .before .before .before .before .before .before .args) .new) (λ z. (c .before .before .before .before .if1 .left) (z ∙ sym (ap (λ (f : UsageFlags). f .complex) (c .before .before .before .before .before .before .before .flags-of .ensures))))) (logged-within 4096 (omega arith) (c .before .before .barrier-single .ensures))
 
 pub barrier-state-spec : {M : Type 1} → statement M
 barrier-state-spec =
@@ -57,7 +54,6 @@ barrier-state-spec =
     log-mips-requires
     same-length
     returns
-    full-requires
-    log-move-requires
+    barrier-single-requires
     same-length-2
     returns-2)

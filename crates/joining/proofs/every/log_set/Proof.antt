@@ -15,14 +15,14 @@ abbrev μ-loop : tie.MeasureT-loop
 loop-holds : tie.Need-loop-holds Inv-loop μ-loop
 loop-holds c = adding-start _ _ _ _ _
 
-add-log-owned-at : tie.Need-add-log-owned-at Inv-loop μ-loop
-add-log-owned-at c = let p = c .before .before .before .before .before .before .pre in let v = c .before .before .loop .inv in omega (arith, v .within, v .into .few, p .0 .few, p .1 .0, (c .before .loop-test .taken))
+add-log-at : tie.Need-add-log-at Inv-loop μ-loop
+add-log-at c = let p = c .before .before .before .before .before .before .pre in let v = c .before .before .loop .inv in omega (arith, v .within, v .into .few, p .0 .few, p .1 .0, (c .before .loop-test .taken))
 
-log-owned-at-requires : tie.Need-log-owned-at-requires Inv-loop μ-loop
-log-owned-at-requires c κs = let p = c .before .before .before .before .before .before .pre in let v = c .before .before .loop .inv in let b = c .before .loop-test .taken in (p .0 .each _ b, (omega (arith, v .within, v .into .few, p .0 .few, p .1 .0, b), adding-room v b (p .1 .1)))
+log-at-requires : tie.Need-log-at-requires Inv-loop μ-loop
+log-at-requires c κs = let p = c .before .before .before .before .before .before .pre in let v = c .before .before .loop .inv in let b = c .before .loop-test .taken in (p .0 .each _ b, (omega (arith, v .within, v .into .few, p .0 .few, p .1 .0, b), adding-room v b (p .1 .1)))
 
 add-x : tie.Need-add-x Inv-loop μ-loop
-add-x c = let v = c .before .before .before .before .before .loop .inv in omega (arith, v .within, v .into .few, (c .before .before .before .before .before .before .before .before .before .pre) .0 .few, (c .before .before .before .before .loop-test .taken), (c .before .before .log-owned-at .ensures) .few)
+add-x c = let v = c .before .before .before .before .before .loop .inv in omega (arith, v .within, v .into .few, (c .before .before .before .before .before .before .before .before .before .pre) .0 .few, (c .before .before .before .before .loop-test .taken), (c .before .before .log-at .ensures) .few)
 
 add-k : tie.Need-add-k Inv-loop μ-loop
 add-k c = omega (arith, (c .before .before .before .before .before .before .before .before .before .pre) .0 .few, (c .before .before .before .before .loop-test .taken))
@@ -31,7 +31,7 @@ loop-less : tie.Need-loop-less Inv-loop μ-loop
 loop-less c = omega (arith, (c .before .before .before .before .loop-test .taken))
 
 loop-again : tie.Need-loop-again Inv-loop μ-loop
-loop-again c = adding-turn (c .before .before .before .before .before .loop .inv) (c .before .before .before .before .loop-test .taken) ((c .before .before .before .before .before .before .before .before .before .pre) .1 .1) (c .before .before .log-owned-at .ensures)
+loop-again c = adding-turn (c .before .before .before .before .before .loop .inv) (c .before .before .before .before .loop-test .taken) ((c .before .before .before .before .before .before .before .before .before .pre) .1 .1) (c .before .before .log-at .ensures)
 
 same-length : tie.Need-same-length Inv-loop μ-loop
 same-length c = (c .before .loop .inv) .into .long
@@ -46,8 +46,8 @@ log-set-spec =
     Inv-loop
     μ-loop
     loop-holds
-    add-log-owned-at
-    log-owned-at-requires
+    add-log-at
+    log-at-requires
     add-x
     add-k
     loop-less

@@ -15,8 +15,8 @@ abbrev μ-loop : tie.MeasureT-loop
 loop-holds : tie.Need-loop-holds Inv-loop μ-loop
 loop-holds c = (omega arith, setting-start _ _ _ _)
 
-set-owned-at-requires : tie.Need-set-owned-at-requires Inv-loop μ-loop
-set-owned-at-requires c κs = let p = c .before .before .before .before .before .before .before .before .before .pre in setting-ready (p .0) ((c .before .before .before .before .loop .inv) .1) (rw (p .1 .0) at (c .before .before .before .loop-test .taken)) (p .1 .1)
+set-at-requires : tie.Need-set-at-requires Inv-loop μ-loop
+set-at-requires c κs = let p = c .before .before .before .before .before .before .before .before .before .pre in setting-ready (p .0) ((c .before .before .before .before .loop .inv) .1) (rw (p .1 .0) at (c .before .before .before .loop-test .taken)) (p .1 .1)
 
 add-k : tie.Need-add-k Inv-loop μ-loop
 add-k c = let p = c .before .before .before .before .before .before .before .before .before .before .before .before .before .before .pre in omega (arith, p .0 .given .start .textures, (c .before .before .before .before .before .before .before .before .loop-test .taken), p .1 .0)
@@ -25,7 +25,7 @@ loop-less : tie.Need-loop-less Inv-loop μ-loop
 loop-less c = omega (arith, (c .before .before .before .before .before .before .before .before .loop-test .taken))
 
 loop-again : tie.Need-loop-again Inv-loop μ-loop
-loop-again c = (omega (arith, (c .before .before .before .before .before .before .before .before .loop-test .taken)), setting-turn ((c .before .before .before .before .before .before .before .before .before .loop .inv) .1) (c .before .before .before .before .set-owned-at .ensures))
+loop-again c = (omega (arith, (c .before .before .before .before .before .before .before .before .loop-test .taken)), setting-turn ((c .before .before .before .before .before .before .before .before .before .loop .inv) .1) (c .before .before .before .before .set-at .ensures))
 
 same-length : tie.Need-same-length Inv-loop μ-loop
 same-length c = (c .before .loop .inv) .1 .start-long
@@ -43,7 +43,7 @@ set-slots-spec =
     Inv-loop
     μ-loop
     loop-holds
-    set-owned-at-requires
+    set-at-requires
     add-k
     loop-less
     loop-again

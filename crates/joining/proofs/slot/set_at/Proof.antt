@@ -1,0 +1,121 @@
+-- `set_at`: the texture stays where the given set does not own its index, and takes a state where both are Single; otherwise it is what `set_owned_at` makes.
+use native.Mathlib.Omega.{arith}
+use borrow.Author.Tests.{eq-eqb, ne-eqb}
+use Rattle.joining.specs.Slot.{set-same}
+use Rattle.joining.proofs.Plain.{plain-set}
+use borrow.Author.Needs.{needs}
+use Rattle.joining.proofs.slot.set_at.Statement.{statement}
+use Rattle.joining.proofs.slot.set_at.Tie as tie
+
+add-if1 : tie.Need-add-if1
+add-if1 c = search needs
+
+mul-if1 : tie.Need-mul-if1
+mul-if1 c = search needs
+
+element-copy-out-if1 : tie.Need-element-copy-out-if1
+element-copy-out-if1 c = search needs
+
+returns : tie.Need-returns
+returns c = rw (eq-eqb _ _ (c .if1 .taken)) (set-same _ _ _ _)
+
+add-if2 : tie.Need-add-if2
+add-if2 c = search needs
+
+mul-if2 : tie.Need-mul-if2
+mul-if2 c = search needs
+
+element-copy-out-if2 : tie.Need-element-copy-out-if2
+element-copy-out-if2 c = search needs
+
+set-owned-at-requires : tie.Need-set-owned-at-requires
+set-owned-at-requires c κs = (c .before .before .before .before .before .before .before .before .before .before .before .pre)
+
+same-length : tie.Need-same-length
+same-length c = search needs
+
+same-length-2 : tie.Need-same-length-2
+same-length-2 c = search needs
+
+returns-2 : tie.Need-returns-2
+returns-2 c = (c .before .before .before .before .set-owned-at .ensures)
+
+add-new : tie.Need-add-new
+add-new c = omega (arith, (c .before .before .before .before .before .before .before .before .pre) .index, (c .before .before .before .before .before .before .before .before .pre) .given (rw (ne-eqb _ _ (c .before .before .if1 .left))) .end .measured .half .1)
+
+mul-new : tie.Need-mul-new
+mul-new c = omega (arith, (c .before .before .before .before .before .before .before .before .pre) .index, (c .before .before .before .before .before .before .before .before .pre) .given (rw (ne-eqb _ _ (c .before .before .if1 .left))) .end .measured .half .1)
+
+element-copy-out-new : tie.Need-element-copy-out-new
+element-copy-out-new c = omega (arith, (c .before .before .before .before .before .before .before .before .pre) .index, (c .before .before .before .before .before .before .before .before .pre) .given (rw (ne-eqb _ _ (c .before .before .if1 .left))) .end .measured .half .1)
+
+set-owned-at-requires-2 : tie.Need-set-owned-at-requires-2
+set-owned-at-requires-2 c κs = (c .before .before .before .before .before .before .before .before .before .before .before .before .before .before .pre)
+
+same-length-3 : tie.Need-same-length-3
+same-length-3 c = search needs
+
+same-length-4 : tie.Need-same-length-4
+same-length-4 c = search needs
+
+returns-3 : tie.Need-returns-3
+returns-3 c = (c .before .before .before .before .set-owned-at2 .ensures)
+
+add-if4 : tie.Need-add-if4
+add-if4 c = search needs
+
+mul-if4 : tie.Need-mul-if4
+mul-if4 c = search needs
+
+element-copy-out-if4 : tie.Need-element-copy-out-if4
+element-copy-out-if4 c = search needs
+
+set-owned-at-requires-3 : tie.Need-set-owned-at-requires-3
+set-owned-at-requires-3 c κs = (c .before .before .before .before .before .before .before .before .before .before .before .before .before .before .before .before .before .pre)
+
+same-length-5 : tie.Need-same-length-5
+same-length-5 c = search needs
+
+same-length-6 : tie.Need-same-length-6
+same-length-6 c = search needs
+
+returns-4 : tie.Need-returns-4
+returns-4 c = (c .before .before .before .before .set-owned-at3 .ensures)
+
+set-state-requires : tie.Need-set-state-requires
+set-state-requires c κs = (omega arith, (c .before .before .before .before .before .before .before .before .before .before .before .before .before .before .before .pre) .index)
+
+returns-5 : tie.Need-returns-5
+returns-5 c = rw (c .set-state .ensures) (plain-set (c .before .before .before .before .before .before .before .before .before .before .before .before .before .before .before .before .pre) (c .before .before .before .before .before .before .before .before .before .before .if1 .left) (c .before .before .before .before .before .before .before .before .if2 .left) (c .before .before .before .before .before .if3 .left) (c .before .before .if4 .left))
+
+pub set-at-spec : {M : Type 1} → statement M
+set-at-spec =
+    tie.close
+    (tie.spec
+    add-if1
+    mul-if1
+    element-copy-out-if1
+    returns
+    add-if2
+    mul-if2
+    element-copy-out-if2
+    set-owned-at-requires
+    same-length
+    same-length-2
+    returns-2
+    add-new
+    mul-new
+    element-copy-out-new
+    set-owned-at-requires-2
+    same-length-3
+    same-length-4
+    returns-3
+    add-if4
+    mul-if4
+    element-copy-out-if4
+    set-owned-at-requires-3
+    same-length-5
+    same-length-6
+    returns-4
+    set-state-requires
+    returns-5)
