@@ -1,7 +1,7 @@
 // Agreement: the ranged model and the grid model are one, and what follows from it.
 //
 // Crate `model` says what each call means, on ranges, as the Rust has it. This crate says it a second time, on a grid of one state a subresource, by the
-// words of docs/01-scope.md ("Sheet rules"), and proves over the definitions alone, with no code:
+// words of the scope document (01, "Sheet rules"), and proves over the definitions alone, with no code:
 //
 //   - demand 3: after each call of every list, refused and conflicting ones included, on however many sets, the two share the answer, every owned
 //     texture's extent, flag and states, and each subresource's transition; also texture by texture, and call by call from any well-formed sets;

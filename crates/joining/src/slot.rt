@@ -168,7 +168,7 @@ pub fn log_owned_at(
     )
 }
 
-// The same, with no call for a Single texture to a Single one.
+// The same, by the short way for a Single texture that takes a Single state.
 pub fn log_at(
     table: &Table,
     ends: &[u32],
@@ -207,7 +207,7 @@ pub fn log_at(
     barrier_single(i, extent, p, mask, cur, new, log, at, write)
 }
 
-// What the texture becomes, if the set owns index i, with no call for a Single texture that takes a Single one.
+// What the texture becomes, if the set owns index i, by the short way for a Single texture that takes a Single state.
 pub fn set_at(
     table: &mut Table,
     starts: &mut [u32],

@@ -15,8 +15,9 @@ use Rattle.storage.specs.Storage.{scopeOf}
 use Rattle.ready.specs.Answers.{turnedAway}
 
 -- `fits` says whether every set that was handed in is well formed, and `m` is the model's call. Free, and in no view, are the counts and
--- the ranges of a Single texture, the ranges past a count and the words of indices from N on: nothing is promised of them but that the
--- table and the slice stay as long as they were.
+-- the ranges of a Single texture, counts and ranges of mips that a texture does not have, the ranges past a count, which nonzero number
+-- marks an index as owned, the words of indices from N on and what is lent past N × M × W ranges: nothing is promised of them but that
+-- the table and the slice stay as long as they were.
 pub record Merged (fits : Bool) (m : CallResult InvalidUse (List Entry) (Set Held)) (t r : List ℕ) (x : Outcome) (t′ r′ : List ℕ) : Type 0 where
   pub answer : x ≡ outcomeOf ((merging fits (scopeOf t r) m) .answer)
   pub view : scopeOf t′ r′ ≡ (merging fits (scopeOf t r) m) .after

@@ -1,7 +1,7 @@
 // Range calls: `isolate`, `coalesce` and `iter_filter` of range.rs as public calls on plain numbers in a borrowed slice.
 //
-// Place in the picture: over `range_checks`, which tells what is refused, and `ranges` and `isolating`, which do the work; under `exports`,
-// and beside `records`, which has the same calls on a slice of range records.
+// Place in the picture: over `range_checks`, which tells what is refused, and `ranges` and `isolating`, which do the work; under `exports`
+// and `lines`, and beside `records`, which has the same calls on a slice of range records.
 //
 // What holds: nothing is required. The first `told` records of the slice are in use. Each answer, and the records afterwards, equal the
 // definitions of model/specs/RangeCalls (specs/Answers); a refusal (10, 14, 15) leaves every number as it was, and up to two numbers that

@@ -48,7 +48,7 @@ pub fn put(s: &mut [u32], k: usize, r: Range)
 }
 
 // The smaller of two numbers.
-fn smaller(a: u32, b: u32) -> u32
+pub fn smaller(a: u32, b: u32) -> u32
     ensures { λ r. ⌜ r ≡ min a b ⌝ }
 {
     if a < b { a } else { b }

@@ -9,6 +9,7 @@ use range_checks::Verdict;
 use ranges::coalescing::joins;
 use ranges::filtering::overlap;
 use ranges::larger;
+use ranges::smaller;
 ghost use mathlib.Core.Path.{_≡_};
 ghost use mathlib.Core.Bool.{true, false, _&&_, _||_, not};
 ghost use Prim.Native.Nat.{_+_, _-_, _≤_, _<_, min};
@@ -53,12 +54,6 @@ pub fn one(b: bool) -> usize
     ensures { λ r. ⌜ (r ≡ countOf b) × (r ≤ 1) ⌝ }
 {
     if b { 1 } else { 0 }
-}
-
-pub fn smaller(a: u32, b: u32) -> u32
-    ensures { λ r. ⌜ r ≡ min a b ⌝ }
-{
-    if a < b { a } else { b }
 }
 
 // Before any record.

@@ -1,5 +1,6 @@
 -- What the sparse call does once its checks passed: it is turned away for want of entries, or writes them and changes both sets. And the call, check by check.
 use Prim.Native.Nat.{ℕ, _/_, _≤_, _<_}
+use mathlib.Core.Logic.{_⊎_}
 use mathlib.Core.Path.{_≡_, refl, sym, ap, _∙_}
 use mathlib.Core.Bool.{Bool, true, false, false≢true}
 use mathlib.Core.List.{List}
@@ -27,7 +28,7 @@ use Rattle.removing.specs.Logs.{setsOf}
 pub record Changed (new : List PendingTransition) (become : Both) (h : LogHead) (t s e g r l : List ℕ) (x : Answered) (t′ s′ e′ g′ l′ : List ℕ) : Type 0 where
   pub few : h .free < length new → (x ≡ refusedWith NoFreeEntry h) × ((t′ ≡ t) × ((s′ ≡ s) × ((e′ ≡ e) × ((g′ ≡ g) × (l′ ≡ l)))))
   pub enough : length new ≤ h .free → (x ≡ movedOn h (length new)) × (Added l (h .written) new l′ × ((trackerOf t′ s′ e′ ≡ become .0) × (scopeOf g′ r ≡ become .1)))
-  pub stays : (y : ℕ) → 72 ≤ y → getD g′ y 0 ≡ getD g y 0
+  pub stays : (y : ℕ) → (y < 8) ⊎ (72 ≤ y) → getD g′ y 0 ≡ getD g y 0
   pub start-long : length s′ ≡ length s
   pub end-long : length e′ ≡ length e
   pub table : length t′ ≡ length t

@@ -49,7 +49,7 @@ setsAfter t s e g r is = sparseAll ranged is (setsOf t s e g r) .after
 pub record Takes (t s e g r is t′ s′ e′ g′ : List ℕ) : Type 0 where
   pub tracker : trackerOf t′ s′ e′ ≡ setsAfter t s e g r is .0
   pub scope : scopeOf g′ r ≡ setsAfter t s e g r is .1
-  pub stays : (x : ℕ) → 72 ≤ x → getD g′ x 0 ≡ getD g x 0
+  pub stays : (x : ℕ) → (x < 8) ⊎ (72 ≤ x) → getD g′ x 0 ≡ getD g x 0
   pub start-long : length s′ ≡ length s
   pub end-long : length e′ ≡ length e
   pub table : length t′ ≡ length t
@@ -212,7 +212,7 @@ taking-end {t} {s} {e} {g} {r} {is} {k} {t₁} {s₁} {e₁} {g₁} q past =
     record {
       tracker = ap (λ (y : Both). y .0) a;
       scope = ap (λ (y : Both). y .1) a;
-      stays = λ x h. q .scope .words x (inr h);
+      stays = q .scope .words;
       start-long = q .start-long;
       end-long = q .end-long;
       table = q .table;

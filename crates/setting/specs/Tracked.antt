@@ -28,8 +28,9 @@ pub record Logs {X : Type 0} (c : Logged X) (l : List ℕ) (x : Answered) (l′ 
   pub long : length l′ ≡ length l
 
 -- `fits` says whether every set that was handed in is well formed, and `m` is the model's call. Free, and in no view, are the counts and
--- the ranges of a Single half, the ranges past a count and the words of indices from N on: nothing is promised of them but that the table
--- and the slices stay as long as they were.
+-- the ranges of a Single half, counts and ranges of mips that a texture does not have, the ranges past a count, which nonzero number marks
+-- an index as owned, the words of indices from N on and what is lent past N × M × W ranges: nothing is promised of them but that the
+-- table and the slices stay as long as they were.
 pub record Tracked (fits : Bool) (m : CallResult InvalidUse (List Entry) (Tracker Held)) (h : LogHead) (t s e l : List ℕ) (x : Answered) (t′ s′ e′ l′ : List ℕ) : Type 0 where
   pub log : Logs (logging fits (logOf l h) (trackerOf t s e) m) l x l′
   pub view : trackerOf t′ s′ e′ ≡ (logging fits (logOf l h) (trackerOf t s e) m) .after

@@ -1,6 +1,6 @@
 // Track: the public calls of the tracker, and demand 3, proved of their own contracts.
 //
-// Place in the picture: the top. Each call is proved equal to the ranged model on the view of the lent numbers, in the crate that it is
+// Place in the picture: the top of the calls by value; `exports` and `heads` stand on it. Each call is proved equal to the ranged model on the view of the lent numbers, in the crate that it is
 // handed on to (`opening`, `merging`, `setting`, `joining`, `removing`), and the ranged model agrees with the grid (crate `agreement`);
 // here the two meet. The `ensures` below are the definitions that specs/Trace makes traces of: a trace is any list of calls whose steps
 // meet these contracts, from newly opened storage; at each of its steps the lent numbers show what the grid's run gives, and no step is

@@ -6,8 +6,8 @@
 //
 // What holds: nothing is required and nothing is written. Every call pays for the test, so it is made in two passes: the words of every
 // index (`words`), which decide a set of Single textures, and then the ranges of the textures that are Many, once each. A scope is tested
-// by `scope_fits`, a tracker by `tracker_fits`, which looks a second time at the ranges of a Many half, to compare where start and end are
-// UNKNOWN. Tests of numbers are written with `&` and `|`, which make no branch, and are the definitions word for word.
+// by `scope_fits`, a tracker by `tracker_fits`, which looks a second time at the ranges of a Many half, for one that is UNKNOWN, and a third
+// time at a mip that has one, to compare start and end. Tests of numbers are written with `&` and `|`, which make no branch, and are the definitions word for word.
 pub mod unknowns;
 pub mod words;
 

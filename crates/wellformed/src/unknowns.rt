@@ -86,7 +86,7 @@ fn ranges_known(s: &[u32], len: usize, u: u32) -> bool
     true
 }
 
-// The same, with no walk where no range is UNKNOWN.
+// Two lists of ranges over the same layers, not walked side by side where none is UNKNOWN.
 fn layers_agree(a: &[u32], la: usize, b: &[u32], lb: usize, u: u32) -> bool
     requires { ⌜ SameLayers (now a) la (now b) lb ⌝ }
     ensures { λ r. ⌜ r ≡ layersAgree u (decode la (now (a .entry))) (decode lb (now (b .entry))) ⌝ }
