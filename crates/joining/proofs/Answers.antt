@@ -5,17 +5,24 @@ use mathlib.Core.Path.{_≡_, refl, sym, ap, subst, _∙_}
 use mathlib.Core.Bool.{Bool, true, false, _&&_}
 use mathlib.Core.List.{List}
 use mathlib.Core.Option.{Option, none, some}
+use lib.Dec.{leb}
 use lib.ListN.{length, getD}
+use borrow.Author.Tests.{le-leb}
 use Rattle.model.specs.declared.InvalidUse.{InvalidUse}
 use Rattle.model.specs.declared.LogHead.{LogHead}
 use Rattle.model.specs.declared.Refusal.{Refusal}
 use Rattle.model.specs.declared.Refusal.the-variants.{NoFreeEntry}
 use Rattle.model.specs.Base.{eachAt₂, over₂}
 use Rattle.model.specs.Representation.{Ends}
-use Rattle.model.specs.Sets.{Head, Tracker, Slot, withTracker, headOf}
+use Rattle.model.specs.Log.{pending}
+use Rattle.model.specs.Sets.{Head, Tracker, capacity, Slot, withTracker, headOf}
 use Rattle.model.specs.Refusals.{setRefusal}
 use Rattle.model.specs.Calls.{CallResult, Indexed, done, unless, setFrom, setGiven, logGiven, setFromUsageScope, setFromTracker}
 use Rattle.model.specs.Texture.{Held, Entry, fromHeld, ranged}
+use Rattle.model.specs.WellFormed.{scopeFits, trackerFits, wellFormedScope, wellFormedTracker}
+use Rattle.agreement.specs.BoolLaws.{and-left}
+use Rattle.agreement.specs.LogRoom.{entries-written}
+use Rattle.agreement.specs.EachCall.{set-from-usage-scope-room, set-from-tracker-room}
 use Rattle.storage.specs.Storage.{numbersOf, flagsOf, startHalf, endHalf, heldOf, slotWith, scopeOf, trackerOf, listFrom}
 use Rattle.barrier.specs.Entries.{Added}
 use Rattle.checks.specs.Head.{headIn, tracker-head, head-is}
@@ -34,34 +41,36 @@ use Rattle.joining.specs.Join.{GivenTested, Joins, SetsAll, givenOf, joi
 use Rattle.joining.proofs.Adding.{entries-model}
 use Rattle.model.specs.declared.Outcome.the-variants as outcome
 
+-- ---- `entries_fit`: a free entry for every subresource is enough
+pub all-fit : (n top free k : ℕ) → n ≤ top → k ≡ top → k ≤ free → true ≡ leb n free
+all-fit n top free k a e b = sym (le-leb n free (omega arith))
+
 -- ---- `set_checked`
-module _ (t s e : List ℕ) (from to : ℕ) (g a b : List ℕ) {l l₁ : List ℕ} {n : ℕ} (h : LogHead) (c : Adds setTop false l 0 (joinedEntries t e from g a) n l₁) where
-  -- what was counted fits where it is written
-  pub room-for : headFits (length l / 7) h ≡ true → n ≤ h .free → 7 * (h .written + length (joinedEntries t e from g a)) ≤ length l₁
-  room-for f k = omega (arith, head-le (length l / 7) h f, c .count, c .long)
+module _ (t s e : List ℕ) (from to : ℕ) (g a b l : List ℕ) (h : LogHead) where
+  -- what fits in what is free fits where it is written
+  pub room-for : headFits (length l / 7) h ≡ true → length (joinedEntries t e from g a) ≤ h .free → 7 * (h .written + length (joinedEntries t e from g a)) ≤ length l
+  room-for f k = omega (arith, head-le (length l / 7) h f)
 
   -- 15
-  pub not-enough : h .free < n → Changed (joinedEntries t e from g a) (joinedTracker t s e from to g a b) h t s e l (refusedWith NoFreeEntry h) t s e l₁
+  pub not-enough : h .free < length (joinedEntries t e from g a) → Changed (joinedEntries t e from g a) (joinedTracker t s e from to g a b) h t s e l (refusedWith NoFreeEntry h) t s e l
   not-enough k = record {
-    few = λ q. (refl, (refl, (refl, (refl, c .content))));
-    enough = λ q. absurd (omega (arith, c .count));
+    few = λ q. (refl, (refl, (refl, (refl, refl))));
+    enough = λ q. absurd (omega arith);
     start-long = refl;
     end-long = refl;
     table = refl;
   }
 
   -- written, and the textures changed
-  pub written : {k : ℕ} {t′ s′ e′ l₂ : List ℕ} → n ≤ h .free → headFits (length l / 7) h ≡ true → Adds setTop true l₁ (h .written) (joinedEntries t e from g a) k l₂ → SetsAll t s e from to g a b t′ s′ e′
-      → Changed (joinedEntries t e from g a) (joinedTracker t s e from to g a b) h t s e l (movedOn h n) t′ s′ e′ l₂
-  written {k} {t′} {s′} {e′} {l₂} le f w q =
-      let z : Added l₁ (h .written) (joinedEntries t e from g a) l₂ = adds-added (room-for f le) w in
-      record {
-        few = λ y. absurd (omega (arith, c .count));
-        enough = λ y. (ap (movedOn h) (c .count), (subst (λ (y : List ℕ). Added y (h .written) (joinedEntries t e from g a) l₂) (c .content) z, q .view));
-        start-long = q .start-long;
-        end-long = q .end-long;
-        table = q .table;
-      }
+  pub written : {k : ℕ} {t′ s′ e′ l₂ : List ℕ} → length (joinedEntries t e from g a) ≤ h .free → headFits (length l / 7) h ≡ true → Adds setTop true l (h .written) (joinedEntries t e from g a) k l₂ → SetsAll t s e from to g a b t′ s′ e′
+      → Changed (joinedEntries t e from g a) (joinedTracker t s e from to g a b) h t s e l (movedOn h k) t′ s′ e′ l₂
+  written {k} {t′} {s′} {e′} {l₂} le f w q = record {
+    few = λ y. absurd (omega arith);
+    enough = λ y. (ap (movedOn h) (w .count), (adds-added (room-for f le) w, q .view));
+    start-long = q .start-long;
+    end-long = q .end-long;
+    table = q .table;
+  }
 
 -- ---- `set_from`
 -- what a tracker's call gives
@@ -93,6 +102,10 @@ module _ {t s e : List ℕ} {from to : ℕ} {g a b : List ℕ} (w : TrackerTeste
   -- the checks passed
   pub joins : SetTold t g outcome.Done → Joins t s e from to g a b
   joins z = record { tracker = w; given = v; passed = set-passed t g (set-done z refl) }
+
+  -- no more entries than the model's call adds
+  pub joined-few : SetTold t g outcome.Done → length (pending (model t s e from to g a b .log)) ≤ capacity (numbersOf t) → length (joinedEntries t e from g a) ≤ capacity (numbersOf t)
+  joined-few z k = rw (call-is t s e from to g a b none (set-done z refl), entries-model (joins z)) at k
 
   module _ {h : LogHead} {l : List ℕ} (k : headFits (length l / 7) h ≡ true) where
     -- 6 to 9
@@ -128,6 +141,23 @@ scope-is t g r =
 tracker-is : (t : Tracker Held) (g a b : List ℕ) → setFromTracker ranged t (trackerOf g a b) ≡ setFrom ranged passStart passEnd t (givenOf startHalf endHalf g a b)
 unfolding trackerOf
 tracker-is t g a b = refl
+
+-- ---- No call adds more entries than the tracker has subresources
+module _ (t s e : List ℕ) (w : wellFormedTracker (length s / 3) (length e / 3) (trackerOf t s e) ≡ true) where
+  sound : trackerFits (trackerOf t s e) ≡ true
+  sound = and-left (trackerFits (trackerOf t s e)) _ (and-left _ _ w)
+
+  pub scope-room : (g r : List ℕ) → wellFormedScope (length r / 3) (scopeOf g r) ≡ true → length (pending (model t s e startHalf startHalf g r r .log)) ≤ capacity (numbersOf t)
+  unfolding trackerOf
+  scope-room g r v =
+      rw (← scope-is (trackerOf t s e) g r, entries-written (setFromUsageScope ranged (trackerOf t s e) (scopeOf g r) .log))
+      (set-from-usage-scope-room (trackerOf t s e) sound (scopeOf g r) (and-left (scopeFits (scopeOf g r)) _ v))
+
+  pub tracker-room : (g a b : List ℕ) → wellFormedTracker (length a / 3) (length b / 3) (trackerOf g a b) ≡ true → length (pending (model t s e startHalf endHalf g a b .log)) ≤ capacity (numbersOf t)
+  unfolding trackerOf
+  tracker-room g a b v =
+      rw (entries-written (setFromTracker ranged (trackerOf t s e) (trackerOf g a b) .log))
+      (set-from-tracker-room (trackerOf t s e) sound (trackerOf g a b) (and-left (trackerFits (trackerOf g a b)) _ (and-left _ _ v)))
 
 -- both sets passed the test
 module _ {fits : Bool} {h : LogHead} {t s e l : List ℕ} {x : Answered} {t′ s′ e′ l′ : List ℕ} (f : fits ≡ true) where

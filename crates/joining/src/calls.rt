@@ -5,11 +5,13 @@ use checks::check_set;
 use model::LogHead;
 use model::Outcome;
 use model::Refusal;
+use model::UsageFlags;
 use setting::Answered;
 use setting::head::head_fits;
 use setting::head::lent_entries;
 use setting::head::moved_on;
 use setting::head::refused;
+use setting::head::subresources;
 use storage::END;
 use storage::START;
 use storage::Table;
@@ -20,20 +22,47 @@ use wellformed::scope_fits;
 use wellformed::tracker_fits;
 ghost use mathlib.Core.Path.{_≡_};
 ghost use mathlib.Core.Bool.{true, _&&_};
-ghost use Prim.Native.Nat.{_/_, _<_};
-ghost use lib.ListN.{length};
+ghost use Prim.Native.Nat.{_/_, _≤_, _<_};
+ghost use lib.Dec.{leb};
+ghost use lib.ListN.{length, getD};
+ghost use Rattle.model.specs.Sets.{capacity};
 ghost use Rattle.model.specs.Calls.{setFrom, setFromUsageScope, setFromTracker};
+ghost use Rattle.model.specs.Log.{pending};
 ghost use Rattle.model.specs.Texture.{ranged};
 ghost use Rattle.model.specs.WellFormed.{wellFormedScope, wellFormedTracker};
-ghost use Rattle.storage.specs.Storage.{scopeOf, trackerOf};
+ghost use Rattle.storage.specs.Storage.{numbersOf, scopeOf, trackerOf};
 ghost use Rattle.ready.specs.Tested.{TrackerTested};
 ghost use Rattle.setting.specs.Logging.{headFits};
 ghost use Rattle.setting.specs.Changed.{Changed};
 ghost use Rattle.setting.specs.Tracked.{Tracked};
 ghost use Rattle.joining.specs.Slot.{passStart, passEnd};
-ghost use Rattle.joining.specs.Join.{GivenTested, Joins, givenOf, joinedEntries, joinedTracker};
+ghost use Rattle.joining.specs.Join.{GivenTested, Joins, LogsSet, givenOf, entriesTo, joinedEntries, joinedTracker};
 
-// The set, once the checks passed: its entries are counted, and then written, and the textures change.
+// 15: whether the entries of the set fit in what is free. Where there is a free entry for every subresource they do, and nothing is counted.
+fn entries_fit(
+    table: &Table,
+    ends: &[u32],
+    p: UsageFlags,
+    mask: u32,
+    given: &Table,
+    first: &[u32],
+    from: usize,
+    n: usize,
+    log: &mut [u32],
+    free: usize,
+) -> bool
+    requires { ⌜ LogsSet (now table) (now ends) from (now given) (now first) n ⌝ }
+    requires { ⌜ (getD (now table) 0 0 ≤ 64) × ((getD (now table) 1 0 ≤ 16) × (getD (now table) 2 0 ≤ 256)) ⌝ }
+    requires { ⌜ length (entriesTo p mask (now table) (now ends) from (now given) (now first) n) ≤ capacity (numbersOf (now table)) ⌝ }
+    ensures { λ x. ⌜ (x ≡ leb (length (entriesTo p mask (now (table .entry)) (now (ends .entry)) from (now (given .entry)) (now (first .entry)) n)) free) × (now (log .exit) ≡ now (log .entry)) ⌝ }
+{
+    if subresources(table) <= free {
+        return true;
+    }
+    log_set(table, ends, p, mask, given, first, from, n, log, 0, false) <= free
+}
+
+// The set, once the checks passed: its entries are written, if they fit, and the textures change.
 fn set_checked(
     table: &mut Table,
     starts: &mut [u32],
@@ -47,6 +76,7 @@ fn set_checked(
     head: LogHead,
 ) -> Answered
     requires { ⌜ Joins (now table) (now starts) (now ends) from to (now given) (now first) (now last) ⌝ }
+    requires { ⌜ length (joinedEntries (now table) (now ends) from (now given) (now first)) ≤ capacity (numbersOf (now table)) ⌝ }
     requires { ⌜ headFits (length (now log) / 7) head ≡ true ⌝ }
     requires { ⌜ length (now log) < 18446744073709551616 ⌝ }
     ensures { λ x. ⌜ Changed (joinedEntries (now (table .entry)) (now (ends .entry)) from (now (given .entry)) (now (first .entry))) (joinedTracker (now (table .entry)) (now (starts .entry)) (now (ends .entry)) from to (now (given .entry)) (now (first .entry)) (now (last .entry))) head (now (table .entry)) (now (starts .entry)) (now (ends .entry)) (now (log .entry)) x (now (table .exit)) (now (starts .exit)) (now (ends .exit)) (now (log .exit)) ⌝ }
@@ -54,14 +84,14 @@ fn set_checked(
     let p = flags_of(table);
     let mask = table[7];
     let n = wide(given[0]);
-    let needed = log_set(table, ends, p, mask, given, first, from, n, log, 0, false);
-    if head.free < needed {
+    let free = head.free;
+    if !entries_fit(table, ends, p, mask, given, first, from, n, log, free) {
         return refused(Refusal::NoFreeEntry, head);
     }
     let at = head.written;
-    log_set(table, ends, p, mask, given, first, from, n, log, at, true);
+    let x = log_set(table, ends, p, mask, given, first, from, n, log, at, true);
     set_slots(table, starts, ends, given, first, from, last, to, n, p);
-    moved_on(head, needed)
+    moved_on(head, x)
 }
 
 // The set, once both sets passed the test: the log's head and the checks of 01's table come first.
@@ -79,6 +109,7 @@ fn set_from(
 ) -> Answered
     requires { ⌜ TrackerTested (now table) (now starts) (now ends) ⌝ }
     requires { ⌜ GivenTested from to (now given) (now first) (now last) ⌝ }
+    requires { ⌜ length (pending (setFrom ranged passStart passEnd (trackerOf (now table) (now starts) (now ends)) (givenOf from to (now given) (now first) (now last)) .log)) ≤ capacity (numbersOf (now table)) ⌝ }
     ensures { λ x. ⌜ Tracked true (setFrom ranged passStart passEnd (trackerOf (now (table .entry)) (now (starts .entry)) (now (ends .entry))) (givenOf from to (now (given .entry)) (now (first .entry)) (now (last .entry)))) head (now (table .entry)) (now (starts .entry)) (now (ends .entry)) (now (log .entry)) x (now (table .exit)) (now (starts .exit)) (now (ends .exit)) (now (log .exit)) ⌝ }
 {
     let lent = lent_entries(log);

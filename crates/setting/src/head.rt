@@ -3,10 +3,14 @@ use crate::Answered;
 use model::LogHead;
 use model::Outcome;
 use model::Refusal;
+use storage::Table;
+use storage::wide;
 ghost use mathlib.Core.Path.{_≡_};
 ghost use Prim.Native.Nat.{_+_, _/_, _≤_, _<_};
-ghost use lib.ListN.{length};
+ghost use lib.ListN.{length, getD};
 ghost use Rattle.model.specs.Log.{emptying};
+ghost use Rattle.model.specs.Sets.{capacity};
+ghost use Rattle.storage.specs.Storage.{numbersOf};
 ghost use Rattle.setting.specs.Tracked.{logOf, Logs};
 ghost use Rattle.setting.specs.Logging.{headFits, refusedWith, movedOn};
 
@@ -28,6 +32,14 @@ pub fn head_fits(lent: usize, head: LogHead) -> bool
         return false;
     }
     true
+}
+
+// N x M x W, a subresource for each: no call adds more entries, so a log with as many free ones need not be counted for.
+pub fn subresources(table: &Table) -> usize
+    requires { ⌜ (getD (now table) 0 0 ≤ 64) × ((getD (now table) 1 0 ≤ 16) × (getD (now table) 2 0 ≤ 256)) ⌝ }
+    ensures { λ r. ⌜ r ≡ capacity (numbersOf (now (table .entry))) ⌝ }
+{
+    wide(table[0]) * wide(table[1]) * wide(table[2])
 }
 
 // A call that is turned away: the head stays.

@@ -1,12 +1,13 @@
--- `set_checked`: the entries are counted (15) and then written, and the textures change.
+-- `set_checked`: 15 where the entries do not fit; otherwise they are written, and the textures change.
 use Prim.Native.Nat.{_/_}
 use native.Mathlib.Omega.{arith}
-use mathlib.Core.Bool.{false≢true}
+use mathlib.Core.Path.{sym, _∙_}
 use lib.ListN.{length}
-use borrow.Author.Needs.{needs}
+use borrow.Author.Tests.{not-true, not-false, leb-true, leb-false}
 use Rattle.setting.specs.Logging.{head-le}
 use Rattle.joining.proofs.Adding.{logs-set}
 use Rattle.joining.proofs.Answers.{room-for, not-enough, written}
+use borrow.Author.Needs.{needs}
 use Rattle.joining.proofs.calls.set_checked.Statement.{statement}
 use Rattle.joining.proofs.calls.set_checked.Tie as tie
 
@@ -22,8 +23,8 @@ element-copy-out-wide c = search needs
 wide-requires : tie.Need-wide-requires
 wide-requires c κs = search needs
 
-log-set-requires : tie.Need-log-set-requires
-log-set-requires c κs = rw ((c .before .before .before .wide .ensures) .0) (logs-set ((c .before .before .before .before .before .before .before .before .before .before .before .before .before .pre) .0), (omega arith, λ w. absurd (false≢true w)))
+entries-fit-requires : tie.Need-entries-fit-requires
+entries-fit-requires c κs = let m = (c .before .before .before .before .before .before .before .before .before .before .before .before .before .pre .0) .tracker .starts in rw ((c .before .before .before .before .before .before .flags-of .ensures), ((c .before .before .before .wide .ensures) .0)) (logs-set (c .before .before .before .before .before .before .before .before .before .before .before .before .before .pre .0), ((m .textures, (m .mips, m .layers)), (c .before .before .before .before .before .before .before .before .before .before .before .before .before .pre .1 .0)))
 
 refused-requires : tie.Need-refused-requires
 refused-requires c κs = search needs
@@ -35,16 +36,16 @@ same-length-2 : tie.Need-same-length-2
 same-length-2 c = search needs
 
 returns : tie.Need-returns
-returns c = let x = c .before .before .before .before .before .before .before .before .before .before .before .before .before .before .before .before .before .before .before .args in rw (c .refused .ensures) (not-enough (x .table .now) (x .starts .now) (x .ends .now) (x .from) (x .to) (x .given .now) (x .first .now) (x .last .now) (x .head) (rw ((c .before .before .before .before .before .before .before .before .before .before .before .before .flags-of .ensures), (c .before .before .before .before .before .before .before .before .before .wide .ensures) .0) at (c .before .before .before .before .before .log-set .ensures)) (c .before .if1 .taken))
+returns c = rw ((c .refused .ensures), (c .before .before .before .before .entries-fit .ensures) .1) (not-enough ((c .before .before .before .before .before .before .before .before .before .before .before .before .before .before .before .before .before .before .args) .table .now) ((c .before .before .before .before .before .before .before .before .before .before .before .before .before .before .before .before .before .before .args) .starts .now) ((c .before .before .before .before .before .before .before .before .before .before .before .before .before .before .before .before .before .before .args) .ends .now) ((c .before .before .before .before .before .before .before .before .before .before .before .before .before .before .before .before .before .before .args) .from) ((c .before .before .before .before .before .before .before .before .before .before .before .before .before .before .before .before .before .before .args) .to) ((c .before .before .before .before .before .before .before .before .before .before .before .before .before .before .before .before .before .before .args) .given .now) ((c .before .before .before .before .before .before .before .before .before .before .before .before .before .before .before .before .before .before .args) .first .now) ((c .before .before .before .before .before .before .before .before .before .before .before .before .before .before .before .before .before .before .args) .last .now) ((c .before .before .before .before .before .before .before .before .before .before .before .before .before .before .before .before .before .before .args) .log .now) ((c .before .before .before .before .before .before .before .before .before .before .before .before .before .before .before .before .before .before .args) .head) (leb-false _ _ (sym (rw ((c .before .before .before .before .before .before .before .before .before .before .before .flags-of .ensures), ((c .before .before .before .before .before .before .before .before .wide .ensures) .0)) at ((c .before .before .before .before .entries-fit .ensures) .0)) ∙ not-true _ (c .before .if1 .taken))))
 
-log-set-requires-2 : tie.Need-log-set-requires-2
-log-set-requires-2 c κs = let p = c .before .before .before .before .before .before .before .before .before .before .before .before .before .before .before .before .before .before .before .before .before .pre in let x = c .before .before .before .before .before .before .before .before .before .before .before .before .before .before .before .before .before .before .before .before .before .args in let f = c .before .before .before .before .before .before .before .before .before .before .before .before .before .before .flags-of .ensures in let n = c .before .before .before .before .before .before .before .before .before .before .before .wide .ensures in rw (f, n .0) (logs-set (p .0), (omega (arith, head-le (length (x .log .now) / 7) (x .head) (p .1 .0), p .1 .1), λ w. room-for (x .table .now) (x .starts .now) (x .ends .now) (x .from) (x .to) (x .given .now) (x .first .now) (x .last .now) (x .head) (rw (f, n .0) at (c .before .before .before .before .before .before .before .log-set .ensures)) (p .1 .0) (c .before .before .before .if1 .left)))
+log-set-requires : tie.Need-log-set-requires
+log-set-requires c κs = rw ((c .before .before .before .before .before .before .before .before .before .before .before .before .before .flags-of .ensures), ((c .before .before .before .before .before .before .before .before .before .before .wide .ensures) .0), (c .before .before .before .before .before .before .entries-fit .ensures) .1) (logs-set (c .before .before .before .before .before .before .before .before .before .before .before .before .before .before .before .before .before .before .before .before .pre .0), (omega (arith, head-le (length ((c .before .before .before .before .before .before .before .before .before .before .before .before .before .before .before .before .before .before .before .before .args) .log .now) / 7) ((c .before .before .before .before .before .before .before .before .before .before .before .before .before .before .before .before .before .before .before .before .args) .head) (c .before .before .before .before .before .before .before .before .before .before .before .before .before .before .before .before .before .before .before .before .pre .1 .1 .0), (c .before .before .before .before .before .before .before .before .before .before .before .before .before .before .before .before .before .before .before .before .pre .1 .1 .1)), λ w. room-for ((c .before .before .before .before .before .before .before .before .before .before .before .before .before .before .before .before .before .before .before .before .args) .table .now) ((c .before .before .before .before .before .before .before .before .before .before .before .before .before .before .before .before .before .before .before .before .args) .starts .now) ((c .before .before .before .before .before .before .before .before .before .before .before .before .before .before .before .before .before .before .before .before .args) .ends .now) ((c .before .before .before .before .before .before .before .before .before .before .before .before .before .before .before .before .before .before .before .before .args) .from) ((c .before .before .before .before .before .before .before .before .before .before .before .before .before .before .before .before .before .before .before .before .args) .to) ((c .before .before .before .before .before .before .before .before .before .before .before .before .before .before .before .before .before .before .before .before .args) .given .now) ((c .before .before .before .before .before .before .before .before .before .before .before .before .before .before .before .before .before .before .before .before .args) .first .now) ((c .before .before .before .before .before .before .before .before .before .before .before .before .before .before .before .before .before .before .before .before .args) .last .now) ((c .before .before .before .before .before .before .before .before .before .before .before .before .before .before .before .before .before .before .before .before .args) .log .now) ((c .before .before .before .before .before .before .before .before .before .before .before .before .before .before .before .before .before .before .before .before .args) .head) (c .before .before .before .before .before .before .before .before .before .before .before .before .before .before .before .before .before .before .before .before .pre .1 .1 .0) (leb-true _ _ (sym (rw ((c .before .before .before .before .before .before .before .before .before .before .before .before .before .flags-of .ensures), ((c .before .before .before .before .before .before .before .before .before .before .wide .ensures) .0)) at ((c .before .before .before .before .before .before .entries-fit .ensures) .0)) ∙ not-false _ (c .before .before .before .if1 .left)))))
 
 set-slots-requires : tie.Need-set-slots-requires
-set-slots-requires c κs = ((c .before .before .before .before .before .before .before .before .before .before .before .before .before .before .before .before .before .before .before .before .before .before .before .before .before .before .before .pre) .0, ((c .before .before .before .before .before .before .before .before .before .before .before .before .before .before .before .before .before .wide .ensures) .0, (c .before .before .before .before .before .before .before .before .before .before .before .before .before .before .before .before .before .before .before .before .flags-of .ensures)))
+set-slots-requires c κs = ((c .before .before .before .before .before .before .before .before .before .before .before .before .before .before .before .before .before .before .before .before .before .before .before .before .before .before .pre .0), (((c .before .before .before .before .before .before .before .before .before .before .before .before .before .before .before .before .wide .ensures) .0), (c .before .before .before .before .before .before .before .before .before .before .before .before .before .before .before .before .before .before .before .flags-of .ensures)))
 
 moved-on-requires : tie.Need-moved-on-requires
-moved-on-requires c κs = let p = c .before .before .before .before .before .before .before .before .before .before .before .before .before .before .before .before .before .before .before .before .before .before .before .before .before .before .before .before .before .before .before .before .pre in let x = c .before .before .before .before .before .before .before .before .before .before .before .before .before .before .before .before .before .before .before .before .before .before .before .before .before .before .before .before .before .before .before .before .args in ((c .before .before .before .before .before .before .before .before .before .before .before .before .before .before .if1 .left), omega (arith, head-le (length (x .log .now) / 7) (x .head) (p .1 .0), p .1 .1))
+moved-on-requires c κs = (rw ((c .before .before .before .before .before .before .before .before .before .before .log-set .ensures) .count, (c .before .before .before .before .before .before .before .before .before .before .before .before .before .before .before .before .before .before .before .before .before .before .before .before .flags-of .ensures), ((c .before .before .before .before .before .before .before .before .before .before .before .before .before .before .before .before .before .before .before .before .before .wide .ensures) .0)) (leb-true _ _ (sym (rw ((c .before .before .before .before .before .before .before .before .before .before .before .before .before .before .before .before .before .before .before .before .before .before .before .before .flags-of .ensures), ((c .before .before .before .before .before .before .before .before .before .before .before .before .before .before .before .before .before .before .before .before .before .wide .ensures) .0)) at ((c .before .before .before .before .before .before .before .before .before .before .before .before .before .before .before .before .before .entries-fit .ensures) .0)) ∙ not-false _ (c .before .before .before .before .before .before .before .before .before .before .before .before .before .before .if1 .left))), omega (arith, head-le (length ((c .before .before .before .before .before .before .before .before .before .before .before .before .before .before .before .before .before .before .before .before .before .before .before .before .before .before .before .before .before .before .before .args) .log .now) / 7) ((c .before .before .before .before .before .before .before .before .before .before .before .before .before .before .before .before .before .before .before .before .before .before .before .before .before .before .before .before .before .before .before .args) .head) (c .before .before .before .before .before .before .before .before .before .before .before .before .before .before .before .before .before .before .before .before .before .before .before .before .before .before .before .before .before .before .before .pre .1 .1 .0), (c .before .before .before .before .before .before .before .before .before .before .before .before .before .before .before .before .before .before .before .before .before .before .before .before .before .before .before .before .before .before .before .pre .1 .1 .1)))
 
 same-length-3 : tie.Need-same-length-3
 same-length-3 c = search needs
@@ -56,7 +57,7 @@ same-length-5 : tie.Need-same-length-5
 same-length-5 c = search needs
 
 returns-2 : tie.Need-returns-2
-returns-2 c = let x = c .before .before .before .before .before .before .before .before .before .before .before .before .before .before .before .before .before .before .before .before .before .before .before .before .before .before .before .before .before .before .before .before .before .args in let f = c .before .before .before .before .before .before .before .before .before .before .before .before .before .before .before .before .before .before .before .before .before .before .before .before .before .before .flags-of .ensures in let n = c .before .before .before .before .before .before .before .before .before .before .before .before .before .before .before .before .before .before .before .before .before .before .before .wide .ensures in rw (c .moved-on .ensures) (written (x .table .now) (x .starts .now) (x .ends .now) (x .from) (x .to) (x .given .now) (x .first .now) (x .last .now) (x .head) (rw (f, n .0) at (c .before .before .before .before .before .before .before .before .before .before .before .before .before .before .before .before .before .before .before .log-set .ensures)) (c .before .before .before .before .before .before .before .before .before .before .before .before .before .before .before .if1 .left) ((c .before .before .before .before .before .before .before .before .before .before .before .before .before .before .before .before .before .before .before .before .before .before .before .before .before .before .before .before .before .before .before .before .before .pre) .1 .0) (rw (f, n .0) at (c .before .before .before .before .before .before .before .before .before .before .before .log-set2 .ensures)) (c .before .before .before .before .before .set-slots .ensures))
+returns-2 c = rw (c .moved-on .ensures) (written ((c .before .before .before .before .before .before .before .before .before .before .before .before .before .before .before .before .before .before .before .before .before .before .before .before .before .before .before .before .before .before .before .before .args) .table .now) ((c .before .before .before .before .before .before .before .before .before .before .before .before .before .before .before .before .before .before .before .before .before .before .before .before .before .before .before .before .before .before .before .before .args) .starts .now) ((c .before .before .before .before .before .before .before .before .before .before .before .before .before .before .before .before .before .before .before .before .before .before .before .before .before .before .before .before .before .before .before .before .args) .ends .now) ((c .before .before .before .before .before .before .before .before .before .before .before .before .before .before .before .before .before .before .before .before .before .before .before .before .before .before .before .before .before .before .before .before .args) .from) ((c .before .before .before .before .before .before .before .before .before .before .before .before .before .before .before .before .before .before .before .before .before .before .before .before .before .before .before .before .before .before .before .before .args) .to) ((c .before .before .before .before .before .before .before .before .before .before .before .before .before .before .before .before .before .before .before .before .before .before .before .before .before .before .before .before .before .before .before .before .args) .given .now) ((c .before .before .before .before .before .before .before .before .before .before .before .before .before .before .before .before .before .before .before .before .before .before .before .before .before .before .before .before .before .before .before .before .args) .first .now) ((c .before .before .before .before .before .before .before .before .before .before .before .before .before .before .before .before .before .before .before .before .before .before .before .before .before .before .before .before .before .before .before .before .args) .last .now) ((c .before .before .before .before .before .before .before .before .before .before .before .before .before .before .before .before .before .before .before .before .before .before .before .before .before .before .before .before .before .before .before .before .args) .log .now) ((c .before .before .before .before .before .before .before .before .before .before .before .before .before .before .before .before .before .before .before .before .before .before .before .before .before .before .before .before .before .before .before .before .args) .head) (leb-true _ _ (sym (rw ((c .before .before .before .before .before .before .before .before .before .before .before .before .before .before .before .before .before .before .before .before .before .before .before .before .before .flags-of .ensures), ((c .before .before .before .before .before .before .before .before .before .before .before .before .before .before .before .before .before .before .before .before .before .before .wide .ensures) .0)) at ((c .before .before .before .before .before .before .before .before .before .before .before .before .before .before .before .before .before .before .entries-fit .ensures) .0)) ∙ not-false _ (c .before .before .before .before .before .before .before .before .before .before .before .before .before .before .before .if1 .left))) (c .before .before .before .before .before .before .before .before .before .before .before .before .before .before .before .before .before .before .before .before .before .before .before .before .before .before .before .before .before .before .before .before .pre .1 .1 .0) (rw ((c .before .before .before .before .before .before .before .before .before .before .before .before .before .before .before .before .before .before .before .before .before .before .before .before .before .flags-of .ensures), ((c .before .before .before .before .before .before .before .before .before .before .before .before .before .before .before .before .before .before .before .before .before .before .wide .ensures) .0), (c .before .before .before .before .before .before .before .before .before .before .before .before .before .before .before .before .before .before .entries-fit .ensures) .1) at (c .before .before .before .before .before .before .before .before .before .before .before .log-set .ensures)) (c .before .before .before .before .before .set-slots .ensures))
 
 pub set-checked-spec : {M : Type 1} → statement M
 set-checked-spec =
@@ -66,12 +67,12 @@ set-checked-spec =
     element-copy-out-mask
     element-copy-out-wide
     wide-requires
-    log-set-requires
+    entries-fit-requires
     refused-requires
     same-length
     same-length-2
     returns
-    log-set-requires-2
+    log-set-requires
     set-slots-requires
     moved-on-requires
     same-length-3

@@ -4,7 +4,7 @@ use borrow.Author.Tests.{not-true, not-false}
 use borrow.Author.Needs.{needs}
 use Rattle.checks.specs.Told.{set-never}
 use Rattle.setting.specs.Changed.{away-short}
-use Rattle.joining.proofs.Answers.{joins, from-done, from-away}
+use Rattle.joining.proofs.Answers.{joins, joined-few, from-done, from-away}
 use Rattle.joining.proofs.calls.set_from.Statement.{statement}
 use Rattle.joining.proofs.calls.set_from.Tie as tie
 
@@ -30,7 +30,7 @@ enum-told : tie.Need-enum-told
 enum-told c = search needs
 
 set-checked-requires : tie.Need-set-checked-requires
-set-checked-requires c κs = let p = c .before .before .before .before .before .before .before .before .before .before .before .before .before .before .before .before .before .pre in let k = c .before .before .before .before .before .before .before .before .before .before .lent-entries .ensures in (joins (p .0) (p .1) (rw ((c .before .before .before .before .enum-told .given) .1) at (c .before .before .before .before .before .before .check-set .ensures)), ((rw (k .0) at (sym (c .before .before .before .before .before .before .before .before .before .head-fits .ensures) ∙ not-false _ (c .before .before .before .before .before .before .before .before .if1 .left))), k .1))
+set-checked-requires c κs = let p = c .before .before .before .before .before .before .before .before .before .before .before .before .before .before .before .before .before .pre in let k = c .before .before .before .before .before .before .before .before .before .before .lent-entries .ensures in let z = (rw ((c .before .before .before .before .enum-told .given) .1) at (c .before .before .before .before .before .before .check-set .ensures)) in (joins (p .0) (p .1 .0) z, (joined-few (p .0) (p .1 .0) z (p .1 .1), ((rw (k .0) at (sym (c .before .before .before .before .before .before .before .before .before .head-fits .ensures) ∙ not-false _ (c .before .before .before .before .before .before .before .before .if1 .left))), k .1)))
 
 enum-known-r : tie.Need-enum-known-r
 enum-known-r c = search needs
@@ -51,13 +51,13 @@ same-length-4 : tie.Need-same-length-4
 same-length-4 c = search needs
 
 returns-2 : tie.Need-returns-2
-returns-2 c = let p = c .before .before .before .before .before .before .before .before .before .before .before .before .before .before .before .before .before .before .before .before .before .before .before .before .pre in from-done (p .0) (p .1) (rw ((c .before .before .before .before .before .before .before .before .before .before .before .before .before .before .before .before .before .lent-entries .ensures) .0) at (sym (c .before .before .before .before .before .before .before .before .before .before .before .before .before .before .before .before .head-fits .ensures) ∙ not-false _ (c .before .before .before .before .before .before .before .before .before .before .before .before .before .before .before .if1 .left))) (rw ((c .before .before .before .before .before .before .before .before .before .before .before .enum-told .given) .1) at (c .before .before .before .before .before .before .before .before .before .before .before .before .before .check-set .ensures)) (c .before .before .before .before .before .before .set-checked .ensures)
+returns-2 c = let p = c .before .before .before .before .before .before .before .before .before .before .before .before .before .before .before .before .before .before .before .before .before .before .before .before .pre in from-done (p .0) (p .1 .0) (rw ((c .before .before .before .before .before .before .before .before .before .before .before .before .before .before .before .before .before .lent-entries .ensures) .0) at (sym (c .before .before .before .before .before .before .before .before .before .before .before .before .before .before .before .before .head-fits .ensures) ∙ not-false _ (c .before .before .before .before .before .before .before .before .before .before .before .before .before .before .before .if1 .left))) (rw ((c .before .before .before .before .before .before .before .before .before .before .before .enum-told .given) .1) at (c .before .before .before .before .before .before .before .before .before .before .before .before .before .check-set .ensures)) (c .before .before .before .before .before .before .set-checked .ensures)
 
 same-length-5 : tie.Need-same-length-5
 same-length-5 c = search needs
 
 returns-3 : tie.Need-returns-3
-returns-3 c = let p = c .before .before .before .before .before .before .before .before .before .before .before .before .before .before .before .pre in rw (c .refused2 .ensures) (from-away (p .0) (p .1) (rw ((c .before .before .before .before .before .before .before .before .lent-entries .ensures) .0) at (sym (c .before .before .before .before .before .before .before .head-fits .ensures) ∙ not-false _ (c .before .before .before .before .before .before .if1 .left))) (rw ((c .before .before .r .given) .1) at (c .before .before .before .before .check-set .ensures)))
+returns-3 c = let p = c .before .before .before .before .before .before .before .before .before .before .before .before .before .before .before .pre in rw (c .refused2 .ensures) (from-away (p .0) (p .1 .0) (rw ((c .before .before .before .before .before .before .before .before .lent-entries .ensures) .0) at (sym (c .before .before .before .before .before .before .before .head-fits .ensures) ∙ not-false _ (c .before .before .before .before .before .before .if1 .left))) (rw ((c .before .before .r .given) .1) at (c .before .before .before .before .check-set .ensures)))
 
 same-length-6 : tie.Need-same-length-6
 same-length-6 c = search needs

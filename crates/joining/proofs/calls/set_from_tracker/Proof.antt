@@ -5,7 +5,7 @@ use borrow.Author.Needs.{needs}
 use Rattle.ready.specs.Tested.{tracker-tested}
 use Rattle.setting.specs.Changed.{away-unfit}
 use Rattle.joining.specs.Join.{tracker-given}
-use Rattle.joining.proofs.Answers.{one-unfit, other-unfit, both-fit, from-tracker}
+use Rattle.joining.proofs.Answers.{tracker-room, one-unfit, other-unfit, both-fit, from-tracker}
 use Rattle.joining.proofs.calls.set_from_tracker.Statement.{statement}
 use Rattle.joining.proofs.calls.set_from_tracker.Tie as tie
 
@@ -46,7 +46,7 @@ returns-2 : tie.Need-returns-2
 returns-2 c = rw (c .refused2 .ensures) (away-unfit (other-unfit _ _ (sym (c .before .before .before .before .tracker-fits .ensures) ∙ not-false _ (c .before .before .before .if1 .left)) (sym (c .before .before .tracker-fits2 .ensures) ∙ not-true _ (c .before .if2 .taken))))
 
 set-from-requires : tie.Need-set-from-requires
-set-from-requires c κs = (tracker-tested _ _ _ ((c .before .before .before .before .before .before .before .before .before .before .before .before .table-len .ensures) .1) (sym (c .before .before .before .before .before .before .before .tracker-fits .ensures) ∙ not-false _ (c .before .before .before .before .before .before .if1 .left)), tracker-given (tracker-tested _ _ _ ((c .before .before .before .before .before .before .before .before .before .before .before .table-len2 .ensures) .1) (sym (c .before .before .before .before .before .tracker-fits2 .ensures) ∙ not-false _ (c .before .before .before .before .if2 .left))))
+set-from-requires c κs = (tracker-tested _ _ _ ((c .before .before .before .before .before .before .before .before .before .before .before .before .table-len .ensures) .1) (sym (c .before .before .before .before .before .before .before .tracker-fits .ensures) ∙ not-false _ (c .before .before .before .before .before .before .if1 .left)), (tracker-given (tracker-tested _ _ _ ((c .before .before .before .before .before .before .before .before .before .before .before .table-len2 .ensures) .1) (sym (c .before .before .before .before .before .tracker-fits2 .ensures) ∙ not-false _ (c .before .before .before .before .if2 .left))), tracker-room ((c .before .before .before .before .before .before .before .before .before .before .before .before .before .before .before .before .before .before .before .args) .table .now) ((c .before .before .before .before .before .before .before .before .before .before .before .before .before .before .before .before .before .before .before .args) .starts .now) ((c .before .before .before .before .before .before .before .before .before .before .before .before .before .before .before .before .before .before .before .args) .ends .now) (sym (c .before .before .before .before .before .before .before .tracker-fits .ensures) ∙ not-false _ (c .before .before .before .before .before .before .if1 .left)) ((c .before .before .before .before .before .before .before .before .before .before .before .before .before .before .before .before .before .before .before .args) .given .now) ((c .before .before .before .before .before .before .before .before .before .before .before .before .before .before .before .before .before .before .before .args) .first .now) ((c .before .before .before .before .before .before .before .before .before .before .before .before .before .before .before .before .before .before .before .args) .last .now) (sym (c .before .before .before .before .before .tracker-fits2 .ensures) ∙ not-false _ (c .before .before .before .before .if2 .left))))
 
 same-length-5 : tie.Need-same-length-5
 same-length-5 c = search needs

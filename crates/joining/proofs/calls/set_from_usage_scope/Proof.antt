@@ -5,7 +5,7 @@ use borrow.Author.Needs.{needs}
 use Rattle.ready.specs.Tested.{tracker-tested, scope-tested}
 use Rattle.setting.specs.Changed.{away-unfit}
 use Rattle.joining.specs.Join.{scope-given}
-use Rattle.joining.proofs.Answers.{one-unfit, other-unfit, both-fit, from-scope}
+use Rattle.joining.proofs.Answers.{scope-room, one-unfit, other-unfit, both-fit, from-scope}
 use Rattle.joining.proofs.calls.set_from_usage_scope.Statement.{statement}
 use Rattle.joining.proofs.calls.set_from_usage_scope.Tie as tie
 
@@ -46,7 +46,7 @@ returns-2 : tie.Need-returns-2
 returns-2 c = rw (c .refused2 .ensures) (away-unfit (other-unfit _ _ (sym (c .before .before .before .before .tracker-fits .ensures) ∙ not-false _ (c .before .before .before .if1 .left)) (sym (c .before .before .scope-fits .ensures) ∙ not-true _ (c .before .if2 .taken))))
 
 set-from-requires : tie.Need-set-from-requires
-set-from-requires c κs = (tracker-tested _ _ _ ((c .before .before .before .before .before .before .before .before .before .before .before .before .table-len .ensures) .1) (sym (c .before .before .before .before .before .before .before .tracker-fits .ensures) ∙ not-false _ (c .before .before .before .before .before .before .if1 .left)), scope-given (scope-tested _ _ ((c .before .before .before .before .before .before .before .before .before .before .before .table-len2 .ensures) .1) (sym (c .before .before .before .before .before .scope-fits .ensures) ∙ not-false _ (c .before .before .before .before .if2 .left))))
+set-from-requires c κs = (tracker-tested _ _ _ ((c .before .before .before .before .before .before .before .before .before .before .before .before .table-len .ensures) .1) (sym (c .before .before .before .before .before .before .before .tracker-fits .ensures) ∙ not-false _ (c .before .before .before .before .before .before .if1 .left)), (scope-given (scope-tested _ _ ((c .before .before .before .before .before .before .before .before .before .before .before .table-len2 .ensures) .1) (sym (c .before .before .before .before .before .scope-fits .ensures) ∙ not-false _ (c .before .before .before .before .if2 .left))), scope-room ((c .before .before .before .before .before .before .before .before .before .before .before .before .before .before .before .before .before .before .args) .table .now) ((c .before .before .before .before .before .before .before .before .before .before .before .before .before .before .before .before .before .before .args) .starts .now) ((c .before .before .before .before .before .before .before .before .before .before .before .before .before .before .before .before .before .before .args) .ends .now) (sym (c .before .before .before .before .before .before .before .tracker-fits .ensures) ∙ not-false _ (c .before .before .before .before .before .before .if1 .left)) ((c .before .before .before .before .before .before .before .before .before .before .before .before .before .before .before .before .before .before .args) .given .now) ((c .before .before .before .before .before .before .before .before .before .before .before .before .before .before .before .before .before .before .args) .lent .now) (sym (c .before .before .before .before .before .scope-fits .ensures) ∙ not-false _ (c .before .before .before .before .if2 .left))))
 
 same-length-5 : tie.Need-same-length-5
 same-length-5 c = search needs
