@@ -59,7 +59,7 @@ impl Shape {
 
     /// The texture that calls on one texture name, and what they name of it: one layer of one mip, or all of a Single texture.
     fn named(self) -> (u32, Option<Selector>) {
-        let layer = self.layers / 2 & !1;
+        let layer = (self.layers / 2) & !1;
         let part = [0, 1, layer, layer + 1];
         (
             self.textures / 2,

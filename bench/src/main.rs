@@ -9,7 +9,7 @@ mod measure;
 mod port;
 
 use cases::{Case, Join, Kind, MergeScope, MergeSingle, SetScope, SetSingle, Shape, Sparse};
-use measure::measure;
+use measure::{measure, Times};
 
 const CALLS: [&str; 6] = [
     "merge_single",
@@ -49,11 +49,25 @@ fn shapes(call: &str) -> Vec<(&'static str, Kind, u32)> {
 
 /// A time with three figures.
 fn nanoseconds(x: f64) -> String {
-    match x {
-        x if x < 99.95 => format!("{x:.1}"),
-        x if x < 1e5 => format!("{x:.0}"),
-        x => format!("{:.0},000", x / 1e3),
+    if x < 99.95 {
+        return format!("{x:.1}");
     }
+    let step = 10f64.powf(x.log10().floor() - 2.0);
+    let mut left = ((x / step).round() * step).round() as u64;
+    let mut text = String::new();
+    while left >= 1000 {
+        text = format!(",{:03}{text}", left % 1000);
+        left /= 1000;
+    }
+    format!("{left}{text}")
+}
+
+/// What the port takes beside the test, by the Rust's time. Where the test is nearly all of it, the two medians tell nothing.
+fn beside(times: Times) -> String {
+    if times.test > 0.9 * times.port {
+        return "–".into();
+    }
+    format!("{:.2}", (times.port - times.test) / times.rust)
 }
 
 fn table(rounds: usize) {
@@ -69,12 +83,12 @@ fn table(rounds: usize) {
                 };
                 let times = measure(&mut *case(call, shape), rounds);
                 println!(
-                    "| {call} | {textures} | {name} | {layers} | {} | {} | {:.2} | {} | {:.2} |",
+                    "| {call} | {textures} | {name} | {layers} | {} | {} | {:.2} | {} | {} |",
                     nanoseconds(times.rust),
                     nanoseconds(times.port),
                     times.port / times.rust,
                     nanoseconds(times.test),
-                    (times.port - times.test) / times.rust,
+                    beside(times),
                 );
             }
         }
