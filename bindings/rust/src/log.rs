@@ -80,7 +80,8 @@ impl TransitionLog {
         Self { storage: LogStorage::new(subresources(textures, largest)) }
     }
 
-    /// A log with that many free entries, 28 bytes each, taken at once.
+    /// A log with that many free entries, 28 bytes each, taken at once. A size that cannot be had ends the program, as
+    /// with `Vec`.
     pub fn with_capacity(entries: u32) -> Self {
         Self { storage: LogStorage::new(entries as usize) }
     }

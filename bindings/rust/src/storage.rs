@@ -62,8 +62,8 @@ pub(crate) enum Half {
     End,
 }
 
-/// How many subresources that many textures have. Past the limits of a set it is that of the largest one: opening
-/// is refused there, whatever room is lent.
+/// How many subresources that many textures have. A number past its limit counts as the limit: opening is refused
+/// there, whatever room is lent.
 pub(crate) fn subresources(textures: u32, largest: Extent) -> usize {
     let textures = textures.min(MOST_TEXTURES) as usize;
     let mips = largest.mips.min(MOST.mips) as usize;

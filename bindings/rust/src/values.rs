@@ -110,7 +110,7 @@ pub struct Selector {
 }
 
 impl Selector {
-    /// One subresource.
+    /// One subresource. At the largest number it is empty.
     pub const fn one(mip: Mip, layer: Layer) -> Self {
         Self { mips: mip..Mip(mip.0.saturating_add(1)), layers: layer..Layer(layer.0.saturating_add(1)) }
     }
