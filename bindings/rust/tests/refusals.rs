@@ -22,7 +22,7 @@ fn refused(scope: &mut UsageScope, texture: Texture, selector: Option<Selector>,
 
 /// The same merge, tried on a tracker: it is refused alike.
 fn refused_by_both(texture: Texture, selector: Selector, state: u16) -> Refusal {
-    let refusal = refused(&mut whole(&[8]), texture, Some(selector.clone()), state);
+    let refusal = refused(&mut single(&[8]), texture, Some(selector.clone()), state);
     let (mut tracker, mut log) = (tracked(&[8]), log());
     let before = format!("{tracker:?}");
     assert_eq!(tracker.set_single(texture, selector, State(state), &mut log), Err(refusal));
@@ -67,7 +67,7 @@ fn other_flags_6() {
     let other_tracker = TextureTracker::open(1, EXTENT, flags, MASK).unwrap();
     let (mut tracker, mut log) = (tracked(&[8]), log());
     let refusal = Refusal::FlagsDiffer;
-    assert_eq!(whole(&[8]).merge_usage_scope(&other), Err(refusal.into()));
+    assert_eq!(single(&[8]).merge_usage_scope(&other), Err(refusal.into()));
     assert_eq!(tracker.set_from_usage_scope(&other, &mut log), Err(refusal));
     assert_eq!(tracker.set_from_tracker(&other_tracker, &mut log), Err(refusal));
     let answer = tracker.set_and_remove_from_usage_scope_sparse(&mut other, &[], &mut log);
@@ -141,7 +141,7 @@ fn whole_sets_7_8_9() {
         let (mut tracker, mut log) = (tracked(&[8]), log());
         let mut other = TextureTracker::open(n, largest, FLAGS, MASK).unwrap();
         other.set_from_usage_scope(&given, &mut log).unwrap();
-        assert_eq!(whole(&[8]).merge_usage_scope(&given), Err(refusal.into()));
+        assert_eq!(single(&[8]).merge_usage_scope(&given), Err(refusal.into()));
         assert_eq!(tracker.set_from_usage_scope(&given, &mut log), Err(refusal));
         assert_eq!(tracker.set_from_tracker(&other, &mut log), Err(refusal));
         let list = [texture.index];
@@ -154,7 +154,7 @@ fn whole_sets_7_8_9() {
 #[test]
 fn a_listed_index_that_the_scope_lacks_7() {
     let list = [TrackerIndex(0), TrackerIndex(1)];
-    let (mut given, mut tracker, mut log) = (whole(&[8]), tracker(), log());
+    let (mut given, mut tracker, mut log) = (single(&[8]), tracker(), log());
     let answer = tracker.set_and_remove_from_usage_scope_sparse(&mut given, &list, &mut log);
     assert_eq!(answer, Err(Refusal::NoSuchIndex(TrackerIndex(1))));
     assert_eq!((of_scope(&given), tracker.owned().next()), ("8".to_string(), None));
@@ -168,9 +168,9 @@ fn no_free_entry_15() {
     let mut none = TransitionLog::with_capacity(0);
     let refusal = Refusal::NoFreeEntry;
     assert_eq!(tracker.set_single(TEXTURE, part(), State(8), &mut none), Err(refusal));
-    assert_eq!(tracker.set_from_usage_scope(&whole(&[8]), &mut none), Err(refusal));
+    assert_eq!(tracker.set_from_usage_scope(&single(&[8]), &mut none), Err(refusal));
     assert_eq!(tracker.set_from_tracker(&tracked(&[8]), &mut none), Err(refusal));
-    let (mut given, list) = (whole(&[8]), [TrackerIndex(0)]);
+    let (mut given, list) = (single(&[8]), [TrackerIndex(0)]);
     let sparse = tracker.set_and_remove_from_usage_scope_sparse(&mut given, &list, &mut none);
     assert_eq!((sparse, of_scope(&given)), (Err(refusal), "8".to_string()));
     assert_eq!(of_tracker(&tracker), ("4".to_string(), "4".to_string()));

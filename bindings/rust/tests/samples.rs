@@ -5,17 +5,17 @@ use texture_tracker::*;
 
 #[test]
 fn b1_whole_into_unowned() {
-    assert_eq!(of_scope(&whole(&[8])), "8");
+    assert_eq!(of_scope(&single(&[8])), "8");
 }
 
 #[test]
 fn b2_reads_unite() {
-    assert_eq!(of_scope(&whole(&[8, 2])), "10");
+    assert_eq!(of_scope(&single(&[8, 2])), "10");
 }
 
 #[test]
 fn b3_an_exclusive_use_conflicts_and_nothing_changes() {
-    let mut scope = whole(&[8, 2]);
+    let mut scope = single(&[8, 2]);
     let answer = scope.merge_single(TEXTURE, None, State(4));
     assert_eq!(answer, conflict(EXTENT.full_range(), 10, 4));
     assert_eq!(of_scope(&scope), "10");
@@ -23,19 +23,19 @@ fn b3_an_exclusive_use_conflicts_and_nothing_changes() {
 
 #[test]
 fn b4_part_of_an_unowned_texture() {
-    assert_eq!(of_scope(&parted(8)), "0..1 U, 1..3 8, 3..4 U; 0..4 U");
+    assert_eq!(of_scope(&many(8)), "0..1 U, 1..3 8, 3..4 U; 0..4 U");
 }
 
 #[test]
 fn b5_whole_after_part() {
-    let mut scope = parted(8);
+    let mut scope = many(8);
     scope.merge_single(TEXTURE, None, State(2)).unwrap();
     assert_eq!(of_scope(&scope), "0..1 2, 1..3 10, 3..4 2; 0..4 2");
 }
 
 #[test]
 fn b6_what_came_before_the_conflict_stays() {
-    let mut scope = parted(8);
+    let mut scope = many(8);
     let answer = scope.merge_single(TEXTURE, None, State(4));
     assert_eq!(answer, conflict(part(), 8, 4));
     assert_eq!(of_scope(&scope), "0..1 4, 1..3 8, 3..4 U; 0..4 U");
@@ -43,15 +43,15 @@ fn b6_what_came_before_the_conflict_stays() {
 
 #[test]
 fn b7_unknown_is_left_beside_a_whole_state() {
-    let mut scope = whole(&[8]);
-    scope.merge_usage_scope(&parted(2)).unwrap();
+    let mut scope = single(&[8]);
+    scope.merge_usage_scope(&many(2)).unwrap();
     assert_eq!(of_scope(&scope), "0..1 8200, 1..3 10, 3..4 8200; 0..4 8200");
 }
 
 #[test]
 fn b8_unknown_conflicts_with_an_exclusive_whole_state() {
-    let mut scope = whole(&[4]);
-    let answer = scope.merge_usage_scope(&parted(2));
+    let mut scope = single(&[4]);
+    let answer = scope.merge_usage_scope(&many(2));
     assert_eq!(answer, conflict(selector(0..1, 0..1), 4, U));
     assert_eq!(of_scope(&scope), "4");
 }
@@ -89,7 +89,7 @@ fn b11_the_start_learns_where_nothing_was_known() {
 #[test]
 fn b12_a_join_goes_to_the_other_start_and_takes_its_end() {
     let (mut one, mut log) = (tracker(), log());
-    one.set_from_usage_scope(&parted(8), &mut log).unwrap();
+    one.set_from_usage_scope(&many(8), &mut log).unwrap();
     one.set_from_tracker(&tracked(&[2, 8]), &mut log).unwrap();
     assert_eq!(log.iter().collect::<Vec<_>>(), [transition(part(), 8, 2)]);
     assert_eq!(of_tracker(&one), ("0..4 8; 0..4 8".to_string(), "8".to_string()));
@@ -125,7 +125,7 @@ fn a_sparse_call_takes_the_listed_textures_out_of_the_scope() {
 
 #[test]
 fn clearing_opens_again() {
-    let mut scope = parted(8);
+    let mut scope = many(8);
     scope.clear().unwrap();
     assert_eq!((of_scope(&scope), scope.flags()), ("unowned".to_string(), FLAGS));
     let mut tracker = tracked(&[8]);

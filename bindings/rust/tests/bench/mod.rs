@@ -36,7 +36,7 @@ pub fn log() -> TransitionLog {
 }
 
 /// A scope with these uses of all of the texture.
-pub fn whole(states: &[u16]) -> UsageScope {
+pub fn single(states: &[u16]) -> UsageScope {
     let mut scope = scope();
     for &state in states {
         scope.merge_single(TEXTURE, None, State(state)).unwrap();
@@ -45,7 +45,7 @@ pub fn whole(states: &[u16]) -> UsageScope {
 }
 
 /// A scope with one use, of mip 0 and layers 1..3.
-pub fn parted(state: u16) -> UsageScope {
+pub fn many(state: u16) -> UsageScope {
     let mut scope = scope();
     scope.merge_single(TEXTURE, Some(part()), State(state)).unwrap();
     scope
