@@ -3,6 +3,9 @@ use std::{env, fs, io, path::PathBuf};
 
 const ARCHIVE: &str = "libexports.a";
 const README: &str = "../../README.md";
+/// What the archive is compiled for: x86-64 Linux, with addresses of 64 bits.
+const TARGET: [(&str, &str); 3] =
+    [("CARGO_CFG_TARGET_ARCH", "x86_64"), ("CARGO_CFG_TARGET_OS", "linux"), ("CARGO_CFG_TARGET_POINTER_WIDTH", "64")];
 
 fn main() -> io::Result<()> {
     println!("cargo::rerun-if-changed=build.rs");
@@ -16,14 +19,14 @@ fn link() {
     let dir = env::var_os("TEXTURE_TRACKER_LIB_DIR").map_or_else(in_repository, PathBuf::from);
     let archive = dir.join(ARCHIVE);
     println!("cargo::rerun-if-changed={}", archive.display());
-    if env::var("CARGO_CFG_TARGET_ARCH").as_deref() != Ok("x86_64") {
+    if !TARGET.iter().all(|(key, value)| env::var(key).as_deref() == Ok(value)) {
         println!("cargo::error=the proved library is compiled for x86-64 Linux and links into no other program");
     }
     if !archive.is_file() {
         println!(
             "cargo::error={} is not there. `rt staticlib exports`, run at the top of the repository, proves and \
              writes it (some minutes the first time). If it stands elsewhere, set TEXTURE_TRACKER_LIB_DIR to its \
-             directory.",
+             directory (a relative path counts from bindings/rust).",
             archive.display()
         );
     }
