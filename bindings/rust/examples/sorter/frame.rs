@@ -126,8 +126,13 @@ impl Frame {
     }
 
     fn late(&mut self, name: &str, pass: &str) -> Told<()> {
-        if !self.uses().any(|made| made.name.as_deref() == Some(name)) {
-            return Err(format!("there is no use named {name}"));
+        let makes = |known: &Pass| known.uses.iter().any(|made| made.name.as_deref() == Some(name));
+        let home = self.passes.iter().find(|known| makes(known)).ok_or(format!("there is no use named {name}"))?;
+        if home.name == pass {
+            return Err(format!("{name} is made in pass {pass} as it is"));
+        }
+        if self.late.iter().any(|late| late.name == name) {
+            return Err(format!("{name} is late already"));
         }
         let position = self.passes.iter().position(|known| known.name == pass);
         let pass = position.ok_or(format!("there is no pass {pass}"))?;
@@ -152,18 +157,23 @@ impl Frame {
 }
 
 fn number(word: &str) -> Told<u32> {
-    word.parse().map_err(|_| format!("\"{word}\" is not a number"))
+    word.parse().map_err(|_| format!("\"{word}\" is not a number below 4294967296"))
+}
+
+/// Where mips or layers end whose last one is this.
+fn after(last: u32, word: &str) -> Told<u32> {
+    last.checked_add(1).ok_or(format!("{word} {last} is past the texture"))
 }
 
 /// Takes mips or layers off the words, if they are there.
 fn span<'a>(words: &'a [&'a str], one: &str, many: &str) -> Told<(Option<Range<u32>>, &'a [&'a str])> {
     match words {
         [word, first, "to", last, rest @ ..] if *word == many => {
-            Ok((Some(number(first)?..number(last)?.saturating_add(1)), rest))
+            Ok((Some(number(first)?..after(number(last)?, one)?), rest))
         }
         [word, at, rest @ ..] if *word == one => {
             let at = number(at)?;
-            Ok((Some(at..at.saturating_add(1)), rest))
+            Ok((Some(at..after(at, one)?), rest))
         }
         [word, ..] if *word == one || *word == many => Err(format!("write: {one} NUMBER, or {many} NUMBER to NUMBER")),
         _ => Ok((None, words)),

@@ -2,7 +2,8 @@
 //!
 //!     sorter [FRAME]        FRAME: a file like demo.frame, which is taken if none is given
 //!
-//! Ends with 0; with 1 if the frame has a conflict as it is written; with 2 if its file makes no sense.
+//! Ends with 0; with 1 if the frame has a conflict as it is written; with 2 if its file makes no sense, more than one is
+//! given, or the output cannot be written.
 mod frame;
 mod run;
 mod show;
@@ -19,20 +20,38 @@ use std::{
 use texture_tracker::{uses, Refusal};
 
 fn main() -> ExitCode {
-    let given = env::args_os().nth(1).map(PathBuf::from);
-    let path = given.unwrap_or(Path::new(env!("CARGO_MANIFEST_DIR")).join("examples/sorter/demo.frame"));
-    let colours = io::stdout().is_terminal() && env::var_os("NO_COLOR").is_none();
-    let mut page = Page { text: String::new(), colours };
+    let mut given = env::args_os().skip(1).map(PathBuf::from);
+    let own = || Path::new(env!("CARGO_MANIFEST_DIR")).join("examples/sorter/demo.frame");
+    let path = given.next().unwrap_or_else(own);
+    if given.next().is_some() {
+        return fail("usage: ./demo [FRAME]");
+    }
+    let mut page = Page { text: String::new(), colours: takes_colours() };
     match demonstrate(&path, &mut page) {
-        Ok(passes) => {
-            // A reader that went away is no fault of the frame.
-            let _ = io::stdout().write_all(page.text.as_bytes());
-            ExitCode::from(if passes { 0 } else { 1 })
+        Ok(passes) => write(&page.text, ExitCode::from(if passes { 0 } else { 1 })),
+        Err(what) => fail(&format!("{}, {what}", path.display())),
+    }
+}
+
+fn fail(what: &str) -> ExitCode {
+    eprintln!("{what}");
+    ExitCode::from(2)
+}
+
+fn takes_colours() -> bool {
+    let dumb = env::var_os("TERM").is_some_and(|term| term == "dumb");
+    io::stdout().is_terminal() && env::var_os("NO_COLOR").is_none() && !dumb
+}
+
+/// Writes the page and ends with that status.
+fn write(text: &str, status: ExitCode) -> ExitCode {
+    let mut out = io::stdout();
+    match out.write_all(text.as_bytes()).and_then(|()| out.flush()) {
+        // A reader that went away is no fault of the frame.
+        Err(error) if error.kind() != io::ErrorKind::BrokenPipe => {
+            fail(&format!("the output cannot be written: {error}"))
         }
-        Err(what) => {
-            eprintln!("{}, {what}", path.display());
-            ExitCode::from(2)
-        }
+        _ => status,
     }
 }
 
