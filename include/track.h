@@ -59,13 +59,13 @@ enum track_kind {
     TRACK_CONFLICT = 2 /* two uses exclude each other; what was merged before them stays merged */
 };
 
-/* track_answer.number, where kind is TRACK_REFUSED. Checks are made from the first to the last; place is the index of the texture for
- * 7, 8 and 9, otherwise 0. */
+/* track_answer.number, where kind is TRACK_REFUSED. Checks are made from the first to the last; calls over a set check 7 to 9 texture by
+ * texture, ascending; the sparse call in the order of its list. place is the index of the texture for 7, 8 and 9, otherwise 0. */
 enum track_refusal {
     TRACK_NUMBERS_OUT_OF_LIMITS = 1, /* opening: N, M or W is outside its limits */
-    TRACK_FLAGS_BREAK_RULE = 2,      /* opening: UNINITIALIZED, COMPLEX, UNKNOWN are not one bit of 16 each, all different, with COMPLEX
-                                        and UNKNOWN outside EXCLUSIVE */
-    TRACK_SHORT_ROOM = 3,            /* opening: fewer than N * M * W ranges are lent */
+    TRACK_FLAGS_BREAK_RULE = 2,      /* opening: EXCLUSIVE has more than 16 bits, or UNINITIALIZED, COMPLEX, UNKNOWN are not one bit of 16
+                                        each, all different, with COMPLEX and UNKNOWN outside EXCLUSIVE */
+    TRACK_SHORT_ROOM = 3,            /* opening: fewer than N * M * W ranges are lent; of a tracker, in starts or in ends */
     TRACK_NOT_WELL_FORMED = 4,       /* a set that is lent is not well formed: not opened, damaged, or with shorter ranges */
     TRACK_LOG_TOO_SHORT = 5,         /* written and free together are more entries than are lent */
     TRACK_FLAGS_DIFFER = 6,          /* the two sets were opened with different flags */
@@ -138,9 +138,10 @@ track_answer track_merge_single(uint32_t table[TRACK_TABLE_LENGTH], uint32_t *ra
                                 uint32_t index, uint32_t mips, uint32_t layers, uint32_t part,
                                 uint32_t mip_start, uint32_t mip_end, uint32_t layer_start, uint32_t layer_end, uint16_t state);
 
-/* All textures of another scope (given, with its ranges lent), by ascending index, up to the first conflict. Refuses 4, 6 to 9. */
+/* All textures of another scope (given, with its ranges in given_ranges), by ascending index, up to the first conflict. Refuses 4, 6
+ * to 9. */
 track_answer track_merge_usage_scope(uint32_t table[TRACK_TABLE_LENGTH], uint32_t *ranges, size_t ranges_length,
-                                     const uint32_t given[TRACK_TABLE_LENGTH], const uint32_t *lent, size_t lent_length);
+                                     const uint32_t given[TRACK_TABLE_LENGTH], const uint32_t *given_ranges, size_t given_ranges_length);
 
 /* ---- The calls of a tracker: each logs the transitions that its uses make necessary, and none answers a conflict ------------------ */
 
@@ -151,25 +152,29 @@ track_logged_answer track_set_single(uint32_t table[TRACK_TABLE_LENGTH], uint32_
                                      uint32_t mip_start, uint32_t mip_end, uint32_t layer_start, uint32_t layer_end, uint16_t state,
                                      uint32_t *log, size_t log_length, size_t written, size_t free);
 
-/* All textures of a scope (given, with its ranges lent). Refuses 4 to 9, 15. */
+/* All textures of a scope (given, with its ranges in given_ranges). Refuses 4 to 9, 15. */
 track_logged_answer track_set_from_usage_scope(uint32_t table[TRACK_TABLE_LENGTH], uint32_t *starts, size_t starts_length,
                                                uint32_t *ends, size_t ends_length,
-                                               const uint32_t given[TRACK_TABLE_LENGTH], const uint32_t *lent, size_t lent_length,
+                                               const uint32_t given[TRACK_TABLE_LENGTH],
+                                               const uint32_t *given_ranges, size_t given_ranges_length,
                                                uint32_t *log, size_t log_length, size_t written, size_t free);
 
-/* All textures of another tracker (given, with its starts in first and its ends in last): transitions go to the other's start, and its
- * end is what they leave. Refuses 4 to 9, 15. */
+/* All textures of another tracker (given, with its starts in given_starts and its ends in given_ends): transitions go to the other's
+ * start, and its end is what they leave. Refuses 4 to 9, 15. */
 track_logged_answer track_set_from_tracker(uint32_t table[TRACK_TABLE_LENGTH], uint32_t *starts, size_t starts_length,
                                            uint32_t *ends, size_t ends_length,
-                                           const uint32_t given[TRACK_TABLE_LENGTH], const uint32_t *first, size_t first_length,
-                                           const uint32_t *last, size_t last_length,
+                                           const uint32_t given[TRACK_TABLE_LENGTH],
+                                           const uint32_t *given_starts, size_t given_starts_length,
+                                           const uint32_t *given_ends, size_t given_ends_length,
                                            uint32_t *log, size_t log_length, size_t written, size_t free);
 
 /* The listed textures of a scope, in the list's order; the scope (given) then owns them no more. Textures that it does not own are passed
- * over, and one listed twice counts once. Refuses 4 to 9, 15. */
+ * over, and one listed twice counts once. Time grows with the square of the list's length; no list needs more than N indices. Refuses 4
+ * to 9, 15. */
 track_logged_answer track_set_and_remove_from_usage_scope_sparse(
     uint32_t table[TRACK_TABLE_LENGTH], uint32_t *starts, size_t starts_length, uint32_t *ends, size_t ends_length,
-    uint32_t given[TRACK_TABLE_LENGTH], const uint32_t *lent, size_t lent_length, const uint32_t *indices, size_t indices_length,
+    uint32_t given[TRACK_TABLE_LENGTH], const uint32_t *given_ranges, size_t given_ranges_length,
+    const uint32_t *indices, size_t indices_length,
     uint32_t *log, size_t log_length, size_t written, size_t free);
 
 /* ---- The log ------------------------------------------------------------------------------------------------------------------ */

@@ -376,8 +376,11 @@ static void opening(void)
     REFUSED(TRACK_NUMBERS_OUT_OF_LIMITS, 0, track_open_scope(t, many, 192, 0, 1, 1, EXCLUSIVE, UNINITIALIZED, COMPLEX, UNKNOWN));
     REFUSED(TRACK_FLAGS_BREAK_RULE, 0, track_open_scope(t, many, 192, 64, 1, 1, EXCLUSIVE, UNINITIALIZED, COMPLEX, 16));
     REFUSED(TRACK_FLAGS_BREAK_RULE, 0, open_tracker(&lent.tracker, EXCLUSIVE + COMPLEX));
+    REFUSED(TRACK_FLAGS_BREAK_RULE, 0, open_tracker(&lent.tracker, EXCLUSIVE + 65536)); /* 17 bits */
     REFUSED(TRACK_SHORT_ROOM, 0, track_open_scope(t, many, 191, 64, 1, 1, EXCLUSIVE, UNINITIALIZED, COMPLEX, UNKNOWN));
     REFUSED(TRACK_SHORT_ROOM, 0, track_open_tracker(lent.tracker.table, lent.tracker.starts, RANGES, lent.tracker.ends, RANGES - 1,
+                                                    N, M, W, EXCLUSIVE, UNINITIALIZED, COMPLEX, UNKNOWN, MASK));
+    REFUSED(TRACK_SHORT_ROOM, 0, track_open_tracker(lent.tracker.table, lent.tracker.starts, RANGES - 1, lent.tracker.ends, RANGES,
                                                     N, M, W, EXCLUSIVE, UNINITIALIZED, COMPLEX, UNKNOWN, MASK));
 }
 
@@ -444,6 +447,14 @@ static void uses(void)
     DONE(set_all(&lent.tracker, 4));
     DONE(track_merge_single(lent.other.table, lent.other.ranges, RANGES, 0, 1, W, 0, 0, 0, 0, 0, 8));
     REFUSED(TRACK_EXTENT_DIFFERS, 0, SAME_HEAD(0, 0, from_scope_at(RANGES, 0, 0)));
+
+    start(); /* 9 of texture 0 and 8 of texture 1: a set is checked ascending, a list in its order */
+    DONE(set_all(&lent.tracker, 4));
+    DONE(track_open_scope(lent.other.table, lent.other.ranges, RANGES, 2, 1, 8, EXCLUSIVE, UNINITIALIZED, COMPLEX, UNKNOWN));
+    DONE(track_merge_single(lent.other.table, lent.other.ranges, RANGES, 0, 1, W, 0, 0, 0, 0, 0, 8));
+    DONE(track_merge_single(lent.other.table, lent.other.ranges, RANGES, 1, 1, 8, 0, 0, 0, 0, 0, 8));
+    REFUSED(TRACK_EXTENT_DIFFERS, 0, SAME_HEAD(0, 0, from_scope_at(RANGES, 0, 0)));
+    REFUSED(TRACK_EXTENT_OUT_OF_LIMITS, 1, SAME_HEAD(0, 0, sparse_at((const uint32_t[]){ 1, 0 }, 2, 0, 0)));
 
     start(); /* 15: the last free entry is used, one more is refused */
     DONE(set_all(&lent.tracker, 4));
