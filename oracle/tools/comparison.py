@@ -1,5 +1,6 @@
 """The command `compare`."""
 import argparse
+import shutil
 import subprocess
 import sys
 import time
@@ -29,7 +30,10 @@ def arguments():
                         help="the program keeps the storage itself: only calls that it can be given (tools/safe.py)")
     parser.add_argument("--no-build", action="store_true", help="run the drivers that are there")
     parser.add_argument("--self-test", action="store_true", help="break rules one at a time; each must be reported")
-    return parser.parse_args()
+    chosen = parser.parse_args()
+    if chosen.program and not shutil.which(chosen.program):
+        parser.error(f"there is no program {chosen.program}; if it is the proved one, `rt check replay` writes it")
+    return chosen
 
 
 def build():
