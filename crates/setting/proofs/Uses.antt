@@ -5,7 +5,9 @@ use mathlib.Core.Path.{_≡_, refl, sym, ap, subst, _∙_}
 use mathlib.Core.Bool.{Bool, true, false, false≢true}
 use mathlib.Core.List.{List, []}
 use mathlib.Core.Option.{Option, none, some}
+use lib.Dec.{leb}
 use lib.ListN.{length, getD, set, length-map}
+use borrow.Author.Tests.{le-leb}
 use Rattle.model.specs.declared.Extent.{Extent}
 use Rattle.model.specs.declared.InvalidUse.{InvalidUse}
 use Rattle.model.specs.declared.LogHead.{LogHead}
@@ -16,14 +18,18 @@ use Rattle.model.specs.declared.Refusal.{Refusal}
 use Rattle.model.specs.declared.Refusal.the-variants.{NoFreeEntry}
 use Rattle.model.specs.declared.Outcome.the-variants as outcome
 use Rattle.model.specs.Representation.{Ends, isFull}
-use Rattle.model.specs.Sets.{Head, Slot, Tracker, slotAt, emptySlot, withTracker, headOf}
+use Rattle.model.specs.WellFormed.{trackerFits, wellFormedTracker}
+use Rattle.agreement.specs.BoolLaws.{and-left}
+use Rattle.agreement.specs.LogRoom.{entries-written}
+use Rattle.agreement.specs.EachCall.{set-single-room}
+use Rattle.model.specs.Sets.{capacity, Head, Slot, Tracker, slotAt, emptySlot, withTracker, headOf}
 use Rattle.model.specs.Refusals.{singleRefusal}
 use Rattle.model.specs.Calls.{CallResult, done, unless, turnedAway, setSlot, logSlot, setSingle, noEnds}
 use Rattle.model.specs.Calls as calls
 use Rattle.model.specs.Log.{pending}
 use Rattle.model.specs.Texture.{Held, Given, Entry, fromUse, ranged}
 use Rattle.storage.specs.Lists.{list-at}
-use Rattle.storage.specs.Storage.{flagsOf, startHalf, endHalf, trackerOf}
+use Rattle.storage.specs.Storage.{numbersOf, flagsOf, startHalf, endHalf, trackerOf}
 use Rattle.texture.specs.Uses.{useOf}
 use Rattle.barrier.specs.Logged.{entriesAt, Room, Logged, logged-added, logged-unchanged}
 use Rattle.barrier.specs.Steps.{logTop}
@@ -41,41 +47,45 @@ use Rattle.setting.specs.Logging.{headFits, refusedWith, movedOn, head-l
 use Rattle.setting.specs.Changed.{Changed, away-own, changed-tracked}
 
 -- ---- The log
--- what was counted fits where it is written
-pub room-for : {top i n : ℕ} {l l₁ : List ℕ} {es : List Entry} (h : LogHead) → Logged top i false l 0 es n l₁ → headFits (length l / 7) h ≡ true → n ≤ h .free → 7 * (h .written + length es) ≤ length l₁
-room-for {top} {i} {n} {l} h c f k = omega (arith, head-le (length l / 7) h f, c .count, c .long)
-
 as-entries : (i : ℕ) (es : List Entry) → length (entriesAt i es) ≡ length es
 as-entries i es = length-map es _
 
-module _ (t s e : List ℕ) {l l₁ : List ℕ} (i : ℕ) (sh : Extent) (g : Given) {top n : ℕ} (h : LogHead)
-    (c : Logged top i false l 0 (slotEntries (flagsOf t) (getD t 7 0) sh g (slotOf t s e i)) n l₁) where
-  counted : n ≡ length (usedEntries t s e i sh g)
-  counted = c .count ∙ sym (as-entries i (slotEntries (flagsOf t) (getD t 7 0) sh g (slotOf t s e i)))
+-- a free entry for every subresource is enough
+pub all-fit : (n top free k : ℕ) → n ≤ top → k ≡ top → k ≤ free → true ≡ leb n free
+all-fit n top free k a e b = sym (le-leb n free (omega arith))
+
+module _ (t s e l : List ℕ) (i : ℕ) (sh : Extent) (g : Given) (h : LogHead) where
+  abbrev es : List Entry
+  es = slotEntries (flagsOf t) (getD t 7 0) sh g (slotOf t s e i)
+
+  -- as the log's entries they are as many
+  pub used-few : length (usedEntries t s e i sh g) ≤ capacity (numbersOf t) → length es ≤ capacity (numbersOf t)
+  used-few k = omega (arith, as-entries i es)
+
+  -- what fits in what is free fits where it is written
+  pub room-for : headFits (length l / 7) h ≡ true → length es ≤ h .free → 7 * (h .written + length es) ≤ length l
+  room-for f k = omega (arith, head-le (length l / 7) h f)
 
   -- 15
-  pub not-enough : h .free < n → Changed (usedEntries t s e i sh g) (usedTracker t s e i sh g) h t s e l (refusedWith NoFreeEntry h) t s e l₁
+  pub not-enough : h .free < length es → Changed (usedEntries t s e i sh g) (usedTracker t s e i sh g) h t s e l (refusedWith NoFreeEntry h) t s e l
   not-enough k = record {
-    few = λ q. (refl, (refl, (refl, (refl, logged-unchanged c))));
-    enough = λ q. absurd (omega (arith, counted));
+    few = λ q. (refl, (refl, (refl, (refl, refl))));
+    enough = λ q. absurd (omega (arith, as-entries i es));
     start-long = refl;
     end-long = refl;
     table = refl;
   }
 
   -- written, and the texture changed
-  pub written : {top₂ k : ℕ} {t′ s′ e′ l₂ : List ℕ} → n ≤ h .free → headFits (length l / 7) h ≡ true → i < getD t 0 0 → Logged top₂ i true l₁ (h .written) (slotEntries (flagsOf t) (getD t 7 0) sh g (slotOf t s e i)) k l₂ → SlotSet t s e i (setSlot ranged (flagsOf t) sh g g (slotOf t s e i)) t′ s′ e′
-      → Changed (usedEntries t s e i sh g) (usedTracker t s e i sh g) h t s e l (movedOn h n) t′ s′ e′ l₂
-  written {top₂} {k} {t′} {s′} {e′} {l₂} le f x w q =
-      let es = slotEntries (flagsOf t) (getD t 7 0) sh g (slotOf t s e i) in
-      let w₁ : Logged top₂ i true l (h .written) es k l₂ = subst (λ (y : List ℕ). Logged top₂ i true y (h .written) es k l₂) (logged-unchanged c) w in
-      record {
-        few = λ z. absurd (omega (arith, counted));
-        enough = λ z. (ap (movedOn h) counted, (logged-added (omega (arith, room-for h c f le, c .long)) w₁, slot-view x q));
-        start-long = q .start-long;
-        end-long = q .end-long;
-        table = q .table;
-      }
+  pub written : {top k : ℕ} {t′ s′ e′ l₂ : List ℕ} → length es ≤ h .free → headFits (length l / 7) h ≡ true → i < getD t 0 0 → Logged top i true l (h .written) es k l₂ → SlotSet t s e i (setSlot ranged (flagsOf t) sh g g (slotOf t s e i)) t′ s′ e′
+      → Changed (usedEntries t s e i sh g) (usedTracker t s e i sh g) h t s e l (movedOn h k) t′ s′ e′ l₂
+  written {top} {k} {t′} {s′} {e′} {l₂} le f x w q = record {
+    few = λ z. absurd (omega (arith, as-entries i es));
+    enough = λ z. (ap (movedOn h) (w .count ∙ sym (as-entries i es)), (logged-added (room-for f le) w, slot-view x q));
+    start-long = q .start-long;
+    end-long = q .end-long;
+    table = q .table;
+  }
 
 -- ---- `set_single`
 module _ (t s e : List ℕ) (i : ℕ) (sh : Extent) (q : Selector) (st : ℕ) where
@@ -114,6 +124,18 @@ module _ {t s e : List ℕ} {i : ℕ} {sh : Extent} {q : Selector} {st : ℕ} {f
       let d : Changed (usedEntries t s e i sh (fromUse sh (some q) st)) (usedTracker t s e i sh (fromUse sh (some q) st)) h t s e l x t′ s′ e′ l′ = rw w c in
       subst (λ (y : CallResult InvalidUse (List Entry) (Tracker Held)). Tracked fits y h t s e l x t′ s′ e′ l′) (sym m)
       (changed-tracked f k refl (rw (slot-pending (flagsOf t) (getD t 7 0) sh (fromUse sh (some q) st) i (slotOf t s e i)) d))
+
+-- no more entries than the tracker has subresources
+pub single-few : (t s e : List ℕ) {i : ℕ} {sh : Extent} {q : Selector} {st : ℕ} (room : ℕ) (room₂ : ℕ) → wellFormedTracker room room₂ (trackerOf t s e) ≡ true → st < 65536 → UseTold t i sh (Part q) st outcome.Done → (g : Given) → fromUse sh (some q) st ≡ g
+    → length (usedEntries t s e i sh g) ≤ capacity (numbersOf t)
+unfolding trackerOf
+single-few t s e {i} {sh} {q} {st} room room₂ f b z g w =
+    let n = use-done z refl in
+    let m : setSingle ranged (trackerOf t s e) i sh q st ≡ passing t s e i sh q st (flagsOf t) (getD t 7 0) (slotOf t s e i) =
+    call-is t s e i sh q st none n ∙ read-here t s e i sh q st (texture-passed t i sh (use-passed t i sh (Part q) st n .0) .texture) in
+    let d = set-single-room (trackerOf t s e) (and-left (trackerFits (trackerOf t s e)) _ (and-left _ _ f)) i sh q st b in
+    let k : length (pending (setSingle ranged (trackerOf t s e) i sh q st .log)) ≤ capacity (numbersOf t) = rw (entries-written (setSingle ranged (trackerOf t s e) i sh q st .log)) d in
+    rw (m, slot-pending (flagsOf t) (getD t 7 0) sh (fromUse sh (some q) st) i (slotOf t s e i), w) at k
 
 -- ---- What one texture asks for
 module _ {t : List ℕ} {i : ℕ} {sh : Extent} {q : Selector} {st : ℕ} (z : UseTold t i sh (Part q) st outcome.Done) where

@@ -4,6 +4,7 @@ use crate::head::head_fits;
 use crate::head::lent_entries;
 use crate::head::moved_on;
 use crate::head::refused;
+use crate::head::subresources;
 use crate::slot::log_use_at;
 use crate::slot::set_use_at;
 use checks::check_single;
@@ -14,6 +15,7 @@ use model::Refusal;
 use model::Selection;
 use model::Selector;
 use model::TrackerIndex;
+use model::UsageFlags;
 use ready::is_full;
 use storage::Table;
 use storage::flags_of;
@@ -23,21 +25,71 @@ use wellformed::tracker_fits;
 ghost use mathlib.Core.Path.{_≡_};
 ghost use mathlib.Core.Bool.{true};
 ghost use mathlib.Core.Option.{some};
-ghost use Prim.Native.Nat.{_/_, _<_};
+ghost use Prim.Native.Nat.{_/_, _≤_, _<_};
+ghost use lib.Dec.{leb};
 ghost use lib.ListN.{length, getD};
+ghost use Rattle.model.specs.Sets.{capacity};
 ghost use Rattle.model.specs.Calls.{setSingle};
 ghost use Rattle.model.specs.Texture.{ranged};
 ghost use Rattle.model.specs.WellFormed.{wellFormedTracker};
-ghost use Rattle.storage.specs.Storage.{flagsOf, trackerOf};
+ghost use Rattle.storage.specs.Storage.{numbersOf, flagsOf, trackerOf};
 ghost use Rattle.texture.specs.Uses.{useOf};
-ghost use Rattle.setting.specs.Slot.{SlotReady};
 ghost use Rattle.ready.specs.Merges.{TakenUse};
+ghost use Rattle.setting.specs.Slot.{slotOf, slotEntries, SlotReady};
 ghost use Rattle.setting.specs.Single.{usedEntries, usedTracker};
 ghost use Rattle.setting.specs.Logging.{headFits};
 ghost use Rattle.setting.specs.Changed.{Changed};
 ghost use Rattle.setting.specs.Tracked.{Tracked};
 
-// The use, once the checks passed: its entries are counted, and then written, and the texture changes.
+// A given state, of sixteen bits.
+fn state_of(state: u16) -> u32
+    ensures { λ r. ⌜ (r ≡ state) × (state < 65536) ⌝ }
+{
+    state as u32
+}
+
+// 15: whether the entries of a use fit in what is free. Where there is a free entry for every subresource they do, and nothing is counted.
+fn entries_fit(
+    table: &Table,
+    starts: &[u32],
+    ends: &[u32],
+    i: usize,
+    extent: Extent,
+    all: bool,
+    q: Selector,
+    p: UsageFlags,
+    mask: u32,
+    new: u32,
+    log: &mut [u32],
+    free: usize,
+) -> bool
+    requires { ⌜ SlotReady (now table) (now starts) (now ends) i extent ⌝ }
+    requires { ⌜ TakenUse (now table) extent all q p new ⌝ }
+    requires { ⌜ length (slotEntries p mask extent (useOf all q new) (slotOf (now table) (now starts) (now ends) i)) ≤ capacity (numbersOf (now table)) ⌝ }
+    ensures { λ x. ⌜ (x ≡ leb (length (slotEntries p mask extent (useOf all q new) (slotOf (now (table .entry)) (now (starts .entry)) (now (ends .entry)) i))) free) × (now (log .exit) ≡ now (log .entry)) ⌝ }
+{
+    if subresources(table) <= free {
+        return true;
+    }
+    log_use_at(
+        table,
+        starts,
+        ends,
+        i,
+        extent,
+        all,
+        q,
+        p,
+        mask,
+        new,
+        log,
+        0,
+        false,
+    )
+        <= free
+}
+
+// The use, once the checks passed: its entries are written, if they fit, and the texture changes.
 pub fn set_checked(
     table: &mut Table,
     starts: &mut [u32],
@@ -52,13 +104,15 @@ pub fn set_checked(
 ) -> Answered
     requires { ⌜ SlotReady (now table) (now starts) (now ends) i extent ⌝ }
     requires { ⌜ TakenUse (now table) extent all q (flagsOf (now table)) new ⌝ }
+    requires { ⌜ length (usedEntries (now table) (now starts) (now ends) i extent (useOf all q new)) ≤ capacity (numbersOf (now table)) ⌝ }
     requires { ⌜ headFits (length (now log) / 7) head ≡ true ⌝ }
     requires { ⌜ length (now log) < 18446744073709551616 ⌝ }
     ensures { λ x. ⌜ Changed (usedEntries (now (table .entry)) (now (starts .entry)) (now (ends .entry)) i extent (useOf all q new)) (usedTracker (now (table .entry)) (now (starts .entry)) (now (ends .entry)) i extent (useOf all q new)) head (now (table .entry)) (now (starts .entry)) (now (ends .entry)) (now (log .entry)) x (now (table .exit)) (now (starts .exit)) (now (ends .exit)) (now (log .exit)) ⌝ }
 {
     let p = flags_of(table);
     let mask = table[7];
-    let n = log_use_at(
+    let free = head.free;
+    if !entries_fit(
         table,
         starts,
         ends,
@@ -70,14 +124,12 @@ pub fn set_checked(
         mask,
         new,
         log,
-        0,
-        false,
-    );
-    if head.free < n {
+        free,
+    ) {
         return refused(Refusal::NoFreeEntry, head);
     }
     let at = head.written;
-    log_use_at(
+    let n = log_use_at(
         table,
         starts,
         ends,
@@ -117,7 +169,7 @@ pub fn set_single(
     if !head_fits(lent_entries(log), head) {
         return refused(Refusal::LogTooShort, head);
     }
-    let new = state as u32;
+    let new = state_of(state);
     match check_single(table, index, extent, Selection::Part(selector), new) {
         Outcome::Done => {
             let all = is_full(extent, selector);
