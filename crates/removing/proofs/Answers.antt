@@ -6,13 +6,15 @@ use mathlib.Core.Path.{_≡_, refl, sym, ap, subst, _∙_}
 use mathlib.Core.Bool.{Bool, true, false, _&&_, and-eq-true-iff}
 use mathlib.Core.List.{List, [], _∷_}
 use mathlib.Core.Option.{Option, none, some}
+use lib.Dec.{leb}
 use lib.ListN.{length}
+use borrow.Author.Tests.{le-leb}
 use Rattle.model.specs.declared.InvalidUse.{InvalidUse}
 use Rattle.model.specs.declared.LogHead.{LogHead}
 use Rattle.model.specs.declared.Refusal.{Refusal}
 use Rattle.model.specs.declared.Refusal.the-variants.{NoFreeEntry}
 use Rattle.model.specs.declared.Outcome.the-variants as outcome
-use Rattle.model.specs.Sets.{Head, Set, Tracker, headOf}
+use Rattle.model.specs.Sets.{capacity, Head, Set, Tracker, headOf}
 use Rattle.model.specs.Refusals.{sparseRefusal}
 use Rattle.model.specs.Calls.{CallResult, unless, sparseAll, setAndRemoveSparse}
 use Rattle.model.specs.Calls as calls
@@ -38,17 +40,21 @@ use Rattle.removing.specs.Logs.{mostEntries, setsOf, removedEntries, ent
 use Rattle.removing.specs.Taken.{Removes, Takes, setsAfter}
 use Rattle.removing.specs.Changed.{Changed, away-own, changed-removed}
 
+-- ---- `entries_fit`: a free entry for every subresource is enough
+pub all-fit : (n top free k : ℕ) → n ≤ top → k ≡ top → k ≤ free → true ≡ leb n free
+all-fit n top free k a e b = sym (le-leb n free (omega arith))
+
 -- ---- `remove_checked`
-module _ (t s e g r is : List ℕ) {l l₁ : List ℕ} {n : ℕ} (h : LogHead) (c : Adds mostEntries false l 0 (removedEntries t e g r is) n l₁) where
-  -- what was counted fits where it is written
-  pub room-for : headFits (length l / 7) h ≡ true → n ≤ h .free → 7 * (h .written + length (removedEntries t e g r is)) ≤ length l₁
-  room-for f k = omega (arith, head-le (length l / 7) h f, c .count, c .long)
+module _ (t s e g r is l : List ℕ) (h : LogHead) where
+  -- what fits in what is free fits where it is written
+  pub room-for : headFits (length l / 7) h ≡ true → length (removedEntries t e g r is) ≤ h .free → 7 * (h .written + length (removedEntries t e g r is)) ≤ length l
+  room-for f k = omega (arith, head-le (length l / 7) h f)
 
   -- 15
-  pub not-enough : h .free < n → Changed (removedEntries t e g r is) (setsAfter t s e g r is) h t s e g r l (refusedWith NoFreeEntry h) t s e g l₁
+  pub not-enough : h .free < length (removedEntries t e g r is) → Changed (removedEntries t e g r is) (setsAfter t s e g r is) h t s e g r l (refusedWith NoFreeEntry h) t s e g l
   not-enough k = record {
-    few = λ q. (refl, (refl, (refl, (refl, (refl, c .content)))));
-    enough = λ q. absurd (omega (arith, c .count));
+    few = λ q. (refl, (refl, (refl, (refl, (refl, refl)))));
+    enough = λ q. absurd (omega arith);
     stays = λ y q. refl;
     start-long = refl;
     end-long = refl;
@@ -57,19 +63,17 @@ module _ (t s e g r is : List ℕ) {l l₁ : List ℕ} {n : ℕ} (h : LogHead) (
   }
 
   -- written, and the textures changed
-  pub written : {k : ℕ} {t′ s′ e′ g′ l₂ : List ℕ} → n ≤ h .free → headFits (length l / 7) h ≡ true → Adds mostEntries true l₁ (h .written) (removedEntries t e g r is) k l₂ → Takes t s e g r is t′ s′ e′ g′
-      → Changed (removedEntries t e g r is) (setsAfter t s e g r is) h t s e g r l (movedOn h n) t′ s′ e′ g′ l₂
-  written {k} {t′} {s′} {e′} {g′} {l₂} le f w q =
-      let z : Added l₁ (h .written) (removedEntries t e g r is) l₂ = adds-added (room-for f le) w in
-      record {
-        few = λ y. absurd (omega (arith, c .count));
-        enough = λ y. (ap (movedOn h) (c .count), (subst (λ (y : List ℕ). Added y (h .written) (removedEntries t e g r is) l₂) (c .content) z, (q .tracker, q .scope)));
-        stays = q .stays;
-        start-long = q .start-long;
-        end-long = q .end-long;
-        table = q .table;
-        given = q .given;
-      }
+  pub written : {k : ℕ} {t′ s′ e′ g′ l₂ : List ℕ} → length (removedEntries t e g r is) ≤ h .free → headFits (length l / 7) h ≡ true → Adds mostEntries true l (h .written) (removedEntries t e g r is) k l₂ → Takes t s e g r is t′ s′ e′ g′
+      → Changed (removedEntries t e g r is) (setsAfter t s e g r is) h t s e g r l (movedOn h k) t′ s′ e′ g′ l₂
+  written {k} {t′} {s′} {e′} {g′} {l₂} le f w q = record {
+    few = λ y. absurd (omega arith);
+    enough = λ y. (ap (movedOn h) (w .count), (adds-added (room-for f le) w, (q .tracker, q .scope)));
+    stays = q .stays;
+    start-long = q .start-long;
+    end-long = q .end-long;
+    table = q .table;
+    given = q .given;
+  }
 
 -- ---- The call
 abbrev BothResult : Type 0
@@ -108,15 +112,20 @@ module _ {t s e g r is : List ℕ} (tracker : TrackerTested t s e) (scope : Scop
   model-entries = entries-model tracker scope (removes .passed)
 
   -- no more than N × M × W
-  pub few-entries : trackerFits (trackerOf t s e) ≡ true → scopeFits (scopeOf g r) ≡ true → length (removedEntries t e g r is) ≤ mostEntries
+  pub few-entries : trackerFits (trackerOf t s e) ≡ true → scopeFits (scopeOf g r) ≡ true → length (removedEntries t e g r is) ≤ capacity (numbersOf t)
   unfolding trackerOf
   few-entries a b =
-      let m = tracker .starts in
-      let c : numbersOf t .textures * numbersOf t .mips * numbersOf t .layers ≤ 64 * 16 * 256 = mul-le-mul (mul-le-mul (m .textures) (m .mips)) (m .layers) in
       let z = sparse-room (trackerOf t s e) a (scopeOf g r) b is in
       let y : entries (setAndRemoveSparse ranged (trackerOf t s e) (scopeOf g r) is .log) ≡ length (removedEntries t e g r is) =
       ap (λ (x : BothResult). entries (x .log)) (call-is t s e g r is none (sparse-done told refl)) ∙ sym (entries-written (sparseAll ranged is (setsOf t s e g r) .log)) ∙ ap length model-entries in
       omega arith
+
+  -- and that is no more than the largest tracker has
+  pub most-entries : trackerFits (trackerOf t s e) ≡ true → scopeFits (scopeOf g r) ≡ true → length (removedEntries t e g r is) ≤ mostEntries
+  most-entries a b =
+      let m = tracker .starts in
+      let c : numbersOf t .textures * numbersOf t .mips * numbersOf t .layers ≤ 64 * 16 * 256 = mul-le-mul (mul-le-mul (m .textures) (m .mips)) (m .layers) in
+      omega (arith, few-entries a b)
 
   -- 15, or done
   pub call-done : {fits : Bool} {h : LogHead} {l : List ℕ} {x : Answered} {t′ s′ e′ g′ l′ : List ℕ} → fits ≡ true → headFits (length l / 7) h ≡ true → Changed (removedEntries t e g r is) (setsAfter t s e g r is) h t s e g r l x t′ s′ e′ g′ l′

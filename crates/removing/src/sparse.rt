@@ -5,11 +5,13 @@ use checks::check_sparse;
 use model::LogHead;
 use model::Outcome;
 use model::Refusal;
+use model::UsageFlags;
 use setting::Answered;
 use setting::head::head_fits;
 use setting::head::lent_entries;
 use setting::head::moved_on;
 use setting::head::refused;
+use setting::head::subresources;
 use storage::Table;
 use storage::flags_of;
 use storage::table_len;
@@ -18,18 +20,45 @@ use wellformed::tracker_fits;
 ghost use mathlib.Core.Path.{_≡_};
 ghost use mathlib.Core.Bool.{true, _&&_};
 ghost use Prim.Native.Nat.{_/_, _≤_, _<_};
-ghost use lib.ListN.{length};
+ghost use lib.Dec.{leb};
+ghost use lib.ListN.{length, getD};
+ghost use Rattle.model.specs.Sets.{capacity};
 ghost use Rattle.model.specs.Calls.{setAndRemoveSparse};
 ghost use Rattle.model.specs.Texture.{ranged};
 ghost use Rattle.model.specs.WellFormed.{wellFormedScope, wellFormedTracker};
-ghost use Rattle.storage.specs.Storage.{scopeOf, trackerOf};
+ghost use Rattle.storage.specs.Storage.{numbersOf, scopeOf, trackerOf};
 ghost use Rattle.setting.specs.Logging.{headFits};
-ghost use Rattle.removing.specs.Logs.{mostEntries, removedEntries};
+ghost use Rattle.removing.specs.Logs.{LogsListed, mostEntries, entriesTo, removedEntries};
 ghost use Rattle.removing.specs.Taken.{Removes, setsAfter};
 ghost use Rattle.removing.specs.Changed.{Changed};
 ghost use Rattle.removing.specs.Removed.{Removed};
 
-// The listed textures, once the checks passed: their entries are counted, and then written, and the textures change.
+// 15: whether the entries of the list fit in what is free. Where there is a free entry for every subresource they do, and nothing is
+// counted.
+fn entries_fit(
+    table: &Table,
+    ends: &[u32],
+    p: UsageFlags,
+    mask: u32,
+    given: &Table,
+    lent: &[u32],
+    indices: &[u32],
+    log: &mut [u32],
+    free: usize,
+) -> bool
+    requires { ⌜ LogsListed (now table) (now ends) (now given) (now lent) (now indices) ⌝ }
+    requires { ⌜ (getD (now table) 0 0 ≤ 64) × ((getD (now table) 1 0 ≤ 16) × (getD (now table) 2 0 ≤ 256)) ⌝ }
+    requires { ⌜ length (entriesTo p mask (now table) (now ends) (now given) (now lent) (now indices) (length (now indices))) ≤ capacity (numbersOf (now table)) ⌝ }
+    requires { ⌜ length (entriesTo p mask (now table) (now ends) (now given) (now lent) (now indices) (length (now indices))) ≤ mostEntries ⌝ }
+    ensures { λ x. ⌜ (x ≡ leb (length (entriesTo p mask (now (table .entry)) (now (ends .entry)) (now (given .entry)) (now (lent .entry)) (now (indices .entry)) (length (now (indices .entry))))) free) × (now (log .exit) ≡ now (log .entry)) ⌝ }
+{
+    if subresources(table) <= free {
+        return true;
+    }
+    log_listed(table, ends, p, mask, given, lent, indices, log, 0, false) <= free
+}
+
+// The listed textures, once the checks passed: their entries are written, if they fit, and the textures change.
 pub fn remove_checked(
     table: &mut Table,
     starts: &mut [u32],
@@ -41,6 +70,7 @@ pub fn remove_checked(
     head: LogHead,
 ) -> Answered
     requires { ⌜ Removes (now table) (now starts) (now ends) (now given) (now lent) (now indices) ⌝ }
+    requires { ⌜ length (removedEntries (now table) (now ends) (now given) (now lent) (now indices)) ≤ capacity (numbersOf (now table)) ⌝ }
     requires { ⌜ length (removedEntries (now table) (now ends) (now given) (now lent) (now indices)) ≤ mostEntries ⌝ }
     requires { ⌜ headFits (length (now log) / 7) head ≡ true ⌝ }
     requires { ⌜ length (now log) < 18446744073709551616 ⌝ }
@@ -48,12 +78,12 @@ pub fn remove_checked(
 {
     let p = flags_of(table);
     let mask = table[7];
-    let n = log_listed(table, ends, p, mask, given, lent, indices, log, 0, false);
-    if head.free < n {
+    let free = head.free;
+    if !entries_fit(table, ends, p, mask, given, lent, indices, log, free) {
         return refused(Refusal::NoFreeEntry, head);
     }
     let at = head.written;
-    log_listed(table, ends, p, mask, given, lent, indices, log, at, true);
+    let n = log_listed(table, ends, p, mask, given, lent, indices, log, at, true);
     set_listed(table, starts, ends, given, lent, indices, p);
     moved_on(head, n)
 }

@@ -1,12 +1,13 @@
--- `remove_checked`: the entries are counted against the free ones, then written, and both sets change.
+-- `remove_checked`: 15 where the entries do not fit; otherwise they are written, and both sets change.
 use Prim.Native.Nat.{_/_}
 use native.Mathlib.Omega.{arith}
-use mathlib.Core.Bool.{false≢true}
+use mathlib.Core.Path.{sym, _∙_}
 use lib.ListN.{length}
-use borrow.Author.Needs.{needs}
+use borrow.Author.Tests.{not-true, not-false, leb-true, leb-false}
 use Rattle.setting.specs.Logging.{head-le}
 use Rattle.removing.specs.Logs.{logs-listed}
 use Rattle.removing.proofs.Answers.{room-for, not-enough, written}
+use borrow.Author.Needs.{needs}
 use Rattle.removing.proofs.sparse.remove_checked.Statement.{statement}
 use Rattle.removing.proofs.sparse.remove_checked.Tie as tie
 
@@ -16,8 +17,8 @@ flags-of-requires c κs = search needs
 element-copy-out-mask : tie.Need-element-copy-out-mask
 element-copy-out-mask c = search needs
 
-log-listed-requires : tie.Need-log-listed-requires
-log-listed-requires c κs = rw ((c .before .before .before .before .before .flags-of .ensures)) (logs-listed ((c .before .before .before .before .before .before .before .before .before .before .before .before .pre) .0 .tracker) ((c .before .before .before .before .before .before .before .before .before .before .before .before .pre) .0 .scope) ((c .before .before .before .before .before .before .before .before .before .before .before .before .pre) .0 .passed), ((c .before .before .before .before .before .before .before .before .before .before .before .before .pre) .1 .0, (omega arith, λ w. absurd (false≢true w))))
+entries-fit-requires : tie.Need-entries-fit-requires
+entries-fit-requires c κs = let q = (c .before .before .before .before .before .before .before .before .before .before .before .before .pre .0) in let m = q .tracker .starts in rw (c .before .before .before .before .before .flags-of .ensures) (logs-listed (q .tracker) (q .scope) (q .passed), ((m .textures, (m .mips, m .layers)), ((c .before .before .before .before .before .before .before .before .before .before .before .before .pre .1 .0), (c .before .before .before .before .before .before .before .before .before .before .before .before .pre .1 .1 .0))))
 
 refused-requires : tie.Need-refused-requires
 refused-requires c κs = search needs
@@ -29,16 +30,16 @@ same-length-2 : tie.Need-same-length-2
 same-length-2 c = search needs
 
 returns : tie.Need-returns
-returns c = rw ((c .refused .ensures)) (not-enough ((c .before .before .before .before .before .before .before .before .before .before .before .before .before .before .before .before .before .before .args) .table .now) ((c .before .before .before .before .before .before .before .before .before .before .before .before .before .before .before .before .before .before .args) .starts .now) ((c .before .before .before .before .before .before .before .before .before .before .before .before .before .before .before .before .before .before .args) .ends .now) ((c .before .before .before .before .before .before .before .before .before .before .before .before .before .before .before .before .before .before .args) .given .now) ((c .before .before .before .before .before .before .before .before .before .before .before .before .before .before .before .before .before .before .args) .lent .now) ((c .before .before .before .before .before .before .before .before .before .before .before .before .before .before .before .before .before .before .args) .indices .now) ((c .before .before .before .before .before .before .before .before .before .before .before .before .before .before .before .before .before .before .args) .head) (rw ((c .before .before .before .before .before .before .before .before .before .before .before .flags-of .ensures)) at (c .before .before .before .before .before .log-listed .ensures)) (c .before .if1 .taken))
+returns c = rw ((c .refused .ensures), (c .before .before .before .before .entries-fit .ensures) .1) (not-enough ((c .before .before .before .before .before .before .before .before .before .before .before .before .before .before .before .before .before .args) .table .now) ((c .before .before .before .before .before .before .before .before .before .before .before .before .before .before .before .before .before .args) .starts .now) ((c .before .before .before .before .before .before .before .before .before .before .before .before .before .before .before .before .before .args) .ends .now) ((c .before .before .before .before .before .before .before .before .before .before .before .before .before .before .before .before .before .args) .given .now) ((c .before .before .before .before .before .before .before .before .before .before .before .before .before .before .before .before .before .args) .lent .now) ((c .before .before .before .before .before .before .before .before .before .before .before .before .before .before .before .before .before .args) .indices .now) ((c .before .before .before .before .before .before .before .before .before .before .before .before .before .before .before .before .before .args) .log .now) ((c .before .before .before .before .before .before .before .before .before .before .before .before .before .before .before .before .before .args) .head) (leb-false _ _ (sym (rw (c .before .before .before .before .before .before .before .before .before .before .flags-of .ensures) at ((c .before .before .before .before .entries-fit .ensures) .0)) ∙ not-true _ (c .before .if1 .taken))))
 
-log-listed-requires-2 : tie.Need-log-listed-requires-2
-log-listed-requires-2 c κs = rw ((c .before .before .before .before .before .before .before .before .before .before .before .before .before .before .flags-of .ensures)) (logs-listed ((c .before .before .before .before .before .before .before .before .before .before .before .before .before .before .before .before .before .before .before .before .before .pre) .0 .tracker) ((c .before .before .before .before .before .before .before .before .before .before .before .before .before .before .before .before .before .before .before .before .before .pre) .0 .scope) ((c .before .before .before .before .before .before .before .before .before .before .before .before .before .before .before .before .before .before .before .before .before .pre) .0 .passed), ((c .before .before .before .before .before .before .before .before .before .before .before .before .before .before .before .before .before .before .before .before .before .pre) .1 .0, (omega (arith, head-le (length ((c .before .before .before .before .before .before .before .before .before .before .before .before .before .before .before .before .before .before .before .before .before .args) .log .now) / 7) ((c .before .before .before .before .before .before .before .before .before .before .before .before .before .before .before .before .before .before .before .before .before .args) .head) ((c .before .before .before .before .before .before .before .before .before .before .before .before .before .before .before .before .before .before .before .before .before .pre) .1 .1 .0), (c .before .before .before .before .before .before .before .before .before .before .before .before .before .before .before .before .before .before .before .before .before .pre) .1 .1 .1), λ w. room-for ((c .before .before .before .before .before .before .before .before .before .before .before .before .before .before .before .before .before .before .before .before .before .args) .table .now) ((c .before .before .before .before .before .before .before .before .before .before .before .before .before .before .before .before .before .before .before .before .before .args) .starts .now) ((c .before .before .before .before .before .before .before .before .before .before .before .before .before .before .before .before .before .before .before .before .before .args) .ends .now) ((c .before .before .before .before .before .before .before .before .before .before .before .before .before .before .before .before .before .before .before .before .before .args) .given .now) ((c .before .before .before .before .before .before .before .before .before .before .before .before .before .before .before .before .before .before .before .before .before .args) .lent .now) ((c .before .before .before .before .before .before .before .before .before .before .before .before .before .before .before .before .before .before .before .before .before .args) .indices .now) ((c .before .before .before .before .before .before .before .before .before .before .before .before .before .before .before .before .before .before .before .before .before .args) .head) (rw ((c .before .before .before .before .before .before .before .before .before .before .before .before .before .before .flags-of .ensures)) at (c .before .before .before .before .before .before .before .before .log-listed .ensures)) ((c .before .before .before .before .before .before .before .before .before .before .before .before .before .before .before .before .before .before .before .before .before .pre) .1 .1 .0) (c .before .before .before .before .if1 .left))))
+log-listed-requires : tie.Need-log-listed-requires
+log-listed-requires c κs = let q = (c .before .before .before .before .before .before .before .before .before .before .before .before .before .before .before .before .before .before .before .before .pre .0) in rw ((c .before .before .before .before .before .before .before .before .before .before .before .before .before .flags-of .ensures), (c .before .before .before .before .before .before .before .entries-fit .ensures) .1) (logs-listed (q .tracker) (q .scope) (q .passed), ((c .before .before .before .before .before .before .before .before .before .before .before .before .before .before .before .before .before .before .before .before .pre .1 .1 .0), (omega (arith, head-le (length ((c .before .before .before .before .before .before .before .before .before .before .before .before .before .before .before .before .before .before .before .before .args) .log .now) / 7) ((c .before .before .before .before .before .before .before .before .before .before .before .before .before .before .before .before .before .before .before .before .args) .head) (c .before .before .before .before .before .before .before .before .before .before .before .before .before .before .before .before .before .before .before .before .pre .1 .1 .1 .0), (c .before .before .before .before .before .before .before .before .before .before .before .before .before .before .before .before .before .before .before .before .pre .1 .1 .1 .1)), λ w. room-for ((c .before .before .before .before .before .before .before .before .before .before .before .before .before .before .before .before .before .before .before .before .args) .table .now) ((c .before .before .before .before .before .before .before .before .before .before .before .before .before .before .before .before .before .before .before .before .args) .starts .now) ((c .before .before .before .before .before .before .before .before .before .before .before .before .before .before .before .before .before .before .before .before .args) .ends .now) ((c .before .before .before .before .before .before .before .before .before .before .before .before .before .before .before .before .before .before .before .before .args) .given .now) ((c .before .before .before .before .before .before .before .before .before .before .before .before .before .before .before .before .before .before .before .before .args) .lent .now) ((c .before .before .before .before .before .before .before .before .before .before .before .before .before .before .before .before .before .before .before .before .args) .indices .now) ((c .before .before .before .before .before .before .before .before .before .before .before .before .before .before .before .before .before .before .before .before .args) .log .now) ((c .before .before .before .before .before .before .before .before .before .before .before .before .before .before .before .before .before .before .before .before .args) .head) (c .before .before .before .before .before .before .before .before .before .before .before .before .before .before .before .before .before .before .before .before .pre .1 .1 .1 .0) (leb-true _ _ (sym (rw (c .before .before .before .before .before .before .before .before .before .before .before .before .before .flags-of .ensures) at ((c .before .before .before .before .before .before .before .entries-fit .ensures) .0)) ∙ not-false _ (c .before .before .before .before .if1 .left))))))
 
 set-listed-requires : tie.Need-set-listed-requires
-set-listed-requires c κs = ((c .before .before .before .before .before .before .before .before .before .before .before .before .before .before .before .before .before .before .before .before .before .before .before .before .before .before .before .before .pre) .0, (c .before .before .before .before .before .before .before .before .before .before .before .before .before .before .before .before .before .before .before .before .before .flags-of .ensures))
+set-listed-requires c κs = ((c .before .before .before .before .before .before .before .before .before .before .before .before .before .before .before .before .before .before .before .before .before .before .before .before .before .before .before .pre .0), (c .before .before .before .before .before .before .before .before .before .before .before .before .before .before .before .before .before .before .before .before .flags-of .ensures))
 
 moved-on-requires : tie.Need-moved-on-requires
-moved-on-requires c κs = ((c .before .before .before .before .before .before .before .before .before .before .before .before .before .before .before .before .if1 .left), omega (arith, head-le (length ((c .before .before .before .before .before .before .before .before .before .before .before .before .before .before .before .before .before .before .before .before .before .before .before .before .before .before .before .before .before .before .before .before .before .args) .log .now) / 7) ((c .before .before .before .before .before .before .before .before .before .before .before .before .before .before .before .before .before .before .before .before .before .before .before .before .before .before .before .before .before .before .before .before .before .args) .head) ((c .before .before .before .before .before .before .before .before .before .before .before .before .before .before .before .before .before .before .before .before .before .before .before .before .before .before .before .before .before .before .before .before .before .pre) .1 .1 .0), (c .before .before .before .before .before .before .before .before .before .before .before .before .before .before .before .before .before .before .before .before .before .before .before .before .before .before .before .before .before .before .before .before .before .pre) .1 .1 .1))
+moved-on-requires c κs = (rw ((c .before .before .before .before .before .before .before .before .before .before .before .log-listed .ensures) .count, (c .before .before .before .before .before .before .before .before .before .before .before .before .before .before .before .before .before .before .before .before .before .before .before .before .before .flags-of .ensures)) (leb-true _ _ (sym (rw (c .before .before .before .before .before .before .before .before .before .before .before .before .before .before .before .before .before .before .before .before .before .before .before .before .before .flags-of .ensures) at ((c .before .before .before .before .before .before .before .before .before .before .before .before .before .before .before .before .before .before .before .entries-fit .ensures) .0)) ∙ not-false _ (c .before .before .before .before .before .before .before .before .before .before .before .before .before .before .before .before .if1 .left))), omega (arith, head-le (length ((c .before .before .before .before .before .before .before .before .before .before .before .before .before .before .before .before .before .before .before .before .before .before .before .before .before .before .before .before .before .before .before .before .args) .log .now) / 7) ((c .before .before .before .before .before .before .before .before .before .before .before .before .before .before .before .before .before .before .before .before .before .before .before .before .before .before .before .before .before .before .before .before .args) .head) (c .before .before .before .before .before .before .before .before .before .before .before .before .before .before .before .before .before .before .before .before .before .before .before .before .before .before .before .before .before .before .before .before .pre .1 .1 .1 .0), (c .before .before .before .before .before .before .before .before .before .before .before .before .before .before .before .before .before .before .before .before .before .before .before .before .before .before .before .before .before .before .before .before .pre .1 .1 .1 .1)))
 
 same-length-3 : tie.Need-same-length-3
 same-length-3 c = search needs
@@ -50,7 +51,7 @@ same-length-5 : tie.Need-same-length-5
 same-length-5 c = search needs
 
 returns-2 : tie.Need-returns-2
-returns-2 c = rw ((c .moved-on .ensures)) (written ((c .before .before .before .before .before .before .before .before .before .before .before .before .before .before .before .before .before .before .before .before .before .before .before .before .before .before .before .before .before .before .before .before .before .before .args) .table .now) ((c .before .before .before .before .before .before .before .before .before .before .before .before .before .before .before .before .before .before .before .before .before .before .before .before .before .before .before .before .before .before .before .before .before .before .args) .starts .now) ((c .before .before .before .before .before .before .before .before .before .before .before .before .before .before .before .before .before .before .before .before .before .before .before .before .before .before .before .before .before .before .before .before .before .before .args) .ends .now) ((c .before .before .before .before .before .before .before .before .before .before .before .before .before .before .before .before .before .before .before .before .before .before .before .before .before .before .before .before .before .before .before .before .before .before .args) .given .now) ((c .before .before .before .before .before .before .before .before .before .before .before .before .before .before .before .before .before .before .before .before .before .before .before .before .before .before .before .before .before .before .before .before .before .before .args) .lent .now) ((c .before .before .before .before .before .before .before .before .before .before .before .before .before .before .before .before .before .before .before .before .before .before .before .before .before .before .before .before .before .before .before .before .before .before .args) .indices .now) ((c .before .before .before .before .before .before .before .before .before .before .before .before .before .before .before .before .before .before .before .before .before .before .before .before .before .before .before .before .before .before .before .before .before .before .args) .head) (rw ((c .before .before .before .before .before .before .before .before .before .before .before .before .before .before .before .before .before .before .before .before .before .before .before .before .before .before .before .flags-of .ensures)) at (c .before .before .before .before .before .before .before .before .before .before .before .before .before .before .before .before .before .before .before .before .before .log-listed .ensures)) (c .before .before .before .before .before .before .before .before .before .before .before .before .before .before .before .before .before .if1 .left) ((c .before .before .before .before .before .before .before .before .before .before .before .before .before .before .before .before .before .before .before .before .before .before .before .before .before .before .before .before .before .before .before .before .before .before .pre) .1 .1 .0) (rw ((c .before .before .before .before .before .before .before .before .before .before .before .before .before .before .before .before .before .before .before .before .before .before .before .before .before .before .before .flags-of .ensures)) at (c .before .before .before .before .before .before .before .before .before .before .before .before .log-listed2 .ensures)) (c .before .before .before .before .before .set-listed .ensures))
+returns-2 c = rw (c .moved-on .ensures) (written ((c .before .before .before .before .before .before .before .before .before .before .before .before .before .before .before .before .before .before .before .before .before .before .before .before .before .before .before .before .before .before .before .before .before .args) .table .now) ((c .before .before .before .before .before .before .before .before .before .before .before .before .before .before .before .before .before .before .before .before .before .before .before .before .before .before .before .before .before .before .before .before .before .args) .starts .now) ((c .before .before .before .before .before .before .before .before .before .before .before .before .before .before .before .before .before .before .before .before .before .before .before .before .before .before .before .before .before .before .before .before .before .args) .ends .now) ((c .before .before .before .before .before .before .before .before .before .before .before .before .before .before .before .before .before .before .before .before .before .before .before .before .before .before .before .before .before .before .before .before .before .args) .given .now) ((c .before .before .before .before .before .before .before .before .before .before .before .before .before .before .before .before .before .before .before .before .before .before .before .before .before .before .before .before .before .before .before .before .before .args) .lent .now) ((c .before .before .before .before .before .before .before .before .before .before .before .before .before .before .before .before .before .before .before .before .before .before .before .before .before .before .before .before .before .before .before .before .before .args) .indices .now) ((c .before .before .before .before .before .before .before .before .before .before .before .before .before .before .before .before .before .before .before .before .before .before .before .before .before .before .before .before .before .before .before .before .before .args) .log .now) ((c .before .before .before .before .before .before .before .before .before .before .before .before .before .before .before .before .before .before .before .before .before .before .before .before .before .before .before .before .before .before .before .before .before .args) .head) (leb-true _ _ (sym (rw (c .before .before .before .before .before .before .before .before .before .before .before .before .before .before .before .before .before .before .before .before .before .before .before .before .before .before .flags-of .ensures) at ((c .before .before .before .before .before .before .before .before .before .before .before .before .before .before .before .before .before .before .before .before .entries-fit .ensures) .0)) ∙ not-false _ (c .before .before .before .before .before .before .before .before .before .before .before .before .before .before .before .before .before .if1 .left))) (c .before .before .before .before .before .before .before .before .before .before .before .before .before .before .before .before .before .before .before .before .before .before .before .before .before .before .before .before .before .before .before .before .before .pre .1 .1 .1 .0) (rw ((c .before .before .before .before .before .before .before .before .before .before .before .before .before .before .before .before .before .before .before .before .before .before .before .before .before .before .flags-of .ensures), (c .before .before .before .before .before .before .before .before .before .before .before .before .before .before .before .before .before .before .before .before .entries-fit .ensures) .1) at (c .before .before .before .before .before .before .before .before .before .before .before .before .log-listed .ensures)) (c .before .before .before .before .before .set-listed .ensures))
 
 pub remove-checked-spec : {M : Type 1} → statement M
 remove-checked-spec =
@@ -58,12 +59,12 @@ remove-checked-spec =
     (tie.spec
     flags-of-requires
     element-copy-out-mask
-    log-listed-requires
+    entries-fit-requires
     refused-requires
     same-length
     same-length-2
     returns
-    log-listed-requires-2
+    log-listed-requires
     set-listed-requires
     moved-on-requires
     same-length-3

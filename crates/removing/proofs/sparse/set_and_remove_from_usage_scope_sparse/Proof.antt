@@ -6,7 +6,7 @@ use Rattle.agreement.specs.BoolLaws.{both}
 use Rattle.checks.specs.Told.{sparse-never}
 use Rattle.ready.specs.Tested.{tracker-tested, scope-tested}
 use Rattle.removing.specs.Changed.{away-unfit, away-short}
-use Rattle.removing.proofs.Answers.{one-unfit, other-unfit, removes, few-entries, tracker-part, scope-part, call-done, call-away}
+use Rattle.removing.proofs.Answers.{one-unfit, other-unfit, removes, few-entries, most-entries, tracker-part, scope-part, call-done, call-away}
 use Rattle.removing.proofs.sparse.set_and_remove_from_usage_scope_sparse.Statement.{statement}
 use Rattle.removing.proofs.sparse.set_and_remove_from_usage_scope_sparse.Tie as tie
 
@@ -74,7 +74,7 @@ enum-told : tie.Need-enum-told
 enum-told c = search needs
 
 remove-checked-requires : tie.Need-remove-checked-requires
-remove-checked-requires c κs = let z = (rw (((c .before .before .before .before .before .enum-told .given)) .1) at (c .before .before .before .before .before .before .before .check-sparse .ensures)) in (removes (tracker-tested _ _ _ ((c .before .before .before .before .before .before .before .before .before .before .before .before .before .before .before .before .before .before .before .before .before .before .before .before .table-len .ensures) .1) (sym (c .before .before .before .before .before .before .before .before .before .before .before .before .before .before .before .before .before .before .tracker-fits .ensures) ∙ not-false _ (c .before .before .before .before .before .before .before .before .before .before .before .before .before .before .before .before .before .if1 .left))) (scope-tested _ _ ((c .before .before .before .before .before .before .before .before .before .before .before .before .before .before .before .before .before .before .before .before .before .before .table-len2 .ensures) .1) (sym (c .before .before .before .before .before .before .before .before .before .before .before .before .before .before .before .scope-fits .ensures) ∙ not-false _ (c .before .before .before .before .before .before .before .before .before .before .before .before .before .before .if2 .left))) z, (few-entries (tracker-tested _ _ _ ((c .before .before .before .before .before .before .before .before .before .before .before .before .before .before .before .before .before .before .before .before .before .before .before .before .table-len .ensures) .1) (sym (c .before .before .before .before .before .before .before .before .before .before .before .before .before .before .before .before .before .before .tracker-fits .ensures) ∙ not-false _ (c .before .before .before .before .before .before .before .before .before .before .before .before .before .before .before .before .before .if1 .left))) (scope-tested _ _ ((c .before .before .before .before .before .before .before .before .before .before .before .before .before .before .before .before .before .before .before .before .before .before .table-len2 .ensures) .1) (sym (c .before .before .before .before .before .before .before .before .before .before .before .before .before .before .before .scope-fits .ensures) ∙ not-false _ (c .before .before .before .before .before .before .before .before .before .before .before .before .before .before .if2 .left))) z (tracker-part _ _ _ (sym (c .before .before .before .before .before .before .before .before .before .before .before .before .before .before .before .before .before .before .tracker-fits .ensures) ∙ not-false _ (c .before .before .before .before .before .before .before .before .before .before .before .before .before .before .before .before .before .if1 .left))) (scope-part _ _ (sym (c .before .before .before .before .before .before .before .before .before .before .before .before .before .before .before .scope-fits .ensures) ∙ not-false _ (c .before .before .before .before .before .before .before .before .before .before .before .before .before .before .if2 .left))), ((rw ((c .before .before .before .before .before .before .before .before .before .before .before .before .lent-entries .ensures) .0) at (sym (c .before .before .before .before .before .before .before .before .before .before .before .head-fits .ensures) ∙ not-false _ (c .before .before .before .before .before .before .before .before .before .before .if3 .left))), (c .before .before .before .before .before .before .before .before .before .before .before .before .lent-entries .ensures) .1)))
+remove-checked-requires c κs = let z = (rw (((c .before .before .before .before .before .enum-told .given)) .1) at (c .before .before .before .before .before .before .before .check-sparse .ensures)) in (removes (tracker-tested _ _ _ ((c .before .before .before .before .before .before .before .before .before .before .before .before .before .before .before .before .before .before .before .before .before .before .before .before .table-len .ensures) .1) (sym (c .before .before .before .before .before .before .before .before .before .before .before .before .before .before .before .before .before .before .tracker-fits .ensures) ∙ not-false _ (c .before .before .before .before .before .before .before .before .before .before .before .before .before .before .before .before .before .if1 .left))) (scope-tested _ _ ((c .before .before .before .before .before .before .before .before .before .before .before .before .before .before .before .before .before .before .before .before .before .before .table-len2 .ensures) .1) (sym (c .before .before .before .before .before .before .before .before .before .before .before .before .before .before .before .scope-fits .ensures) ∙ not-false _ (c .before .before .before .before .before .before .before .before .before .before .before .before .before .before .if2 .left))) z, (few-entries (tracker-tested _ _ _ ((c .before .before .before .before .before .before .before .before .before .before .before .before .before .before .before .before .before .before .before .before .before .before .before .before .table-len .ensures) .1) (sym (c .before .before .before .before .before .before .before .before .before .before .before .before .before .before .before .before .before .before .tracker-fits .ensures) ∙ not-false _ (c .before .before .before .before .before .before .before .before .before .before .before .before .before .before .before .before .before .if1 .left))) (scope-tested _ _ ((c .before .before .before .before .before .before .before .before .before .before .before .before .before .before .before .before .before .before .before .before .before .before .table-len2 .ensures) .1) (sym (c .before .before .before .before .before .before .before .before .before .before .before .before .before .before .before .scope-fits .ensures) ∙ not-false _ (c .before .before .before .before .before .before .before .before .before .before .before .before .before .before .if2 .left))) z (tracker-part _ _ _ (sym (c .before .before .before .before .before .before .before .before .before .before .before .before .before .before .before .before .before .before .tracker-fits .ensures) ∙ not-false _ (c .before .before .before .before .before .before .before .before .before .before .before .before .before .before .before .before .before .if1 .left))) (scope-part _ _ (sym (c .before .before .before .before .before .before .before .before .before .before .before .before .before .before .before .scope-fits .ensures) ∙ not-false _ (c .before .before .before .before .before .before .before .before .before .before .before .before .before .before .if2 .left))), (most-entries (tracker-tested _ _ _ ((c .before .before .before .before .before .before .before .before .before .before .before .before .before .before .before .before .before .before .before .before .before .before .before .before .table-len .ensures) .1) (sym (c .before .before .before .before .before .before .before .before .before .before .before .before .before .before .before .before .before .before .tracker-fits .ensures) ∙ not-false _ (c .before .before .before .before .before .before .before .before .before .before .before .before .before .before .before .before .before .if1 .left))) (scope-tested _ _ ((c .before .before .before .before .before .before .before .before .before .before .before .before .before .before .before .before .before .before .before .before .before .before .table-len2 .ensures) .1) (sym (c .before .before .before .before .before .before .before .before .before .before .before .before .before .before .before .scope-fits .ensures) ∙ not-false _ (c .before .before .before .before .before .before .before .before .before .before .before .before .before .before .if2 .left))) z (tracker-part _ _ _ (sym (c .before .before .before .before .before .before .before .before .before .before .before .before .before .before .before .before .before .before .tracker-fits .ensures) ∙ not-false _ (c .before .before .before .before .before .before .before .before .before .before .before .before .before .before .before .before .before .if1 .left))) (scope-part _ _ (sym (c .before .before .before .before .before .before .before .before .before .before .before .before .before .before .before .scope-fits .ensures) ∙ not-false _ (c .before .before .before .before .before .before .before .before .before .before .before .before .before .before .if2 .left))), ((rw ((c .before .before .before .before .before .before .before .before .before .before .before .before .lent-entries .ensures) .0) at (sym (c .before .before .before .before .before .before .before .before .before .before .before .head-fits .ensures) ∙ not-false _ (c .before .before .before .before .before .before .before .before .before .before .if3 .left))), (c .before .before .before .before .before .before .before .before .before .before .before .before .lent-entries .ensures) .1))))
 
 enum-known-r : tie.Need-enum-known-r
 enum-known-r c = search needs
