@@ -1,17 +1,19 @@
 -- One texture of a tracker and what a given set holds at its index: the transitions, and what is asked for where the set owns the index.
 use Prim.Native.Nat.{ℕ, _+_, _<_}
 use mathlib.Core.Path.{_≡_, refl, subst}
-use mathlib.Core.Bool.{true}
+use mathlib.Core.Bool.{Bool, true, _&&_, not}
 use mathlib.Core.List.{List, []}
+use lib.Dec.{eqb}
 use lib.ListN.{getD}
 use borrow.Author.Tests.{ne-eqb}
 use Rattle.model.specs.declared.UsageFlags.{UsageFlags}
 use Rattle.model.specs.declared.Extent.{Extent}
 use Rattle.model.specs.Base.{if_then_else_}
-use Rattle.model.specs.Representation.{Ends}
+use Rattle.model.specs.Representation.{Ends, full}
+use Rattle.model.specs.StateRules.{moveOf}
 use Rattle.model.specs.Sets.{Numbers, Slot}
 use Rattle.model.specs.Calls.{setSlot, setGiven}
-use Rattle.model.specs.Texture.{Held, Given, Entry, fromHeld, insert, update, barrier, ranged}
+use Rattle.model.specs.Texture.{Held, Given, Entry, entry, fromHeld, insert, update, barrier, ranged}
 use Rattle.storage.specs.Storage.{numbersOf, flagsOf, extentOf, ownedOf, startHalf, endHalf, heldOf, endsOf, slotWith}
 use Rattle.storage.specs.Frames.{Measured}
 use Rattle.storage.specs.Slots.{HalfBecomes, ownWords, slot-refl}
@@ -95,6 +97,14 @@ slotAfter p from to g a b i x = setGiven ranged passStart passEnd p i x (slotWit
 -- its transitions
 abbrev pub givenEntries : UsageFlags → ℕ → List ℕ → List ℕ → ℕ → List ℕ → List ℕ → ℕ → List Entry
 givenEntries p mask t e from g a i = if ownedOf g i then endEntries p mask (extentOf g i) (givenAt from g a i) t e i else []
+
+-- both hold it as Single: the half h of the given set and the tracker's end
+abbrev pub bothSingle : List ℕ → List ℕ → ℕ → ℕ → Bool
+bothSingle t g h i = not (eqb (getD g (h + i) 0) (getD g 5 0)) && not (eqb (getD t (endHalf + i) 0) (getD t 5 0))
+
+-- and then its transition
+abbrev pub singleEntry : UsageFlags → ℕ → List ℕ → ℕ → List ℕ → ℕ → List Entry
+singleEntry p mask t h g i = entry (full (extentOf g i)) (moveOf (p .unknown) mask (getD t (endHalf + i) 0) (getD g (h + i) 0))
 
 -- what is asked for: the texture is ready where the set owns it
 pub record SetsAt (t s e : List ℕ) (i from to : ℕ) (g a b : List ℕ) (p : UsageFlags) : Type 0 where

@@ -14,14 +14,15 @@ use texture::from_set::insert_given;
 use texture::using::own;
 use texture::using::set_state;
 use updating::from_set::update_given;
-ghost use Prim.Native.Nat.{_≤_};
+ghost use mathlib.Core.Path.{_≡_};
+ghost use Prim.Native.Nat.{_≤_, _<_};
 ghost use Rattle.model.specs.Calls.{setSlot};
 ghost use Rattle.model.specs.Texture.{ranged};
 ghost use Rattle.barrier.specs.Steps.{logTop};
 ghost use Rattle.barrier.specs.Logged.{Room, Logged};
 ghost use Rattle.setting.specs.Slot.{slotOf, SlotReady, SlotSet};
 ghost use Rattle.joining.specs.Given.{givenAt, HalfGiven};
-ghost use Rattle.joining.specs.Slot.{BothGiven, EndReady, SetsAt, LogsAt, slotAfter, endEntries, givenEntries};
+ghost use Rattle.joining.specs.Slot.{BothGiven, EndReady, SetsAt, LogsAt, bothSingle, slotAfter, endEntries, givenEntries, singleEntry};
 
 // What the texture becomes, by the start and the end that the set holds.
 pub fn set_given_at(
@@ -168,7 +169,39 @@ pub fn log_owned_at(
     )
 }
 
-// The same, by the short way for a Single texture that takes a Single state.
+// Whether the tracker's end and the half of the given set that begins at `from` hold index i as Single.
+pub fn both_single(table: &Table, given: &Table, from: usize, i: usize) -> bool
+    requires { ⌜ (i < 64) × (from ≤ 1288) ⌝ }
+    ensures { λ r. ⌜ r ≡ bothSingle (now (table .entry)) (now (given .entry)) from i ⌝ }
+{
+    (given[from + i] != given[5]) & (table[END + i] != table[5])
+}
+
+// The transition of a texture that both hold as Single.
+pub fn log_single(
+    table: &Table,
+    given: &Table,
+    from: usize,
+    i: usize,
+    p: UsageFlags,
+    mask: u32,
+    log: &mut [u32],
+    at: usize,
+    write: bool,
+) -> usize
+    requires { ⌜ (i < 64) × (from ≤ 1288) ⌝ }
+    requires { ⌜ Room write (now log) at (singleEntry p mask (now table) from (now given) i) ⌝ }
+    ensures { λ x. ⌜ Logged 1 i write (now (log .entry)) at (singleEntry p mask (now (table .entry)) from (now (given .entry)) i) x (now (log .exit)) ⌝ }
+{
+    let mips = given[MIPS + i];
+    let layers = given[LAYERS + i];
+    let extent = Extent { mips, layers };
+    let cur = table[END + i];
+    let new = given[from + i];
+    barrier_single(i, extent, p, mask, cur, new, log, at, write)
+}
+
+// The transitions of `log_owned_at`, by the short way where both are Single.
 pub fn log_at(
     table: &Table,
     ends: &[u32],
@@ -193,21 +226,13 @@ pub fn log_at(
     if table[OWNED + i] == 0 {
         return 0;
     }
-    let new = given[from + i];
-    if new == given[5] {
-        return log_owned_at(table, ends, i, p, mask, given, first, from, log, at, write);
+    if both_single(table, given, from, i) {
+        return log_single(table, given, from, i, p, mask, log, at, write);
     }
-    let cur = table[END + i];
-    if cur == table[5] {
-        return log_owned_at(table, ends, i, p, mask, given, first, from, log, at, write);
-    }
-    let mips = given[MIPS + i];
-    let layers = given[LAYERS + i];
-    let extent = Extent { mips, layers };
-    barrier_single(i, extent, p, mask, cur, new, log, at, write)
+    log_owned_at(table, ends, i, p, mask, given, first, from, log, at, write)
 }
 
-// What the texture becomes, if the set owns index i, by the short way for a Single texture that takes a Single state.
+// What `set_owned_at` makes of the texture, with no call where both are Single.
 pub fn set_at(
     table: &mut Table,
     starts: &mut [u32],
@@ -230,14 +255,9 @@ pub fn set_at(
         set_owned_at(table, starts, ends, i, given, first, from, last, to, p);
         return;
     }
-    let new = given[to + i];
-    if new == p.complex {
-        set_owned_at(table, starts, ends, i, given, first, from, last, to, p);
+    if both_single(table, given, to, i) {
+        set_state(table, END, i, given[to + i]);
         return;
     }
-    if table[END + i] == p.complex {
-        set_owned_at(table, starts, ends, i, given, first, from, last, to, p);
-        return;
-    }
-    set_state(table, END, i, new);
+    set_owned_at(table, starts, ends, i, given, first, from, last, to, p);
 }

@@ -1,5 +1,6 @@
 -- `set_at`: the texture stays where the given set does not own its index, and takes a state where both are Single; otherwise it is what `set_owned_at` makes.
 use native.Mathlib.Omega.{arith}
+use mathlib.Core.Path.{sym, _∙_}
 use borrow.Author.Tests.{eq-eqb, ne-eqb}
 use Rattle.joining.specs.Slot.{set-same}
 use Rattle.joining.proofs.Plain.{plain-set}
@@ -40,14 +41,23 @@ same-length-2 c = search needs
 returns-2 : tie.Need-returns-2
 returns-2 c = (c .before .before .before .before .set-owned-at .ensures)
 
-add-new : tie.Need-add-new
-add-new c = omega (arith, (c .before .before .before .before .before .before .before .before .pre) .index, (c .before .before .before .before .before .before .before .before .pre) .given (rw (ne-eqb _ _ (c .before .before .if1 .left))) .end .measured .half .1)
+both-single-requires : tie.Need-both-single-requires
+both-single-requires c κs = ((c .before .before .before .before .before .before .before .before .before .pre) .index, (c .before .before .before .before .before .before .before .before .before .pre) .given (rw (ne-eqb _ _ (c .before .before .before .if1 .left))) .end .measured .half .1)
 
-mul-new : tie.Need-mul-new
-mul-new c = omega (arith, (c .before .before .before .before .before .before .before .before .pre) .index, (c .before .before .before .before .before .before .before .before .pre) .given (rw (ne-eqb _ _ (c .before .before .if1 .left))) .end .measured .half .1)
+add-set-state : tie.Need-add-set-state
+add-set-state c = omega (arith, (c .before .before .before .before .before .before .before .before .before .before .before .before .pre) .index, (c .before .before .before .before .before .before .before .before .before .before .before .before .pre) .given (rw (ne-eqb _ _ (c .before .before .before .before .before .before .if1 .left))) .end .measured .half .1)
 
-element-copy-out-new : tie.Need-element-copy-out-new
-element-copy-out-new c = omega (arith, (c .before .before .before .before .before .before .before .before .pre) .index, (c .before .before .before .before .before .before .before .before .pre) .given (rw (ne-eqb _ _ (c .before .before .if1 .left))) .end .measured .half .1)
+mul-set-state : tie.Need-mul-set-state
+mul-set-state c = omega (arith, (c .before .before .before .before .before .before .before .before .before .before .before .before .pre) .index, (c .before .before .before .before .before .before .before .before .before .before .before .before .pre) .given (rw (ne-eqb _ _ (c .before .before .before .before .before .before .if1 .left))) .end .measured .half .1)
+
+element-copy-out-set-state : tie.Need-element-copy-out-set-state
+element-copy-out-set-state c = omega (arith, (c .before .before .before .before .before .before .before .before .before .before .before .before .pre) .index, (c .before .before .before .before .before .before .before .before .before .before .before .before .pre) .given (rw (ne-eqb _ _ (c .before .before .before .before .before .before .if1 .left))) .end .measured .half .1)
+
+set-state-requires : tie.Need-set-state-requires
+set-state-requires c κs = (omega arith, (c .before .before .before .before .before .before .before .before .before .before .before .before .before .pre) .index)
+
+returns-3 : tie.Need-returns-3
+returns-3 c = rw (c .set-state .ensures) (plain-set (c .before .before .before .before .before .before .before .before .before .before .before .before .before .before .pre) (c .before .before .before .before .before .before .before .before .if1 .left) (c .before .before .before .before .before .before .if2 .left) (sym (c .before .before .before .before .both-single .ensures) ∙ (c .before .before .before .if3 .taken)))
 
 set-owned-at-requires-2 : tie.Need-set-owned-at-requires-2
 set-owned-at-requires-2 c κs = (c .before .before .before .before .before .before .before .before .before .before .before .before .before .before .pre)
@@ -58,35 +68,8 @@ same-length-3 c = search needs
 same-length-4 : tie.Need-same-length-4
 same-length-4 c = search needs
 
-returns-3 : tie.Need-returns-3
-returns-3 c = (c .before .before .before .before .set-owned-at2 .ensures)
-
-add-if4 : tie.Need-add-if4
-add-if4 c = search needs
-
-mul-if4 : tie.Need-mul-if4
-mul-if4 c = search needs
-
-element-copy-out-if4 : tie.Need-element-copy-out-if4
-element-copy-out-if4 c = search needs
-
-set-owned-at-requires-3 : tie.Need-set-owned-at-requires-3
-set-owned-at-requires-3 c κs = (c .before .before .before .before .before .before .before .before .before .before .before .before .before .before .before .before .before .pre)
-
-same-length-5 : tie.Need-same-length-5
-same-length-5 c = search needs
-
-same-length-6 : tie.Need-same-length-6
-same-length-6 c = search needs
-
 returns-4 : tie.Need-returns-4
-returns-4 c = (c .before .before .before .before .set-owned-at3 .ensures)
-
-set-state-requires : tie.Need-set-state-requires
-set-state-requires c κs = (omega arith, (c .before .before .before .before .before .before .before .before .before .before .before .before .before .before .before .pre) .index)
-
-returns-5 : tie.Need-returns-5
-returns-5 c = rw (c .set-state .ensures) (plain-set (c .before .before .before .before .before .before .before .before .before .before .before .before .before .before .before .before .pre) (c .before .before .before .before .before .before .before .before .before .before .if1 .left) (c .before .before .before .before .before .before .before .before .if2 .left) (c .before .before .before .before .before .if3 .left) (c .before .before .if4 .left))
+returns-4 c = (c .before .before .before .before .set-owned-at2 .ensures)
 
 pub set-at-spec : {M : Type 1} → statement M
 set-at-spec =
@@ -103,19 +86,13 @@ set-at-spec =
     same-length
     same-length-2
     returns-2
-    add-new
-    mul-new
-    element-copy-out-new
+    both-single-requires
+    add-set-state
+    mul-set-state
+    element-copy-out-set-state
+    set-state-requires
+    returns-3
     set-owned-at-requires-2
     same-length-3
     same-length-4
-    returns-3
-    add-if4
-    mul-if4
-    element-copy-out-if4
-    set-owned-at-requires-3
-    same-length-5
-    same-length-6
-    returns-4
-    set-state-requires
-    returns-5)
+    returns-4)
