@@ -232,7 +232,7 @@ pub fn log_at(
     log_owned_at(table, ends, i, p, mask, given, first, from, log, at, write)
 }
 
-// What `set_owned_at` makes of the texture, with no call where both are Single.
+// What `set_owned_at` makes of the texture, by the short way where both are Single.
 pub fn set_at(
     table: &mut Table,
     starts: &mut [u32],
