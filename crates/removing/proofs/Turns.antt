@@ -1,54 +1,64 @@
--- `log_listed_at` and `log_listed`: the entries of one listed index, and how the loop adds them after those of the positions before it.
+-- `log_listed`: which indices were listed before, the entries of one, and how the loop adds them after those of the positions before it.
 use Prim.Native.Nat.{ℕ, _+_, _*_, _≤_, _<_}
+use native.Mathlib.Decide.{ℕ-discrete}
+use native.Mathlib.Numerals.{add-one}
 use native.Mathlib.Omega.{arith}
-use mathlib.Core.Path.{_≡_, refl, sym, subst}
-use mathlib.Core.Bool.{Bool, true, false}
-use mathlib.Core.List.{List, [], _++_}
-use lib.ListN.{length, getD, take, length-append, length-map}
-use borrow.Author.Tests.{eq-eqb}
+use mathlib.Core.Path.{_≡_, refl, sym, subst, _∙_}
+use mathlib.Core.Bool.{Bool, true, false, not}
+use mathlib.Core.List.{List, [], _∷_, _++_}
+use lib.Dec.{eqb}
+use lib.ListN.{length, getD, set, take, replicate, length-append, length-map, length-set, getD-replicate}
+use lib.Seq.{take-suc, getD-set-same, getD-set-other}
+use borrow.Author.Tests.{eq-eqb, ne-eqb}
 use Rattle.model.specs.declared.UsageFlags.{UsageFlags}
 use Rattle.model.specs.declared.PendingTransition.{PendingTransition}
 use Rattle.model.specs.Base.{if_then_else_}
 use Rattle.model.specs.Texture.{Entry}
-use Rattle.storage.specs.Storage.{startHalf}
-use Rattle.barrier.specs.Logged.{entriesAt, Room, Logged, logged-none}
+use Rattle.barrier.specs.Logged.{entriesAt, Room, Logged}
 use Rattle.agreement.specs.LogBound.{listed}
-use Rattle.joining.specs.Slot.{givenEntries}
 use Rattle.joining.specs.Adds.{RoomFor, Adds, adds-none, adds-one, adds-then, upTo, up-next, up-long}
-use Rattle.removing.specs.Logs.{mostEntries, listedEntries}
+use Rattle.removing.specs.Logs.{mostEntries, onceEntries, listedEntries}
 
--- ---- `log_listed_at`
-module _ (p : UsageFlags) (mask : ℕ) (t e g r is : List ℕ) (k i : ℕ) (at-k : i ≡ getD is k 0) where
-  -- the scope does not own it
-  none-free : getD g (8 + i) 0 ≡ 0 → listedEntries p mask t e g r is k ≡ []
-  none-free z = go (listed (getD is k 0) (take k is)) (rw at-k at z)
-    where
-      go : (b : Bool) → getD g (8 + getD is k 0) 0 ≡ 0 → (if b then [] else givenEntries p mask t e startHalf g r (getD is k 0)) ≡ []
-      go true w = refl
-      go false w = rw (eq-eqb (getD g (8 + getD is k 0) 0) 0 w)
+-- ---- Which indices were listed so far: 1 at each
+pub record Seen (seen is : List ℕ) (k : ℕ) : Type 0 where
+  pub long : length seen ≡ 64
+  pub tells : (j : ℕ) → j < 64 → not (eqb (getD seen j 0) 0) ≡ listed j (take k is)
 
-  -- so nothing is logged
-  pub logged-free : (write : Bool) (l : List ℕ) (at : ℕ) → getD g (8 + i) 0 ≡ 0 → Logged 1048576 (getD is k 0) write l at (listedEntries p mask t e g r is k) 0 l
-  logged-free write l at z = subst (λ (es : List Entry). Logged 1048576 (getD is k 0) write l at es 0 l) (sym (none-free z)) (logged-none 1048576 (getD is k 0) write l at)
+-- none yet
+pub seen-none : (is : List ℕ) → Seen (replicate 64 0) is 0
+seen-none is = record { long = refl; tells = λ j h. let e = getD-replicate {A = ℕ} 64 j 0 0 h in rw e }
 
-  -- it is listed before
-  pub logged-before : (write : Bool) (l : List ℕ) (at : ℕ) → listed (getD is k 0) (take k is) ≡ true → Logged 1048576 (getD is k 0) write l at (listedEntries p mask t e g r is k) 0 l
-  logged-before write l at z = rw z (logged-none 1048576 (getD is k 0) write l at)
+-- one listed after others
+listed-last : (j i : ℕ) (l : List ℕ) → listed j (l ++ (i ∷ [])) ≡ (if eqb i j then true else listed j l)
+listed-last j i [] = refl
+listed-last j i (x ∷ l) = go (eqb x j) (eqb i j) (listed-last j i l)
+  where
+    go : (a b : Bool) → listed j (l ++ (i ∷ [])) ≡ (if b then true else listed j l) → (if a then true else listed j (l ++ (i ∷ []))) ≡ (if b then true else (if a then true else listed j l))
+    go true true e = refl
+    go true false e = refl
+    go false b e = e
 
-  -- otherwise its own
-  module _ (first : listed (getD is k 0) (take k is) ≡ false) where
-    entries-own : listedEntries p mask t e g r is k ≡ givenEntries p mask t e startHalf g r i
-    entries-own = rw (first, at-k)
+pub seen-next : {seen is : List ℕ} {k i : ℕ} → Seen seen is k → k < length is → i ≡ getD is k 0 → i < 64 → Seen (set seen i 1) is (k + 1)
+seen-next {seen} {is} {k} {i} q h e l = record { long = length-set seen i 1 ∙ q .long; tells = λ j b. rw (add-one, take-suc is k 0 h, listed-last j (getD is k 0) (take k is), ← e) (go j b (ℕ-discrete i j)) }
+  where
+    go : (j : ℕ) → j < 64 → Dec (i ≡ j) → not (eqb (getD (set seen i 1) j 0) 0) ≡ (if eqb i j then true else listed j (take k is))
+    go j b (yes z) = rw (← z, getD-set-same seen i 1 0 (omega (arith, q .long)), eq-eqb i i refl)
+    go j b (no z) = rw (getD-set-other seen i j 1 0 (λ y. z (sym y)), ne-eqb i j z) (q .tells j b)
 
-    -- there is room for them
-    pub room-own : (write : Bool) (l : List ℕ) (at : ℕ) → Room write l at (listedEntries p mask t e g r is k) → Room write l at (givenEntries p mask t e startHalf g r i)
-    room-own write l at q = subst (Room write l at) entries-own q
+-- ---- `log_listed_at`: at its index, by whether that was listed before
+module _ (p : UsageFlags) (mask : ℕ) (t e g r is : List ℕ) (k i : ℕ) (again : Bool) (at-k : i ≡ getD is k 0) (told : again ≡ listed (getD is k 0) (take k is)) where
+  once-is : onceEntries again p mask t e g r i ≡ listedEntries p mask t e g r is k
+  once-is = rw (at-k, told)
 
-    -- and they are logged
-    pub logged-own : (write : Bool) (l : List ℕ) (at x : ℕ) (l′ : List ℕ) → Logged 1048576 i write l at (givenEntries p mask t e startHalf g r i) x l′ → Logged 1048576 (getD is k 0) write l at (listedEntries p mask t e g r is k) x l′
-    logged-own write l at x l′ q =
-        subst (λ (j : ℕ). Logged 1048576 j write l at (listedEntries p mask t e g r is k) x l′) at-k
-        (subst (λ (es : List Entry). Logged 1048576 i write l at es x l′) (sym entries-own) q)
+  -- there is room for its entries
+  pub room-once : (write : Bool) (l : List ℕ) (at : ℕ) → Room write l at (listedEntries p mask t e g r is k) → Room write l at (onceEntries again p mask t e g r i)
+  room-once write l at q = subst (Room write l at) (sym once-is) q
+
+  -- and they are logged
+  pub logged-once : (write : Bool) (l : List ℕ) (at x : ℕ) (l′ : List ℕ) → Logged 1048576 i write l at (onceEntries again p mask t e g r i) x l′ → Logged 1048576 (getD is k 0) write l at (listedEntries p mask t e g r is k) x l′
+  logged-once write l at x l′ q =
+      subst (λ (j : ℕ). Logged 1048576 j write l at (listedEntries p mask t e g r is k) x l′) at-k
+      (subst (λ (es : List Entry). Logged 1048576 i write l at es x l′) once-is q)
 
 -- ---- `log_listed`
 -- the entries of position k

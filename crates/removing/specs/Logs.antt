@@ -34,6 +34,10 @@ pub record LogsListed (t e g r is : List ℕ) : Type 0 where
 abbrev pub mostEntries : ℕ
 mostEntries = 262144
 
+-- the transitions of an index, none where it is listed again
+abbrev pub onceEntries : Bool → UsageFlags → ℕ → List ℕ → List ℕ → List ℕ → List ℕ → ℕ → List Entry
+onceEntries again p mask t e g r i = if again then [] else givenEntries p mask t e startHalf g r i
+
 -- the transitions of the index at position k
 abbrev pub listedEntries : UsageFlags → ℕ → List ℕ → List ℕ → List ℕ → List ℕ → List ℕ → ℕ → List Entry
 listedEntries p mask t e g r is k = onceAt (givenEntries p mask t e startHalf g r) is k

@@ -1,67 +1,57 @@
 // The transitions of the listed textures that a scope owns.
+use joining::slot::both_single;
 use joining::slot::log_owned_at;
+use joining::slot::log_single;
 use model::UsageFlags;
 use storage::OWNED;
 use storage::START;
 use storage::Table;
 use storage::wide;
-ghost use mathlib.Core.Path.{_≡_};
-ghost use Prim.Native.Nat.{_+_, _≤_, _<_};
-ghost use lib.ListN.{length, getD, take};
-ghost use Rattle.agreement.specs.LogBound.{listed};
+ghost use Prim.Native.Nat.{_+_, _≤_};
+ghost use lib.ListN.{length};
 ghost use Rattle.barrier.specs.Steps.{logTop};
 ghost use Rattle.barrier.specs.Logged.{Room, Logged};
 ghost use Rattle.joining.specs.Adds.{RoomFor, Adds};
-ghost use Rattle.removing.specs.Logs.{LogsListed, mostEntries, listedEntries, entriesTo};
+ghost use Rattle.removing.specs.Logs.{LogsListed, mostEntries, onceEntries, entriesTo};
+ghost use Rattle.storage.specs.Storage.{startHalf};
+ghost use Rattle.joining.specs.Slot.{LogsAt};
 
-// Whether the index at position k is listed before it.
-pub fn listed_before(indices: &[u32], k: usize) -> bool
-    requires { ⌜ k < length (now indices) ⌝ }
-    ensures { λ x. ⌜ x ≡ listed (getD (now (indices .entry)) k 0) (take k (now (indices .entry))) ⌝ }
-{
-    let i = indices[k];
-    let mut j = 0;
-    while j < k {
-        if indices[j] == i {
-            return true;
-        }
-        j += 1;
-    }
-    false
-}
-
-// Those of the index at position k, counted, or written after the first `at` entries of the log: none if the scope does not own it, or if
-// it is listed before.
+// Those of index i, counted, or written after the first `at` entries of the log: none if the scope does not own it, or if it was listed
+// before. As `joining`'s `log_at`, with no call where both are Single.
 pub fn log_listed_at(
     table: &Table,
     ends: &[u32],
+    i: usize,
+    again: bool,
     p: UsageFlags,
     mask: u32,
     given: &Table,
     lent: &[u32],
-    indices: &[u32],
-    k: usize,
     log: &mut [u32],
     at: usize,
     write: bool,
 ) -> usize
-    requires { ⌜ LogsListed (now table) (now ends) (now given) (now lent) (now indices) ⌝ }
-    requires { ⌜ k < length (now indices) ⌝ }
+    requires { ⌜ LogsAt (now table) (now ends) i startHalf (now given) (now lent) ⌝ }
     requires { ⌜ at ≤ logTop ⌝ }
-    requires { ⌜ Room write (now log) at (listedEntries p mask (now table) (now ends) (now given) (now lent) (now indices) k) ⌝ }
-    ensures { λ x. ⌜ Logged 1048576 (getD (now (indices .entry)) k 0) write (now (log .entry)) at (listedEntries p mask (now (table .entry)) (now (ends .entry)) (now (given .entry)) (now (lent .entry)) (now (indices .entry)) k) x (now (log .exit)) ⌝ }
+    requires { ⌜ Room write (now log) at (onceEntries again p mask (now table) (now ends) (now given) (now lent) i) ⌝ }
+    ensures { λ x. ⌜ Logged 1048576 i write (now (log .entry)) at (onceEntries again p mask (now (table .entry)) (now (ends .entry)) (now (given .entry)) (now (lent .entry)) i) x (now (log .exit)) ⌝ }
 {
-    let i = wide(indices[k]);
+    if again {
+        return 0;
+    }
     if given[OWNED + i] == 0 {
         return 0;
     }
-    if listed_before(indices, k) {
+    if table[OWNED + i] == 0 {
         return 0;
+    }
+    if both_single(table, given, START, i) {
+        return log_single(table, given, START, i, p, mask, log, at, write);
     }
     log_owned_at(table, ends, i, p, mask, given, lent, START, log, at, write)
 }
 
-// Those of all, in list order.
+// Those of all, in list order. `seen` is 1 at each index that was listed so far.
 pub fn log_listed(
     table: &Table,
     ends: &[u32],
@@ -80,22 +70,26 @@ pub fn log_listed(
     requires { ⌜ RoomFor write (now log) at (entriesTo p mask (now table) (now ends) (now given) (now lent) (now indices) (length (now indices))) ⌝ }
     ensures { λ x. ⌜ Adds mostEntries write (now (log .entry)) at (entriesTo p mask (now (table .entry)) (now (ends .entry)) (now (given .entry)) (now (lent .entry)) (now (indices .entry)) (length (now (indices .entry)))) x (now (log .exit)) ⌝ }
 {
+    let mut seen = [0u8; 64];
     let mut x = 0;
     let mut k = 0;
     while k < indices.len() {
+        let i = wide(indices[k]);
+        let again = seen[i] != 0;
         let y = log_listed_at(
             table,
             ends,
+            i,
+            again,
             p,
             mask,
             given,
             lent,
-            indices,
-            k,
             log,
             at + x,
             write,
         );
+        seen[i] = 1;
         x += y;
         k += 1;
     }

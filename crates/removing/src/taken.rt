@@ -1,14 +1,45 @@
 // The listed textures that a scope owns go into a tracker, and the scope no longer owns them.
+use joining::slot::both_single;
 use joining::slot::set_owned_at;
 use model::UsageFlags;
+use storage::END;
 use storage::OWNED;
 use storage::START;
 use storage::Table;
 use storage::wide;
+use texture::using::set_state;
 ghost use mathlib.Core.Path.{_≡_};
 ghost use Rattle.storage.specs.Storage.{flagsOf, startHalf};
-ghost use Rattle.joining.specs.Slot.{SetsAt};
+ghost use Prim.Native.Nat.{_+_};
+ghost use lib.ListN.{getD};
+ghost use Rattle.setting.specs.Slot.{slotOf, SlotSet};
+ghost use Rattle.joining.specs.Slot.{SetsAt, slotAfter};
 ghost use Rattle.removing.specs.Taken.{Removes, TakenAt, Takes};
+
+// What texture i, which the scope owns, becomes. As `joining`'s `set_at`, with no call where both are Single.
+fn set_taken(
+    table: &mut Table,
+    starts: &mut [u32],
+    ends: &mut [u32],
+    given: &Table,
+    lent: &[u32],
+    i: usize,
+    p: UsageFlags,
+)
+    requires { ⌜ SetsAt (now table) (now starts) (now ends) i startHalf startHalf (now given) (now lent) (now lent) p ⌝ }
+    requires { ⌜ (getD (now given) (8 + i) 0 ≡ 0 → ⊥) ⌝ }
+    ensures { λ _. ⌜ SlotSet (now (table .entry)) (now (starts .entry)) (now (ends .entry)) i (slotAfter p startHalf startHalf (now (given .entry)) (now (lent .entry)) (now (lent .entry)) i (slotOf (now (table .entry)) (now (starts .entry)) (now (ends .entry)) i)) (now (table .exit)) (now (starts .exit)) (now (ends .exit)) ⌝ }
+{
+    if table[OWNED + i] == 0 {
+        set_owned_at(table, starts, ends, i, given, lent, START, lent, START, p);
+        return;
+    }
+    if both_single(table, given, START, i) {
+        set_state(table, END, i, given[START + i]);
+        return;
+    }
+    set_owned_at(table, starts, ends, i, given, lent, START, lent, START, p);
+}
 
 // Texture i, if the scope owns it.
 pub fn take_at(
@@ -26,7 +57,7 @@ pub fn take_at(
     if given[OWNED + i] == 0 {
         return;
     }
-    set_owned_at(table, starts, ends, i, given, lent, START, lent, START, p);
+    set_taken(table, starts, ends, given, lent, i, p);
     given[OWNED + i] = 0;
 }
 

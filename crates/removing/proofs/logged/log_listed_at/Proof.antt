@@ -1,60 +1,79 @@
--- `log_listed_at`: none where the scope does not own the index or it is listed before, otherwise those of `log_owned_at`.
+-- `log_listed_at`: none where the index was listed before or either set does not own it, one at most where both are Single, otherwise those of `log_owned_at`.
 use native.Mathlib.Omega.{arith}
 use mathlib.Core.Path.{sym, _∙_}
+use borrow.Author.Tests.{eq-eqb, ne-eqb}
+use Rattle.storage.specs.Storage.{startHalf}
+use Rattle.barrier.specs.Logged.{logged-none, logged-within}
+use Rattle.joining.proofs.Plain.{plain-entries}
 use borrow.Author.Needs.{needs}
-use Rattle.removing.proofs.Turns.{logged-free, logged-before, room-own, logged-own}
 use Rattle.removing.proofs.logged.log_listed_at.Statement.{statement}
 use Rattle.removing.proofs.logged.log_listed_at.Tie as tie
 
-mul-wide : tie.Need-mul-wide
-mul-wide c = search needs
-
-shared-slice-read-wide : tie.Need-shared-slice-read-wide
-shared-slice-read-wide c = search needs
-
-wide-requires : tie.Need-wide-requires
-wide-requires c κs = search needs
-
-add-if1 : tie.Need-add-if1
-add-if1 c = omega (arith, (c .wide .ensures) .0, ((c .before .before .before .before .before .before .pre) .0 .each _ ((c .before .before .before .before .before .before .pre) .1 .0)) .index)
-
-mul-if1 : tie.Need-mul-if1
-mul-if1 c = omega (arith, (c .wide .ensures) .0, ((c .before .before .before .before .before .before .pre) .0 .each _ ((c .before .before .before .before .before .before .pre) .1 .0)) .index)
-
-element-copy-out-if1 : tie.Need-element-copy-out-if1
-element-copy-out-if1 c = omega (arith, (c .wide .ensures) .0, ((c .before .before .before .before .before .before .pre) .0 .each _ ((c .before .before .before .before .before .before .pre) .1 .0)) .index)
-
 returns : tie.Need-returns
-returns c = logged-free ((c .before .before .before .before .before .before .before .before .args) .p) ((c .before .before .before .before .before .before .before .before .args) .mask) ((c .before .before .before .before .before .before .before .before .args) .table .now) ((c .before .before .before .before .before .before .before .before .args) .ends .now) ((c .before .before .before .before .before .before .before .before .args) .given .now) ((c .before .before .before .before .before .before .before .before .args) .lent .now) ((c .before .before .before .before .before .before .before .before .args) .indices .now) ((c .before .before .before .before .before .before .before .before .args) .k) _ ((c .before .before .wide .ensures) .0) _ _ _ (c .if1 .taken)
+returns c = rw (c .if1 .taken) (logged-none _ _ _ _ _)
 
-listed-before-requires : tie.Need-listed-before-requires
-listed-before-requires c κs = search needs
+add-if2 : tie.Need-add-if2
+add-if2 c = search needs
+
+mul-if2 : tie.Need-mul-if2
+mul-if2 c = search needs
+
+element-copy-out-if2 : tie.Need-element-copy-out-if2
+element-copy-out-if2 c = search needs
 
 returns-2 : tie.Need-returns-2
-returns-2 c = logged-before ((c .before .before .before .before .before .before .before .before .before .before .args) .p) ((c .before .before .before .before .before .before .before .before .before .before .args) .mask) ((c .before .before .before .before .before .before .before .before .before .before .args) .table .now) ((c .before .before .before .before .before .before .before .before .before .before .args) .ends .now) ((c .before .before .before .before .before .before .before .before .before .before .args) .given .now) ((c .before .before .before .before .before .before .before .before .before .before .args) .lent .now) ((c .before .before .before .before .before .before .before .before .before .before .args) .indices .now) ((c .before .before .before .before .before .before .before .before .before .before .args) .k) _ ((c .before .before .before .before .wide .ensures) .0) _ _ _ (sym (c .before .listed-before .ensures) ∙ (c .if2 .taken))
+returns-2 c = rw ((c .before .before .if1 .left), eq-eqb _ _ (c .if2 .taken)) (logged-none _ _ _ _ _)
 
-log-owned-at-requires : tie.Need-log-owned-at-requires
-log-owned-at-requires c κs = (rw ((c .before .before .before .before .before .wide .ensures) .0) ((c .before .before .before .before .before .before .before .before .before .before .before .pre) .0 .each _ ((c .before .before .before .before .before .before .before .before .before .before .before .pre) .1 .0)), ((c .before .before .before .before .before .before .before .before .before .before .before .pre) .1 .1 .0, room-own ((c .before .before .before .before .before .before .before .before .before .before .before .args) .p) ((c .before .before .before .before .before .before .before .before .before .before .before .args) .mask) ((c .before .before .before .before .before .before .before .before .before .before .before .args) .table .now) ((c .before .before .before .before .before .before .before .before .before .before .before .args) .ends .now) ((c .before .before .before .before .before .before .before .before .before .before .before .args) .given .now) ((c .before .before .before .before .before .before .before .before .before .before .before .args) .lent .now) ((c .before .before .before .before .before .before .before .before .before .before .before .args) .indices .now) ((c .before .before .before .before .before .before .before .before .before .before .before .args) .k) _ ((c .before .before .before .before .before .wide .ensures) .0) (sym (c .before .before .listed-before .ensures) ∙ (c .before .if2 .left)) ((c .before .before .before .before .before .before .before .before .before .before .before .args) .write) ((c .before .before .before .before .before .before .before .before .before .before .before .args) .log .now) ((c .before .before .before .before .before .before .before .before .before .before .before .args) .at) ((c .before .before .before .before .before .before .before .before .before .before .before .pre) .1 .1 .1)))
+add-if3 : tie.Need-add-if3
+add-if3 c = search needs
+
+mul-if3 : tie.Need-mul-if3
+mul-if3 c = search needs
+
+element-copy-out-if3 : tie.Need-element-copy-out-if3
+element-copy-out-if3 c = search needs
+
+returns-3 : tie.Need-returns-3
+returns-3 c = rw ((c .before .before .before .before .if1 .left), ne-eqb _ _ (c .before .before .if2 .left), eq-eqb _ _ (c .if3 .taken)) (logged-none _ _ _ _ _)
+
+both-single-requires : tie.Need-both-single-requires
+both-single-requires c κs = ((c .before .before .before .before .before .before .before .before .pre .0) .index, omega arith)
+
+log-single-requires : tie.Need-log-single-requires
+log-single-requires c κs = (((c .before .before .before .before .before .before .before .before .before .before .before .pre .0) .index, omega arith), rw ((c .before .before .before .before .before .before .before .if1 .left), plain-entries ((c .before .before .before .before .before .before .before .before .before .before .before .args) .p) ((c .before .before .before .before .before .before .before .before .before .before .before .args) .mask) ((c .before .before .before .before .before .before .before .before .before .before .before .args) .table .now) ((c .before .before .before .before .before .before .before .before .before .before .before .args) .ends .now) startHalf ((c .before .before .before .before .before .before .before .before .before .before .before .args) .given .now) ((c .before .before .before .before .before .before .before .before .before .before .before .args) .lent .now) ((c .before .before .before .before .before .before .before .before .before .before .before .args) .i) (c .before .before .before .before .before .if2 .left) (c .before .before .before .if3 .left) (sym (c .before .before .both-single .ensures) ∙ (c .before .if4 .taken))) at (c .before .before .before .before .before .before .before .before .before .before .before .pre .1 .1))
 
 same-length : tie.Need-same-length
 same-length c = search needs
 
-returns-3 : tie.Need-returns-3
-returns-3 c = logged-own ((c .before .before .before .before .before .before .before .before .before .before .before .before .before .before .args) .p) ((c .before .before .before .before .before .before .before .before .before .before .before .before .before .before .args) .mask) ((c .before .before .before .before .before .before .before .before .before .before .before .before .before .before .args) .table .now) ((c .before .before .before .before .before .before .before .before .before .before .before .before .before .before .args) .ends .now) ((c .before .before .before .before .before .before .before .before .before .before .before .before .before .before .args) .given .now) ((c .before .before .before .before .before .before .before .before .before .before .before .before .before .before .args) .lent .now) ((c .before .before .before .before .before .before .before .before .before .before .before .before .before .before .args) .indices .now) ((c .before .before .before .before .before .before .before .before .before .before .before .before .before .before .args) .k) _ ((c .before .before .before .before .before .before .before .before .wide .ensures) .0) (sym (c .before .before .before .before .before .listed-before .ensures) ∙ (c .before .before .before .before .if2 .left)) _ _ _ _ _ (c .before .before .log-owned-at .ensures)
+returns-4 : tie.Need-returns-4
+returns-4 c = rw ((c .before .before .before .before .before .before .before .before .before .before .if1 .left), plain-entries ((c .before .before .before .before .before .before .before .before .before .before .before .before .before .before .args) .p) ((c .before .before .before .before .before .before .before .before .before .before .before .before .before .before .args) .mask) ((c .before .before .before .before .before .before .before .before .before .before .before .before .before .before .args) .table .now) ((c .before .before .before .before .before .before .before .before .before .before .before .before .before .before .args) .ends .now) startHalf ((c .before .before .before .before .before .before .before .before .before .before .before .before .before .before .args) .given .now) ((c .before .before .before .before .before .before .before .before .before .before .before .before .before .before .args) .lent .now) ((c .before .before .before .before .before .before .before .before .before .before .before .before .before .before .args) .i) (c .before .before .before .before .before .before .before .before .if2 .left) (c .before .before .before .before .before .before .if3 .left) (sym (c .before .before .before .before .before .both-single .ensures) ∙ (c .before .before .before .before .if4 .taken))) (logged-within 1048576 (omega arith) (c .before .before .log-single .ensures))
+
+log-owned-at-requires : tie.Need-log-owned-at-requires
+log-owned-at-requires c κs = ((c .before .before .before .before .before .before .before .before .before .before .before .pre .0), ((c .before .before .before .before .before .before .before .before .before .before .before .pre .1 .0), rw (c .before .before .before .before .before .before .before .if1 .left) at (c .before .before .before .before .before .before .before .before .before .before .before .pre .1 .1)))
+
+same-length-2 : tie.Need-same-length-2
+same-length-2 c = search needs
+
+returns-5 : tie.Need-returns-5
+returns-5 c = rw (c .before .before .before .before .before .before .before .before .before .before .if1 .left) (c .before .before .log-owned-at .ensures)
 
 pub log-listed-at-spec : {M : Type 1} → statement M
 log-listed-at-spec =
     tie.close
     (tie.spec
-    mul-wide
-    shared-slice-read-wide
-    wide-requires
-    add-if1
-    mul-if1
-    element-copy-out-if1
     returns
-    listed-before-requires
+    add-if2
+    mul-if2
+    element-copy-out-if2
     returns-2
-    log-owned-at-requires
+    add-if3
+    mul-if3
+    element-copy-out-if3
+    returns-3
+    both-single-requires
+    log-single-requires
     same-length
-    returns-3)
+    returns-4
+    log-owned-at-requires
+    same-length-2
+    returns-5)

@@ -1,6 +1,6 @@
 -- `take_at`: nothing where the scope does not own the texture, otherwise the tracker takes it and the scope's word of ownership is 0.
-use borrow.Author.Needs.{needs}
 use Rattle.removing.specs.Taken.{taken-not, taken-own}
+use borrow.Author.Needs.{needs}
 use Rattle.removing.proofs.taken.take_at.Statement.{statement}
 use Rattle.removing.proofs.taken.take_at.Tie as tie
 
@@ -16,8 +16,8 @@ element-copy-out-if1 c = search needs
 returns : tie.Need-returns
 returns c = taken-not (c .if1 .taken)
 
-set-owned-at-requires : tie.Need-set-owned-at-requires
-set-owned-at-requires c κs = search needs
+set-taken-requires : tie.Need-set-taken-requires
+set-taken-requires c κs = ((c .before .before .before .before .before .before .before .before .before .pre), (c .before .before .before .before .if1 .left))
 
 add-given : tie.Need-add-given
 add-given c = search needs
@@ -35,7 +35,7 @@ same-length-2 : tie.Need-same-length-2
 same-length-2 c = search needs
 
 returns-2 : tie.Need-returns-2
-returns-2 c = taken-own (c .before .before .before .before .before .before .before .before .before .if1 .left) (c .before .before .before .before .set-owned-at .ensures)
+returns-2 c = taken-own (c .before .before .before .before .before .before .before .before .before .if1 .left) (c .before .before .before .before .set-taken .ensures)
 
 pub take-at-spec : {M : Type 1} → statement M
 take-at-spec =
@@ -45,7 +45,7 @@ take-at-spec =
     mul-if1
     element-copy-out-if1
     returns
-    set-owned-at-requires
+    set-taken-requires
     add-given
     mul-given
     element-write-given
