@@ -169,8 +169,7 @@ track_logged_answer track_set_from_tracker(uint32_t table[TRACK_TABLE_LENGTH], u
                                            uint32_t *log, size_t log_length, size_t written, size_t free);
 
 /* The listed textures of a scope, in the list's order; the scope (given) then owns them no more. Textures that it does not own are passed
- * over, and one listed twice counts once. Time grows with the square of the list's length; no list needs more than N indices. Refuses 4
- * to 9, 15. */
+ * over, and one listed twice counts once. Refuses 4 to 9, 15. */
 track_logged_answer track_set_and_remove_from_usage_scope_sparse(
     uint32_t table[TRACK_TABLE_LENGTH], uint32_t *starts, size_t starts_length, uint32_t *ends, size_t ends_length,
     uint32_t given[TRACK_TABLE_LENGTH], const uint32_t *given_ranges, size_t given_ranges_length,
