@@ -11,7 +11,7 @@
 // `range_calls` do (range_calls/specs/Answers); a refusal (10, 14, 15) leaves every record as it was, and no room is asked of the caller.
 // specs/Passes says what each pass computes, in the direction of its loop. In proofs/, Laws shows that the passes together are the model's
 // calls, and Walks has the rules by which code that has records in hand is walked.
-pub mod decisions;
+mod decisions;
 pub mod strips;
 
 pub use strips::RangeRecord;
