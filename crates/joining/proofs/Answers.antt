@@ -24,6 +24,7 @@ use Rattle.agreement.specs.BoolLaws.{and-left}
 use Rattle.agreement.specs.LogRoom.{entries-written}
 use Rattle.agreement.specs.EachCall.{set-from-usage-scope-room, set-from-tracker-room}
 use Rattle.storage.specs.Storage.{numbersOf, flagsOf, startHalf, endHalf, heldOf, slotWith, scopeOf, trackerOf, listFrom}
+use Rattle.storage.specs.Stays.{ownedBy, both-refl}
 use Rattle.barrier.specs.Entries.{Added}
 use Rattle.checks.specs.Head.{headIn, tracker-head, head-is}
 use Rattle.checks.specs.Sets.{SetTold}
@@ -52,24 +53,20 @@ module _ (t s e : List ℕ) (from to : ℕ) (g a b l : List ℕ) (h : LogHead) w
   room-for f k = omega (arith, head-le (length l / 7) h f)
 
   -- 15
-  pub not-enough : h .free < length (joinedEntries t e from g a) → Changed (joinedEntries t e from g a) (joinedTracker t s e from to g a b) h t s e l (refusedWith NoFreeEntry h) t s e l
+  pub not-enough : h .free < length (joinedEntries t e from g a) → Changed (ownedBy g) (joinedEntries t e from g a) (joinedTracker t s e from to g a b) h t s e l (refusedWith NoFreeEntry h) t s e l
   not-enough k = record {
     few = λ q. (refl, (refl, (refl, (refl, refl))));
     enough = λ q. absurd (omega arith);
-    start-long = refl;
-    end-long = refl;
-    table = refl;
+    frame = both-refl t s e;
   }
 
   -- written, and the textures changed
   pub written : {k : ℕ} {t′ s′ e′ l₂ : List ℕ} → length (joinedEntries t e from g a) ≤ h .free → headFits (length l / 7) h ≡ true → Adds setTop true l (h .written) (joinedEntries t e from g a) k l₂ → SetsAll t s e from to g a b t′ s′ e′
-      → Changed (joinedEntries t e from g a) (joinedTracker t s e from to g a b) h t s e l (movedOn h k) t′ s′ e′ l₂
+      → Changed (ownedBy g) (joinedEntries t e from g a) (joinedTracker t s e from to g a b) h t s e l (movedOn h k) t′ s′ e′ l₂
   written {k} {t′} {s′} {e′} {l₂} le f w q = record {
     few = λ y. absurd (omega arith);
     enough = λ y. (ap (movedOn h) (w .count), (adds-added (room-for f le) w, q .view));
-    start-long = q .start-long;
-    end-long = q .end-long;
-    table = q .table;
+    frame = q .frame;
   }
 
 -- ---- `set_from`
@@ -109,14 +106,14 @@ module _ {t s e : List ℕ} {from to : ℕ} {g a b : List ℕ} (w : TrackerTeste
 
   module _ {h : LogHead} {l : List ℕ} (k : headFits (length l / 7) h ≡ true) where
     -- 6 to 9
-    pub from-away : {r : Refusal} → SetTold t g (outcome.Refused r) → Tracked true (model t s e from to g a b) h t s e l (refusedWith r h) t s e l
+    pub from-away : {r : Refusal} → SetTold t g (outcome.Refused r) → Tracked (ownedBy g) true (model t s e from to g a b) h t s e l (refusedWith r h) t s e l
     from-away {r} z = away-own r refl k (ap (λ (y : TrackerResult). y .answer) (call-is t s e from to g a b (some r) (set-refused z refl)))
 
     -- 15, or done
-    pub from-done : {x : Answered} {t′ s′ e′ l′ : List ℕ} → SetTold t g outcome.Done → Changed (joinedEntries t e from g a) (joinedTracker t s e from to g a b) h t s e l x t′ s′ e′ l′
-        → Tracked true (model t s e from to g a b) h t s e l x t′ s′ e′ l′
+    pub from-done : {x : Answered} {t′ s′ e′ l′ : List ℕ} → SetTold t g outcome.Done → Changed (ownedBy g) (joinedEntries t e from g a) (joinedTracker t s e from to g a b) h t s e l x t′ s′ e′ l′
+        → Tracked (ownedBy g) true (model t s e from to g a b) h t s e l x t′ s′ e′ l′
     from-done {x} {t′} {s′} {e′} {l′} z c =
-        subst (λ (y : TrackerResult). Tracked true y h t s e l x t′ s′ e′ l′) (sym (call-is t s e from to g a b none (set-done z refl)))
+        subst (λ (y : TrackerResult). Tracked (ownedBy g) true y h t s e l x t′ s′ e′ l′) (sym (call-is t s e from to g a b none (set-done z refl)))
         (changed-tracked refl k refl (rw (entries-model (joins z)) c))
 
 -- ---- The calls
@@ -162,11 +159,11 @@ module _ (t s e : List ℕ) (w : wellFormedTracker (length s / 3) (length e / 3)
 -- both sets passed the test
 module _ {fits : Bool} {h : LogHead} {t s e l : List ℕ} {x : Answered} {t′ s′ e′ l′ : List ℕ} (f : fits ≡ true) where
   -- a scope is given
-  pub from-scope : (g r : List ℕ) → Tracked true (model t s e startHalf startHalf g r r) h t s e l x t′ s′ e′ l′ → Tracked fits (setFromUsageScope ranged (trackerOf t s e) (scopeOf g r)) h t s e l x t′ s′ e′ l′
+  pub from-scope : (g r : List ℕ) → Tracked (ownedBy g) true (model t s e startHalf startHalf g r r) h t s e l x t′ s′ e′ l′ → Tracked (ownedBy g) fits (setFromUsageScope ranged (trackerOf t s e) (scopeOf g r)) h t s e l x t′ s′ e′ l′
   from-scope g r q = rw (f, scope-is (trackerOf t s e) g r) q
 
   -- a tracker is given
-  pub from-tracker : (g a b : List ℕ) → Tracked true (model t s e startHalf endHalf g a b) h t s e l x t′ s′ e′ l′ → Tracked fits (setFromTracker ranged (trackerOf t s e) (trackerOf g a b)) h t s e l x t′ s′ e′ l′
+  pub from-tracker : (g a b : List ℕ) → Tracked (ownedBy g) true (model t s e startHalf endHalf g a b) h t s e l x t′ s′ e′ l′ → Tracked (ownedBy g) fits (setFromTracker ranged (trackerOf t s e) (trackerOf g a b)) h t s e l x t′ s′ e′ l′
   from-tracker g a b q = rw (f, tracker-is (trackerOf t s e) g a b) q
 
 -- the tracker did not pass the test

@@ -9,12 +9,13 @@ use borrow.Author.Tests.{ne-eqb, eqb-false, not-true}
 use Rattle.model.specs.declared.UsageFlags.{UsageFlags}
 use Rattle.model.specs.Texture.{barrier}
 use Rattle.storage.specs.Storage.{numbersOf, flagsOf, endHalf}
+use Rattle.storage.specs.Stays.{onlyOwned}
 use Rattle.storage.specs.Slots.{held-single}
 use Rattle.updating.specs.FromSet.{from-use}
 use Rattle.updating.proofs.Cases.{all-single}
 use Rattle.updating.proofs.SetCases.{state-given}
 use Rattle.setting.specs.Slot.{slotOf, SlotSet}
-use Rattle.joining.specs.Slot.{SetsAt, bothSingle, slotAfter, givenEntries, singleEntry, update-ready, set-old}
+use Rattle.joining.specs.Slot.{SetsAt, bothSingle, slotAfter, givenEntries, singleEntry, update-ready, set-old, set-owned}
 
 both : (a b : Bool) → (a && b) ≡ true → (a ≡ true) × (b ≡ true)
 both true b e = (refl, e)
@@ -37,7 +38,7 @@ plain-entries p mask t e from g a i o q s =
     rw (ne-eqb _ _ o, ne-eqb _ _ q, held-single (numbersOf t) endHalf t e i (end-single t g from i s), held-single (numbersOf g) from g a i (given-single t g from i s))
 
 pub plain-set : {t s e : List ℕ} {i from to : ℕ} {g a b : List ℕ} {p : UsageFlags} → SetsAt t s e i from to g a b p → (getD g (8 + i) 0 ≡ 0 → ⊥) → (getD t (8 + i) 0 ≡ 0 → ⊥) → bothSingle t g to i ≡ true
-    → SlotSet t s e i (slotAfter p from to g a b i (slotOf t s e i)) (set t (1288 + i) (getD g (to + i) 0)) s e
+    → SlotSet (onlyOwned g i) t s e i (slotAfter p from to g a b i (slotOf t s e i)) (set t (1288 + i) (getD g (to + i) 0)) s e
 plain-set {t} {s} {e} {i} {from} {to} {g} {a} {b} {p} w o q c =
     let r = w .ready (rw (ne-eqb _ _ o)) in
     let x = w .given (rw (ne-eqb _ _ o)) in
@@ -45,4 +46,4 @@ plain-set {t} {s} {e} {i} {from} {to} {g} {a} {b} {p} w o q c =
     let own : p .complex ≡ getD t 5 0 = ap (λ (f : UsageFlags). f .complex) (x .flags) in
     let theirs : getD g 5 0 ≡ getD t 5 0 = ap (λ (f : UsageFlags). f .complex) (x .end .flags) in
     let n : getD g (to + i) 0 ≡ p .complex → ⊥ = λ z. given-single t g to i c (z ∙ own ∙ sym theirs) in
-    rw (ne-eqb _ _ o) (set-old r x q (state-given u n (all-single (from-use u _ n) (λ z. end-single t g to i c (z ∙ own)))))
+    rw (ne-eqb _ _ o) (set-owned g o (set-old r x q (state-given u n (all-single (from-use u _ n) (λ z. end-single t g to i c (z ∙ own))))))

@@ -12,9 +12,12 @@ use Rattle.model.specs.Calls.{setGiven}
 use Rattle.model.specs.Texture.{Held, ranged}
 use Rattle.storage.specs.Part.{by-lt}
 use Rattle.storage.specs.Storage.{numbersOf, flagsOf, startHalf, endHalf, endsOf, slotWith, trackerOf, listFrom}
+use Rattle.storage.specs.Stays.{onlyOwned, ownedBy, both-refl, both-then, both-more, TrackerFrame}
+use Rattle.storage.specs.Slots.{tracker-head, tracker-other}
 use Rattle.storage.specs.Frames.{Measured}
 use Rattle.checks.specs.Passed.{TexturePassed}
 use Rattle.agreement.specs.Fits.{EndsFit, SlotFits}
+use Rattle.ready.specs.Named.{within}
 use Rattle.ready.specs.Tested.{half-fits, TrackerTested}
 use Rattle.setting.specs.Slot.{slotOf, SlotReady, SlotSet}
 use Rattle.joining.specs.Slot.{SetsAt, pairOf, passStart, passEnd, slotAfter}
@@ -22,49 +25,47 @@ use Rattle.joining.specs.Lists.{over-list}
 use Rattle.joining.specs.Join.{Joins, SetsAll, slotsAfter, start-given, end-given}
 
 -- as the loop has it: the slots below k are what f makes of them, the others as they were
-pub record Setting (t s e : List ℕ) (f : ℕ → Slot (Ends Held) → Slot (Ends Held)) (k : ℕ) (t₁ s₁ e₁ : List ℕ) : Type 0 where
-  pub head : (x : ℕ) → x < 8 → getD t₁ x 0 ≡ getD t x 0
+pub record Setting (named : ℕ → Type 0) (t s e : List ℕ) (f : ℕ → Slot (Ends Held) → Slot (Ends Held)) (k : ℕ) (t₁ s₁ e₁ : List ℕ) : Type 0 where
   pub done : (j : ℕ) → j < k → j < getD t 0 0 → slotWith (endsOf (numbersOf t) t₁ s₁ e₁) t₁ j ≡ f j (slotOf t s e j)
   pub left : (j : ℕ) → k ≤ j → j < getD t 0 0 → slotWith (endsOf (numbersOf t) t₁ s₁ e₁) t₁ j ≡ slotOf t s e j
-  pub start-long : length s₁ ≡ length s
-  pub end-long : length e₁ ≡ length e
-  pub table : length t₁ ≡ length t
+  pub frame : TrackerFrame named (numbersOf t) t s e t₁ s₁ e₁
 
 -- at the start
-pub setting-start : (t s e : List ℕ) (f : ℕ → Slot (Ends Held) → Slot (Ends Held)) → Setting t s e f 0 t s e
-setting-start t s e f = record { head = λ x q. refl; done = λ j a b. absurd (omega arith); left = λ j a b. refl; start-long = refl; end-long = refl; table = refl }
+pub setting-start : {named : ℕ → Type 0} (t s e : List ℕ) (f : ℕ → Slot (Ends Held) → Slot (Ends Held)) → Setting named t s e f 0 t s e
+setting-start t s e f = record { done = λ j a b. absurd (omega arith); left = λ j a b. refl; frame = both-refl t s e }
 
-module _ {t s e : List ℕ} {f : ℕ → Slot (Ends Held) → Slot (Ends Held)} {k : ℕ} {t₁ s₁ e₁ : List ℕ} (q : Setting t s e f k t₁ s₁ e₁) where
+module _ {named : ℕ → Type 0} {t s e : List ℕ} {f : ℕ → Slot (Ends Held) → Slot (Ends Held)} {k : ℕ} {t₁ s₁ e₁ : List ℕ} (q : Setting named t s e f k t₁ s₁ e₁) where
+  head : (x : ℕ) → x < 8 → getD t₁ x 0 ≡ getD t x 0
+  head = tracker-head (q .frame)
+
   -- the head stays
   numbers-are : numbersOf t₁ ≡ numbersOf t
-  numbers-are = rw (q .head 0 (omega arith), q .head 1 (omega arith), q .head 2 (omega arith))
+  numbers-are = rw (head 0 (omega arith), head 1 (omega arith), head 2 (omega arith))
 
   flags-are : flagsOf t₁ ≡ flagsOf t
-  flags-are = rw (q .head 3 (omega arith), q .head 4 (omega arith), q .head 5 (omega arith), q .head 6 (omega arith))
+  flags-are = rw (head 3 (omega arith), head 4 (omega arith), head 5 (omega arith), head 6 (omega arith))
 
   -- a turn
-  pub setting-turn : {t₂ s₂ e₂ : List ℕ} → SlotSet t₁ s₁ e₁ k (f k (slotOf t₁ s₁ e₁ k)) t₂ s₂ e₂ → Setting t s e f (k + 1) t₂ s₂ e₂
-  setting-turn {t₂} {s₂} {e₂} z =
+  pub setting-turn : {turned : ℕ → Type 0} {t₂ s₂ e₂ : List ℕ} → Measured (numbersOf t) startHalf t s → ((j : ℕ) → turned j → (j ≡ k) × named j) → SlotSet turned t₁ s₁ e₁ k (f k (slotOf t₁ s₁ e₁ k)) t₂ s₂ e₂ → Setting named t s e f (k + 1) t₂ s₂ e₂
+  setting-turn {turned} {t₂} {s₂} {e₂} m n z =
+      let step : TrackerFrame turned (numbersOf t) t₁ s₁ e₁ t₂ s₂ e₂ = subst (λ (d : Numbers). TrackerFrame turned d t₁ s₁ e₁ t₂ s₂ e₂) numbers-are (z .frame) in
       let here : slotWith (endsOf (numbersOf t) t₂ s₂ e₂) t₂ k ≡ f k (slotWith (endsOf (numbersOf t) t₁ s₁ e₁) t₁ k) =
       subst (λ (n : Numbers). slotWith (endsOf n t₂ s₂ e₂) t₂ k ≡ f k (slotWith (endsOf n t₁ s₁ e₁) t₁ k)) numbers-are (z .slot) in
       let there : (j : ℕ) → j < getD t 0 0 → (j ≡ k → ⊥) → slotWith (endsOf (numbersOf t) t₂ s₂ e₂) t₂ j ≡ slotWith (endsOf (numbersOf t) t₁ s₁ e₁) t₁ j =
-      λ j a ne. subst (λ (n : Numbers). slotWith (endsOf n t₂ s₂ e₂) t₂ j ≡ slotWith (endsOf n t₁ s₁ e₁) t₁ j) numbers-are (z .frame .others j (rw (q .head 0 (omega arith)) a) ne) in
+      λ j a ne. tracker-other (m .textures) (m .mips) step j a (λ y. ne (n j y .0)) in
       record {
-        head = λ x a. z .frame .head x a ∙ q .head x a;
         done = λ j a b.
             by-lt j k (λ l. there j b (λ w. omega arith) ∙ q .done j l b)
             (λ l. let w : j ≡ k = omega arith in rw w (here ∙ ap (f k) (q .left k (omega arith) (rw w at b))));
         left = λ j a b. there j b (λ w. omega arith) ∙ q .left j (omega arith) b;
-        start-long = z .start-long ∙ q .start-long;
-        end-long = z .end-long ∙ q .end-long;
-        table = z .table ∙ q .table;
+        frame = both-then (q .frame) (both-more (λ j y. n j y .1) (λ j x o. o) step);
       }
 
   -- the slot at k reads as at entry, so it is ready
   same-measured : {h : ℕ} {r r₁ : List ℕ} → length r₁ ≡ length r → Measured (numbersOf t) h t r → Measured (numbersOf t₁) h t₁ r₁
   same-measured {h} {r} {r₁} long m =
       subst (λ (n : Numbers). Measured n h t₁ r₁) (sym numbers-are)
-      (record { dims = numbers-are; textures = m .textures; mips = m .mips; some = m .some; layers = m .layers; fits = rw long (m .fits); half = m .half; table = q .table ∙ m .table })
+      (record { dims = numbers-are; textures = m .textures; mips = m .mips; some = m .some; layers = m .layers; fits = rw long (m .fits); half = m .half; table = q .frame .words .long ∙ m .table })
 
   module _ {sh : Extent} (x : TexturePassed t k sh) where
     slot-is : slotOf t₁ s₁ e₁ k ≡ slotOf t s e k
@@ -72,11 +73,11 @@ module _ {t s e : List ℕ} {f : ℕ → Slot (Ends Held) → Slot (Ends Held)} 
 
     same-passed : TexturePassed t₁ k sh
     same-passed = record {
-      texture = rw (q .head 0 (omega arith)) (x .texture);
+      texture = rw (head 0 (omega arith)) (x .texture);
       mip = x .mip;
-      top = rw (q .head 1 (omega arith)) (x .top);
+      top = rw (head 1 (omega arith)) (x .top);
       some = x .some;
-      low = rw (q .head 2 (omega arith)) (x .low);
+      low = rw (head 2 (omega arith)) (x .low);
       own = λ o. ap (λ (y : Slot (Ends Held)). y .extent) slot-is ∙ x .own (sym (ap (λ (y : Slot (Ends Held)). y .owned) slot-is) ∙ o);
     }
 
@@ -87,8 +88,8 @@ module _ {t s e : List ℕ} {f : ℕ → Slot (Ends Held) → Slot (Ends Held)} 
         (subst (λ (p : UsageFlags). SlotFits EndsFit (numbersOf t) p (slotOf t₁ s₁ e₁ k)) (sym flags-are)
         (subst (λ (y : Slot (Ends Held)). SlotFits EndsFit (numbersOf t) (flagsOf t) y) (sym slot-is) (w .slots k (x .texture)))) in
         record {
-          starts = same-measured (q .start-long) (w .starts);
-          ends = same-measured (q .end-long) (w .ends);
+          starts = same-measured (q .frame .starts .long) (w .starts);
+          ends = same-measured (q .frame .ends .long) (w .ends);
           texture = same-passed;
           start-held = λ o. half-fits startHalf t₁ s₁ k (fits .extent o .mips) (fits .held o .start);
           end-held = λ o. half-fits endHalf t₁ e₁ k (fits .extent o .mips) (fits .held o .end);
@@ -97,15 +98,21 @@ module _ {t s e : List ℕ} {f : ℕ → Slot (Ends Held) → Slot (Ends Held)} 
 -- what the turn at k asks for
 module _ {t s e : List ℕ} {from to : ℕ} {g a b : List ℕ} (w : Joins t s e from to g a b) where
   -- the tracker's texture is as it was, and the given one stays
-  pub setting-ready : {f : ℕ → Slot (Ends Held) → Slot (Ends Held)} {k : ℕ} {t₁ s₁ e₁ : List ℕ} {p : UsageFlags} → Setting t s e f k t₁ s₁ e₁ → k < getD g 0 0 → p ≡ flagsOf t → SetsAt t₁ s₁ e₁ k from to g a b p
-  setting-ready {f} {k} {t₁} {s₁} {e₁} {p} q h z = record {
+  pub setting-ready : {named : ℕ → Type 0} {f : ℕ → Slot (Ends Held) → Slot (Ends Held)} {k : ℕ} {t₁ s₁ e₁ : List ℕ} {p : UsageFlags} → Setting named t s e f k t₁ s₁ e₁ → k < getD g 0 0 → p ≡ flagsOf t → SetsAt t₁ s₁ e₁ k from to g a b p
+  setting-ready {named} {f} {k} {t₁} {s₁} {e₁} {p} q h z = record {
     index = omega (arith, w .given .start .textures);
     ready = λ o. same-ready q (w .passed .each k h o) (w .tracker);
     given = λ o. record { flags = z ∙ sym (flags-are q); start = start-given w t₁ (flags-are q) k h o; end = end-given w t₁ (flags-are q) k h o };
   }
 
+-- a turn of the loop over the given set
+pub setting-next : {t s e : List ℕ} {from to : ℕ} {g a b : List ℕ} {f : ℕ → Slot (Ends Held) → Slot (Ends Held)} {k : ℕ} {t₁ s₁ e₁ t₂ s₂ e₂ : List ℕ} → Joins t s e from to g a b → k < getD g 0 0 → Setting (within t (ownedBy g)) t s e f k t₁ s₁ e₁
+    → SlotSet (onlyOwned g k) t₁ s₁ e₁ k (f k (slotOf t₁ s₁ e₁ k)) t₂ s₂ e₂ → Setting (within t (ownedBy g)) t s e f (k + 1) t₂ s₂ e₂
+setting-next {t = t} {g = g} {k = k} w h q z =
+    setting-turn q (w .tracker .starts) (λ j n. let l : j < getD g 0 0 = subst (λ (y : ℕ). y < getD g 0 0) (sym (n .0)) h in (n .0, (w .passed .each j l (n .1) .texture, (l, n .1)))) z
+
 -- ---- All of them: THE VIEW
-all-set : {t s e : List ℕ} {from to : ℕ} {g a b : List ℕ} {t′ s′ e′ : List ℕ} → Setting t s e (slotAfter (flagsOf t) from to g a b) (getD g 0 0) t′ s′ e′ → SetsAll t s e from to g a b t′ s′ e′
+all-set : {t s e : List ℕ} {from to : ℕ} {g a b : List ℕ} {t′ s′ e′ : List ℕ} → Setting (within t (ownedBy g)) t s e (slotAfter (flagsOf t) from to g a b) (getD g 0 0) t′ s′ e′ → SetsAll t s e from to g a b t′ s′ e′
 unfolding trackerOf
 all-set {t} {s} {e} {from} {to} {g} {a} {b} {t′} {s′} {e′} q =
     let n = numbers-are q in
@@ -114,19 +121,17 @@ all-set {t} {s} {e} {from} {to} {g} {a} {b} {t′} {s′} {e′} q =
     (λ x p h k. q .done x (omega arith) (omega arith)) (λ x p h. q .left x (omega arith) (omega arith)) in
     record {
       view = rw (
-        q .head 7 (omega arith),
+        tracker-head (q .frame) 7 (omega arith),
         n,
         flags-are q,
-        q .head 0 (omega arith),
+        tracker-head (q .frame) 0 (omega arith),
         slots,
       );
-      start-long = q .start-long;
-      end-long = q .end-long;
-      table = q .table;
+      frame = q .frame;
     }
 
 -- at the end
-pub setting-end : {t s e : List ℕ} {from to : ℕ} {g a b : List ℕ} {t′ s′ e′ : List ℕ} (p : UsageFlags) (k : ℕ) → p ≡ flagsOf t → k ≡ getD g 0 0 → Setting t s e (slotAfter p from to g a b) k t′ s′ e′ → SetsAll t s e from to g a b t′ s′ e′
+pub setting-end : {t s e : List ℕ} {from to : ℕ} {g a b : List ℕ} {t′ s′ e′ : List ℕ} (p : UsageFlags) (k : ℕ) → p ≡ flagsOf t → k ≡ getD g 0 0 → Setting (within t (ownedBy g)) t s e (slotAfter p from to g a b) k t′ s′ e′ → SetsAll t s e from to g a b t′ s′ e′
 setting-end {t} {s} {e} {from} {to} {g} {a} {b} {t′} {s′} {e′} p k f n q =
-    all-set (subst (λ (m : ℕ). Setting t s e (slotAfter (flagsOf t) from to g a b) m t′ s′ e′) n
-    (subst (λ (x : UsageFlags). Setting t s e (slotAfter x from to g a b) k t′ s′ e′) f q))
+    all-set (subst (λ (m : ℕ). Setting (within t (ownedBy g)) t s e (slotAfter (flagsOf t) from to g a b) m t′ s′ e′) n
+    (subst (λ (x : UsageFlags). Setting (within t (ownedBy g)) t s e (slotAfter x from to g a b) k t′ s′ e′) f q))

@@ -9,7 +9,8 @@ use Rattle.model.specs.declared.Extent.{Extent}
 use Rattle.model.specs.Sets.{Numbers}
 use Rattle.model.specs.Texture.{Given, fromHeld}
 use Rattle.storage.specs.Storage.{numbersOf, flagsOf, extentOf, startHalf, endHalf, heldOf}
-use Rattle.storage.specs.Frames.{Measured, HalfFrame}
+use Rattle.storage.specs.Stays.{HalfFrame}
+use Rattle.storage.specs.Frames.{Measured}
 use Rattle.storage.specs.Slots.{ownWords, half-low}
 use Rattle.texture.specs.FromSet.{SetReady}
 use Rattle.updating.specs.Both.{measured-low}
@@ -116,4 +117,4 @@ module _ {t s e : List ℕ} {i : ℕ} {sh : Extent} (ms : Measured (numbersOf t)
     -- for its end
     pub new-end : {h : ℕ} {g r : List ℕ} → HalfGiven t i sh h g r → SetReady endHalf t₁ e i sh h g r (flagsOf t)
     new-end q =
-        given-ready q (subst (λ (n : Numbers). Measured n endHalf t₁ e) (sym numbers-after) (measured-low low refl (f .table) (own-measured me x))) passed-after extent-after (sym flags-after)
+        given-ready q (subst (λ (n : Numbers). Measured n endHalf t₁ e) (sym numbers-after) (measured-low low refl (f .words .long) (own-measured me x))) passed-after extent-after (sym flags-after)

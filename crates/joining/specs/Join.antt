@@ -12,10 +12,12 @@ use Rattle.model.specs.Sets.{Slot, Set, Tracker, withTracker}
 use Rattle.model.specs.Calls.{setGiven}
 use Rattle.model.specs.Texture.{Held, ranged}
 use Rattle.storage.specs.Storage.{numbersOf, flagsOf, extentOf, ownedOf, startHalf, endHalf, setWith, trackerOf}
+use Rattle.storage.specs.Stays.{ownedBy, TrackerFrame}
 use Rattle.storage.specs.Frames.{Measured}
 use Rattle.barrier.specs.Logged.{entriesAt}
 use Rattle.checks.specs.Passed.{SetPassed}
 use Rattle.agreement.specs.Fits.{ExtentFits}
+use Rattle.ready.specs.Named.{within}
 use Rattle.ready.specs.Tested.{HalfFits, half-fits, ScopeTested, TrackerTested}
 use Rattle.joining.specs.Given.{HalfGiven}
 use Rattle.joining.specs.Slot.{LogsAt, pairOf, passStart, passEnd, givenEntries}
@@ -92,6 +94,4 @@ joinedTracker t s e from to g a b = withTracker (trackerOf t s e) (slotsAfter t 
 -- THE CONTRACT
 pub record SetsAll (t s e : List ℕ) (from to : ℕ) (g a b t′ s′ e′ : List ℕ) : Type 0 where
   pub view : trackerOf t′ s′ e′ ≡ joinedTracker t s e from to g a b
-  pub start-long : length s′ ≡ length s
-  pub end-long : length e′ ≡ length e
-  pub table : length t′ ≡ length t
+  pub frame : TrackerFrame (within t (ownedBy g)) (numbersOf t) t s e t′ s′ e′

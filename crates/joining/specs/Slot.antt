@@ -1,6 +1,6 @@
 -- One texture of a tracker and what a given set holds at its index: the transitions, and what is asked for where the set owns the index.
 use Prim.Native.Nat.{ℕ, _+_, _<_}
-use mathlib.Core.Path.{_≡_, refl, subst}
+use mathlib.Core.Path.{_≡_, refl, sym, subst}
 use mathlib.Core.Bool.{Bool, true, _&&_, not}
 use mathlib.Core.List.{List, []}
 use lib.Dec.{eqb}
@@ -14,9 +14,10 @@ use Rattle.model.specs.StateRules.{moveOf}
 use Rattle.model.specs.Sets.{Numbers, Slot}
 use Rattle.model.specs.Calls.{setSlot, setGiven}
 use Rattle.model.specs.Texture.{Held, Given, Entry, entry, fromHeld, insert, update, barrier, ranged}
-use Rattle.storage.specs.Storage.{numbersOf, flagsOf, extentOf, ownedOf, startHalf, endHalf, heldOf, endsOf, slotWith}
+use Rattle.storage.specs.Storage.{numbersOf, flagsOf, extentOf, ownedOf, ownedAt, startHalf, endHalf, heldOf, endsOf, slotWith}
 use Rattle.storage.specs.Frames.{Measured}
-use Rattle.storage.specs.Slots.{HalfBecomes, ownWords, slot-refl}
+use Rattle.storage.specs.Stays.{only, onlyOwned, both-refl, both-more}
+use Rattle.storage.specs.Slots.{HalfBecomes, ownWords}
 use Rattle.updating.specs.Both.{BothBecome}
 use Rattle.updating.specs.FromSet.{UpdateFromReady}
 use Rattle.texture.specs.FromSet.{SetReady}
@@ -45,7 +46,7 @@ module _ {t s e : List ℕ} {i : ℕ} {sh : Extent} {from to : ℕ} {g a b : Lis
   -- both taken
   pub set-new : {t₁ s′ t′ e′ : List ℕ} → getD t (8 + i) 0 ≡ 0
       → HalfBecomes (numbersOf (ownWords t i sh)) startHalf i (insert p sh (givenAt from g a i)) (ownWords t i sh) s t₁ s′ → HalfBecomes (numbersOf t₁) endHalf i (insert p sh (givenAt to g b i)) t₁ e t′ e′
-      → SlotSet t s e i (setSlot ranged p sh (givenAt from g a i) (givenAt to g b i) (slotOf t s e i)) t′ s′ e′
+      → SlotSet (only i) t s e i (setSlot ranged p sh (givenAt from g a i) (givenAt to g b i) (slotOf t s e i)) t′ s′ e′
   set-new {t₁} {s′} {t′} {e′} free y z =
       slot-new q p (givenAt from g a i) (givenAt to g b i) free y
       (subst (λ (n : Numbers). HalfBecomes n endHalf i (insert p sh (givenAt to g b i)) t₁ e t′ e′) (numbers-after (q .starts) (q .ends) (q .texture) (y .frame)) z)
@@ -59,7 +60,7 @@ module _ {t s e : List ℕ} {i : ℕ} {sh : Extent} {from to : ℕ} {g a b : Lis
         rw (x .flags) (given-update (x .end) (q .starts) (q .ends) (q .texture) (q .texture .own o) (q .start-held o) (q .end-held o))
 
     -- updated
-    pub set-old : {t′ s′ e′ : List ℕ} → BothBecome (numbersOf t) i (update p sh (endsOf (numbersOf t) t s e i) (givenAt to g b i)) t s e t′ s′ e′ → SlotSet t s e i (setSlot ranged p sh (givenAt from g a i) (givenAt to g b i) (slotOf t s e i)) t′ s′ e′
+    pub set-old : {t′ s′ e′ : List ℕ} → BothBecome (numbersOf t) i (update p sh (endsOf (numbersOf t) t s e i) (givenAt to g b i)) t s e t′ s′ e′ → SlotSet (only i) t s e i (setSlot ranged p sh (givenAt from g a i) (givenAt to g b i) (slotOf t s e i)) t′ s′ e′
     set-old z = slot-old q p (givenAt from g a i) (givenAt to g b i) own z
 
 -- ---- Its transitions: there are none where it is not owned, and only its end is read
@@ -119,5 +120,11 @@ pub record LogsAt (t e : List ℕ) (i from : ℕ) (g a : List ℕ) : Type 0 wher
   pub given : ownedOf g i ≡ true → HalfGiven t i (extentOf g i) from g a
 
 -- a texture that stays as it is
-pub set-same : (t s e : List ℕ) (i : ℕ) → SlotSet t s e i (slotOf t s e i) t s e
-set-same t s e i = record { slot = refl; frame = slot-refl (getD t 0 0) i (endsOf (numbersOf t) t s e) t; start-long = refl; end-long = refl; table = refl }
+pub set-same : {named : ℕ → Type 0} (t s e : List ℕ) (i : ℕ) → SlotSet named t s e i (slotOf t s e i) t s e
+set-same t s e i = record { slot = refl; frame = both-refl t s e }
+
+-- one that is set because the given set owns it
+pub set-owned : (g : List ℕ) {t s e t′ s′ e′ : List ℕ} {i : ℕ} {x : Slot (Ends Held)} → (getD g (ownedAt i) 0 ≡ 0 → ⊥) → SlotSet (only i) t s e i x t′ s′ e′ → SlotSet (onlyOwned g i) t s e i x t′ s′ e′
+set-owned g {i = i} own q =
+    let o : ownedOf g i ≡ true = rw (ne-eqb (getD g (ownedAt i) 0) 0 own) in
+    record { slot = q .slot; frame = both-more (λ j e. (e, subst (λ (k : ℕ). ownedOf g k ≡ true) (sym e) o)) (λ j y z. z) (q .frame) }

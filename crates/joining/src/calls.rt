@@ -35,6 +35,7 @@ ghost use Rattle.ready.specs.Tested.{TrackerTested};
 ghost use Rattle.setting.specs.Logging.{headFits};
 ghost use Rattle.setting.specs.Changed.{Changed};
 ghost use Rattle.setting.specs.Tracked.{Tracked};
+ghost use Rattle.storage.specs.Stays.{ownedBy};
 ghost use Rattle.joining.specs.Slot.{passStart, passEnd};
 ghost use Rattle.joining.specs.Join.{GivenTested, Joins, LogsSet, givenOf, entriesTo, joinedEntries, joinedTracker};
 
@@ -79,7 +80,7 @@ fn set_checked(
     requires { ⌜ length (joinedEntries (now table) (now ends) from (now given) (now first)) ≤ capacity (numbersOf (now table)) ⌝ }
     requires { ⌜ headFits (length (now log) / 7) head ≡ true ⌝ }
     requires { ⌜ length (now log) < 18446744073709551616 ⌝ }
-    ensures { λ x. ⌜ Changed (joinedEntries (now (table .entry)) (now (ends .entry)) from (now (given .entry)) (now (first .entry))) (joinedTracker (now (table .entry)) (now (starts .entry)) (now (ends .entry)) from to (now (given .entry)) (now (first .entry)) (now (last .entry))) head (now (table .entry)) (now (starts .entry)) (now (ends .entry)) (now (log .entry)) x (now (table .exit)) (now (starts .exit)) (now (ends .exit)) (now (log .exit)) ⌝ }
+    ensures { λ x. ⌜ Changed (ownedBy (now (given .entry))) (joinedEntries (now (table .entry)) (now (ends .entry)) from (now (given .entry)) (now (first .entry))) (joinedTracker (now (table .entry)) (now (starts .entry)) (now (ends .entry)) from to (now (given .entry)) (now (first .entry)) (now (last .entry))) head (now (table .entry)) (now (starts .entry)) (now (ends .entry)) (now (log .entry)) x (now (table .exit)) (now (starts .exit)) (now (ends .exit)) (now (log .exit)) ⌝ }
 {
     let p = flags_of(table);
     let mask = table[7];
@@ -110,7 +111,7 @@ fn set_from(
     requires { ⌜ TrackerTested (now table) (now starts) (now ends) ⌝ }
     requires { ⌜ GivenTested from to (now given) (now first) (now last) ⌝ }
     requires { ⌜ length (pending (setFrom ranged passStart passEnd (trackerOf (now table) (now starts) (now ends)) (givenOf from to (now given) (now first) (now last)) .log)) ≤ capacity (numbersOf (now table)) ⌝ }
-    ensures { λ x. ⌜ Tracked true (setFrom ranged passStart passEnd (trackerOf (now (table .entry)) (now (starts .entry)) (now (ends .entry))) (givenOf from to (now (given .entry)) (now (first .entry)) (now (last .entry)))) head (now (table .entry)) (now (starts .entry)) (now (ends .entry)) (now (log .entry)) x (now (table .exit)) (now (starts .exit)) (now (ends .exit)) (now (log .exit)) ⌝ }
+    ensures { λ x. ⌜ Tracked (ownedBy (now (given .entry))) true (setFrom ranged passStart passEnd (trackerOf (now (table .entry)) (now (starts .entry)) (now (ends .entry))) (givenOf from to (now (given .entry)) (now (first .entry)) (now (last .entry)))) head (now (table .entry)) (now (starts .entry)) (now (ends .entry)) (now (log .entry)) x (now (table .exit)) (now (starts .exit)) (now (ends .exit)) (now (log .exit)) ⌝ }
 {
     let lent = lent_entries(log);
     if !head_fits(lent, head) {
@@ -136,7 +137,7 @@ pub fn set_from_usage_scope(
     log: &mut [u32],
     head: LogHead,
 ) -> Answered
-    ensures { λ x. ⌜ Tracked (wellFormedTracker (length (now (starts .entry)) / 3) (length (now (ends .entry)) / 3) (trackerOf (now (table .entry)) (now (starts .entry)) (now (ends .entry))) && wellFormedScope (length (now (lent .entry)) / 3) (scopeOf (now (given .entry)) (now (lent .entry)))) (setFromUsageScope ranged (trackerOf (now (table .entry)) (now (starts .entry)) (now (ends .entry))) (scopeOf (now (given .entry)) (now (lent .entry)))) head (now (table .entry)) (now (starts .entry)) (now (ends .entry)) (now (log .entry)) x (now (table .exit)) (now (starts .exit)) (now (ends .exit)) (now (log .exit)) ⌝ }
+    ensures { λ x. ⌜ Tracked (ownedBy (now (given .entry))) (wellFormedTracker (length (now (starts .entry)) / 3) (length (now (ends .entry)) / 3) (trackerOf (now (table .entry)) (now (starts .entry)) (now (ends .entry))) && wellFormedScope (length (now (lent .entry)) / 3) (scopeOf (now (given .entry)) (now (lent .entry)))) (setFromUsageScope ranged (trackerOf (now (table .entry)) (now (starts .entry)) (now (ends .entry))) (scopeOf (now (given .entry)) (now (lent .entry)))) head (now (table .entry)) (now (starts .entry)) (now (ends .entry)) (now (log .entry)) x (now (table .exit)) (now (starts .exit)) (now (ends .exit)) (now (log .exit)) ⌝ }
 {
     table_len(table);
     table_len(given);
@@ -171,7 +172,7 @@ pub fn set_from_tracker(
     log: &mut [u32],
     head: LogHead,
 ) -> Answered
-    ensures { λ x. ⌜ Tracked (wellFormedTracker (length (now (starts .entry)) / 3) (length (now (ends .entry)) / 3) (trackerOf (now (table .entry)) (now (starts .entry)) (now (ends .entry))) && wellFormedTracker (length (now (first .entry)) / 3) (length (now (last .entry)) / 3) (trackerOf (now (given .entry)) (now (first .entry)) (now (last .entry)))) (setFromTracker ranged (trackerOf (now (table .entry)) (now (starts .entry)) (now (ends .entry))) (trackerOf (now (given .entry)) (now (first .entry)) (now (last .entry)))) head (now (table .entry)) (now (starts .entry)) (now (ends .entry)) (now (log .entry)) x (now (table .exit)) (now (starts .exit)) (now (ends .exit)) (now (log .exit)) ⌝ }
+    ensures { λ x. ⌜ Tracked (ownedBy (now (given .entry))) (wellFormedTracker (length (now (starts .entry)) / 3) (length (now (ends .entry)) / 3) (trackerOf (now (table .entry)) (now (starts .entry)) (now (ends .entry))) && wellFormedTracker (length (now (first .entry)) / 3) (length (now (last .entry)) / 3) (trackerOf (now (given .entry)) (now (first .entry)) (now (last .entry)))) (setFromTracker ranged (trackerOf (now (table .entry)) (now (starts .entry)) (now (ends .entry))) (trackerOf (now (given .entry)) (now (first .entry)) (now (last .entry)))) head (now (table .entry)) (now (starts .entry)) (now (ends .entry)) (now (log .entry)) x (now (table .exit)) (now (starts .exit)) (now (ends .exit)) (now (log .exit)) ⌝ }
 {
     table_len(table);
     table_len(given);

@@ -21,6 +21,7 @@ ghost use Rattle.model.specs.Texture.{ranged};
 ghost use Rattle.barrier.specs.Steps.{logTop};
 ghost use Rattle.barrier.specs.Logged.{Room, Logged};
 ghost use Rattle.setting.specs.Slot.{slotOf, SlotReady, SlotSet};
+ghost use Rattle.storage.specs.Stays.{only, onlyOwned};
 ghost use Rattle.joining.specs.Given.{givenAt, HalfGiven};
 ghost use Rattle.joining.specs.Slot.{BothGiven, EndReady, SetsAt, LogsAt, bothSingle, slotAfter, endEntries, givenEntries, singleEntry};
 
@@ -40,7 +41,7 @@ pub fn set_given_at(
 )
     requires { ⌜ SlotReady (now table) (now starts) (now ends) i extent ⌝ }
     requires { ⌜ BothGiven (now table) i extent from to (now given) (now first) (now last) p ⌝ }
-    ensures { λ _. ⌜ SlotSet (now (table .entry)) (now (starts .entry)) (now (ends .entry)) i (setSlot ranged p extent (givenAt from (now (given .entry)) (now (first .entry)) i) (givenAt to (now (given .entry)) (now (last .entry)) i) (slotOf (now (table .entry)) (now (starts .entry)) (now (ends .entry)) i)) (now (table .exit)) (now (starts .exit)) (now (ends .exit)) ⌝ }
+    ensures { λ _. ⌜ SlotSet (only i) (now (table .entry)) (now (starts .entry)) (now (ends .entry)) i (setSlot ranged p extent (givenAt from (now (given .entry)) (now (first .entry)) i) (givenAt to (now (given .entry)) (now (last .entry)) i) (slotOf (now (table .entry)) (now (starts .entry)) (now (ends .entry)) i)) (now (table .exit)) (now (starts .exit)) (now (ends .exit)) ⌝ }
 {
     if table[OWNED + i] == 0 {
         own(table, i, extent);
@@ -105,7 +106,7 @@ pub fn set_owned_at(
     p: UsageFlags,
 )
     requires { ⌜ SetsAt (now table) (now starts) (now ends) i from to (now given) (now first) (now last) p ⌝ }
-    ensures { λ _. ⌜ SlotSet (now (table .entry)) (now (starts .entry)) (now (ends .entry)) i (slotAfter p from to (now (given .entry)) (now (first .entry)) (now (last .entry)) i (slotOf (now (table .entry)) (now (starts .entry)) (now (ends .entry)) i)) (now (table .exit)) (now (starts .exit)) (now (ends .exit)) ⌝ }
+    ensures { λ _. ⌜ SlotSet (onlyOwned (now (given .entry)) i) (now (table .entry)) (now (starts .entry)) (now (ends .entry)) i (slotAfter p from to (now (given .entry)) (now (first .entry)) (now (last .entry)) i (slotOf (now (table .entry)) (now (starts .entry)) (now (ends .entry)) i)) (now (table .exit)) (now (starts .exit)) (now (ends .exit)) ⌝ }
 {
     if given[OWNED + i] == 0 {
         return;
@@ -246,7 +247,7 @@ pub fn set_at(
     p: UsageFlags,
 )
     requires { ⌜ SetsAt (now table) (now starts) (now ends) i from to (now given) (now first) (now last) p ⌝ }
-    ensures { λ _. ⌜ SlotSet (now (table .entry)) (now (starts .entry)) (now (ends .entry)) i (slotAfter p from to (now (given .entry)) (now (first .entry)) (now (last .entry)) i (slotOf (now (table .entry)) (now (starts .entry)) (now (ends .entry)) i)) (now (table .exit)) (now (starts .exit)) (now (ends .exit)) ⌝ }
+    ensures { λ _. ⌜ SlotSet (onlyOwned (now (given .entry)) i) (now (table .entry)) (now (starts .entry)) (now (ends .entry)) i (slotAfter p from to (now (given .entry)) (now (first .entry)) (now (last .entry)) i (slotOf (now (table .entry)) (now (starts .entry)) (now (ends .entry)) i)) (now (table .exit)) (now (starts .exit)) (now (ends .exit)) ⌝ }
 {
     if given[OWNED + i] == 0 {
         return;

@@ -20,6 +20,7 @@ use Rattle.model.specs.Calls.{Indexed, CallResult, answer, turnedAway, unless, 
 use Rattle.model.specs.Log.{outcomeOf, merging}
 use Rattle.model.specs.Texture.{Held, single, Entry, fromUse, ranged}
 use Rattle.storage.specs.Storage.{flagsOf, scopeOf, startHalf}
+use Rattle.storage.specs.Stays.{only, keeps-refl, keeps-more}
 use Rattle.storage.specs.Lists.{list-at}
 use Rattle.texture.specs.declared.Stopped.{Stopped}
 use Rattle.texture.specs.declared.Stopped.the-variants.{Nowhere, At}
@@ -31,7 +32,7 @@ use Rattle.ready.specs.Answers.{toldOf}
 use Rattle.merging.specs.declared.single.Use.{Use}
 use Rattle.merging.specs.Merged.{Merged}
 use Rattle.ready.specs.Merges.{TakenUse}
-use Rattle.merging.specs.Slot.{slotOf, SlotReady, SlotMerged, slot-view, slot-unread}
+use Rattle.merging.specs.Slot.{slotOf, SlotReady, SlotMerged, slot-view}
 use Rattle.merging.specs.Single.{UseIs}
 
 -- ---- The test of the sets comes first
@@ -47,21 +48,19 @@ unfolding merging firstFailing
 fit was m = refl
 
 -- turned away: nothing was written
-stays : {fits : Bool} {m : ScopeResult} {t r : List ℕ} (x : Refusal) → merging fits (scopeOf t r) m ≡ turnedAway x (scopeOf t r) → Merged fits m t r (outcome.Refused x) t r
-stays x e = record {
+unwritten : {named : ℕ → Type 0} {fits : Bool} {m : ScopeResult} {t r : List ℕ} (x : Refusal) → merging fits (scopeOf t r) m ≡ turnedAway x (scopeOf t r) → Merged named fits m t r (outcome.Refused x) t r
+unwritten {named} {fits} {m} {t} {r} x e = record {
   answer = ap (λ (c : ScopeResult). outcomeOf (c .answer)) (sym e);
   view = ap (λ (c : ScopeResult). c .after) (sym e);
   kept = λ z. (refl, refl);
-  unread = λ y z. refl;
-  long = refl;
-  table = refl;
+  stays = keeps-refl t r;
 }
 
-pub not-fitting : {fits : Bool} {m : ScopeResult} {t r : List ℕ} → fits ≡ false → Merged fits m t r (outcome.Refused NotWellFormed) t r
-not-fitting {fits} {m} {t} {r} e = stays NotWellFormed (rw e (unfit (scopeOf t r) m))
+pub not-fitting : {named : ℕ → Type 0} {fits : Bool} {m : ScopeResult} {t r : List ℕ} → fits ≡ false → Merged named fits m t r (outcome.Refused NotWellFormed) t r
+not-fitting {named} {fits} {m} {t} {r} e = unwritten NotWellFormed (rw e (unfit (scopeOf t r) m))
 
-pub away : {fits : Bool} {m : ScopeResult} {t r : List ℕ} (x : Refusal) → fits ≡ true → m ≡ turnedAway x (scopeOf t r) → Merged fits m t r (outcome.Refused x) t r
-away {fits} {m} {t} {r} x e z = stays x (rw e (fit (scopeOf t r) m ∙ z))
+pub away : {named : ℕ → Type 0} {fits : Bool} {m : ScopeResult} {t r : List ℕ} (x : Refusal) → fits ≡ true → m ≡ turnedAway x (scopeOf t r) → Merged named fits m t r (outcome.Refused x) t r
+away {named} {fits} {m} {t} {r} x e z = unwritten x (rw e (fit (scopeOf t r) m ∙ z))
 
 -- an answer of a walk is no refusal
 told-on : (i : ℕ) (x : Stopped) → Rattle.ready.specs.Answers.turnedAway (toldOf i x) ≡ true → ⊥
@@ -95,25 +94,23 @@ module _ (t r : List ℕ) (i : ℕ) (sh : Extent) (s : Selection) (st : ℕ) whe
       ∙ ap (λ (y : Slot Held). changed (mergeSlot ranged (flagsOf t) sh (fromUse sh (selectorOf s) st) i y)) (slot-here h)
 
 module _ {t r : List ℕ} {i : ℕ} {sh : Extent} {s : Selection} {st : ℕ} {fits : Bool} (e : fits ≡ true) where
-  pub single-away : {x : Refusal} → UseTold t i sh s st (outcome.Refused x) → Merged fits (mergeSingle ranged (scopeOf t r) i sh (selectorOf s) st) t r (outcome.Refused x) t r
+  pub single-away : {x : Refusal} → UseTold t i sh s st (outcome.Refused x) → Merged (only i) fits (mergeSingle ranged (scopeOf t r) i sh (selectorOf s) st) t r (outcome.Refused x) t r
   single-away {x} z = away x e (call-is t r i sh s st (some x) (use-refused z refl))
 
-  pub single-never : {k : Conflict} {m : ScopeResult} → UseTold t i sh s st (outcome.Conflict k) → Merged fits m t r (outcome.Conflict k) t r
+  pub single-never : {k : Conflict} {m : ScopeResult} → UseTold t i sh s st (outcome.Conflict k) → Merged (only i) fits m t r (outcome.Conflict k) t r
   single-never z = absurd (use-never z refl)
 
-  pub single-done : {x : Stopped} {t′ r′ : List ℕ} → UseTold t i sh s st outcome.Done → SlotMerged t r i (mergeSlot ranged (flagsOf t) sh (fromUse sh (selectorOf s) st) i (slotOf t r i)) x t′ r′
-      → Merged fits (mergeSingle ranged (scopeOf t r) i sh (selectorOf s) st) t r (toldOf i x) t′ r′
-  single-done {x} {t′} {r′} z q =
+  pub single-done : {x : Stopped} {t′ r′ : List ℕ} → ScopeTested t r → UseTold t i sh s st outcome.Done → SlotMerged (only i) t r i (mergeSlot ranged (flagsOf t) sh (fromUse sh (selectorOf s) st) i (slotOf t r i)) x t′ r′
+      → Merged (only i) fits (mergeSingle ranged (scopeOf t r) i sh (selectorOf s) st) t r (toldOf i x) t′ r′
+  single-done {x} {t′} {r′} k₀ z q =
       let h : i < getD t 0 0 = texture-passed t i sh (use-passed t i sh s st (use-done z refl) .0) .texture in
       let c : merging fits (scopeOf t r) (mergeSingle ranged (scopeOf t r) i sh (selectorOf s) st) ≡ changed t r i sh s st (mergeSlot ranged (flagsOf t) sh (fromUse sh (selectorOf s) st) i (slotOf t r i)) =
       rw e (fit (scopeOf t r) (mergeSingle ranged (scopeOf t r) i sh (selectorOf s) st) ∙ changed-is t r i sh s st h z) in
       record {
         answer = ap (λ (o : Option (Indexed InvalidUse)). outcomeOf (answer o)) (q .conflict) ∙ ap (λ (y : ScopeResult). outcomeOf (y .answer)) (sym c);
-        view = slot-view q ∙ ap (λ (y : ScopeResult). y .after) (sym c);
+        view = slot-view (k₀ .measured) q ∙ ap (λ (y : ScopeResult). y .after) (sym c);
         kept = λ k. absurd (told-on i x k);
-        unread = slot-unread q;
-        long = q .long;
-        table = q .table;
+        stays = keeps-more (λ j n. (subst (λ (k : ℕ). k < getD t 0 0) (sym n) h, n)) (λ j y o. o) (q .frame);
       }
 
 -- ---- What the walk over one texture asks for

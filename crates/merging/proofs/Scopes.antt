@@ -17,6 +17,7 @@ use Rattle.model.specs.Calls.{Indexed, answer, unless, mergeUsageScope}
 use Rattle.model.specs.Log.{outcomeOf, merging}
 use Rattle.model.specs.Texture.{Held, ranged}
 use Rattle.storage.specs.Storage.{flagsOf, scopeOf}
+use Rattle.storage.specs.Stays.{ownedBy, keeps-more}
 use Rattle.checks.specs.Head.{headIn, scope-head}
 use Rattle.checks.specs.Sets.{SetTold}
 use Rattle.checks.specs.Told.{set-done, set-refused, set-never}
@@ -60,10 +61,10 @@ walk-on (some c) e = false≢true e
 
 -- ---- The answers
 module _ {t r g : List ℕ} (l : List ℕ) {fits : Bool} (e : fits ≡ true) where
-  pub scope-away : {x : Refusal} → SetTold t g (outcome.Refused x) → Merged fits (mergeUsageScope ranged (scopeOf t r) (scopeOf g l)) t r (outcome.Refused x) t r
+  pub scope-away : {x : Refusal} → SetTold t g (outcome.Refused x) → Merged (ownedBy g) fits (mergeUsageScope ranged (scopeOf t r) (scopeOf g l)) t r (outcome.Refused x) t r
   scope-away {x} z = away x e (merge-is t r g l (some x) (set-refused z refl))
 
-  pub scope-done : {x : Outcome} {t′ r′ : List ℕ} → SetTold t g outcome.Done → SlotsMerged (mergedSlots (flagsOf t) t r g l) t r x t′ r′ → Merged fits (mergeUsageScope ranged (scopeOf t r) (scopeOf g l)) t r x t′ r′
+  pub scope-done : {x : Outcome} {t′ r′ : List ℕ} → SetTold t g outcome.Done → SlotsMerged (ownedBy g) (mergedSlots (flagsOf t) t r g l) t r x t′ r′ → Merged (ownedBy g) fits (mergeUsageScope ranged (scopeOf t r) (scopeOf g l)) t r x t′ r′
   scope-done {x} {t′} {r′} z q =
       let c : merging fits (scopeOf t r) (mergeUsageScope ranged (scopeOf t r) (scopeOf g l)) ≡ merged t r g l (mergedSlots (flagsOf t) t r g l) =
       rw e (fit (scopeOf t r) (mergeUsageScope ranged (scopeOf t r) (scopeOf g l)) ∙ merged-is t r g l z) in
@@ -71,12 +72,10 @@ module _ {t r g : List ℕ} (l : List ℕ) {fits : Bool} (e : fits ≡ true) whe
         answer = q .answer ∙ ap (λ (y : ScopeResult). outcomeOf (y .answer)) (sym c);
         view = q .view ∙ ap (λ (y : ScopeResult). y .after) (sym c);
         kept = λ k. absurd (walk-on (mergedSlots (flagsOf t) t r g l .conflict) (subst (λ (y : Outcome). turnedAway y ≡ true) (q .answer) k));
-        unread = q .unread;
-        long = q .long;
-        table = q .table;
+        stays = keeps-more (λ j n. (set-passed t g (set-done z refl) .each j (n .0) (n .1) .texture, n)) (λ j y o. o) (q .frame);
       }
 
-pub scope-never : {t r g : List ℕ} {fits : Bool} {k : Conflict} {m : ScopeResult} → SetTold t g (outcome.Conflict k) → Merged fits m t r (outcome.Conflict k) t r
+pub scope-never : {t r g : List ℕ} {fits : Bool} {k : Conflict} {m : ScopeResult} → SetTold t g (outcome.Conflict k) → Merged (ownedBy g) fits m t r (outcome.Conflict k) t r
 scope-never z = absurd (set-never z refl)
 
 -- what the walk over the textures asks for

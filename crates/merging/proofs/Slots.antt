@@ -2,7 +2,6 @@
 use Prim.Native.Nat.{ℕ, _+_, _≤_, _<_}
 use native.Mathlib.Omega.{arith}
 use mathlib.Core.Path.{_≡_, refl, sym, ap, subst, _∙_}
-use mathlib.Core.Logic.{_⊎_, inl}
 use mathlib.Core.Bool.{Bool, true, false}
 use mathlib.Core.List.{List}
 use mathlib.Core.Option.{Option, none, some}
@@ -21,7 +20,9 @@ use Rattle.model.specs.Texture.{Held, single, ranged}
 use Rattle.storage.specs.Part.{by-lt}
 use Rattle.storage.specs.Storage.{numbersOf, flagsOf, extentOf, ownedOf, startHalf, scopeOf}
 use Rattle.storage.specs.Lists.{list-at, list-long}
+use Rattle.storage.specs.Stays.{only, onlyOwned, ownedBy, keeps-refl, keeps-then, keeps-more, ScopeFrame}
 use Rattle.storage.specs.Frames.{Measured}
+use Rattle.storage.specs.Slots.{scope-head}
 use Rattle.texture.specs.declared.Stopped.{Stopped}
 use Rattle.texture.specs.declared.Stopped.the-variants.{Nowhere, At}
 use Rattle.texture.specs.Walking.{Walking, walk-start, walk-turn, walk-stop, walk-rest, walk-end}
@@ -29,7 +30,7 @@ use Rattle.checks.specs.Passed.{TexturePassed}
 use Rattle.agreement.specs.Fits.{HeldFits, SlotFits}
 use Rattle.ready.specs.Tested.{half-fits}
 use Rattle.ready.specs.Answers.{indexed, metAt}
-use Rattle.merging.specs.Slot.{slotOf, SlotReady, TakenTexture, OwnedReady, SlotMerged, slot-view, slot-other, slot-unread}
+use Rattle.merging.specs.Slot.{slotOf, SlotReady, TakenTexture, OwnedReady, SlotMerged, slot-only, slot-view, slot-other}
 use Rattle.merging.specs.Scope.{mergedSlots, SlotsReady, SlotsMerged}
 use Rattle.merging.proofs.Beside.{beside, walk-beside, walk-past}
 
@@ -43,9 +44,7 @@ pub record Merging (p : UsageFlags) (t₀ r₀ g l : List ℕ) (k : ℕ) (t r : 
   pub walking : Walking (step p g l) (scopeOf t₀ r₀ .slots) k (scopeOf t r .slots)
   pub whole : scopeOf t r ≡ withSlots (scopeOf t₀ r₀) (scopeOf t r .slots)
   pub left : (j : ℕ) → k ≤ j → j < getD t₀ 0 0 → slotOf t r j ≡ slotOf t₀ r₀ j
-  pub unread : (y : ℕ) → (y < 8) ⊎ (1288 ≤ y) → getD t y 0 ≡ getD t₀ y 0
-  pub long : length r ≡ length r₀
-  pub table : length t ≡ length t₀
+  pub frame : ScopeFrame (ownedBy g) (numbersOf t₀) t₀ r₀ t r
 
 pub start : (p : UsageFlags) (t r g l : List ℕ) → Merging p t r g l 0 t r
 start p t r g l = record {
@@ -53,9 +52,7 @@ start p t r g l = record {
   walking = walk-start (step p g l) (scopeOf t r .slots);
   whole = refl;
   left = λ j a b. refl;
-  unread = λ y o. refl;
-  long = refl;
-  table = refl;
+  frame = keeps-refl t r;
 }
 
 -- the walk of both, as the invariant has it
@@ -73,7 +70,7 @@ slots-long t r = list-long (slotOf t r) 0 (getD t 0 0)
 
 module _ {p : UsageFlags} {t₀ r₀ g l : List ℕ} {k : ℕ} {t r : List ℕ} (m : Merging p t₀ r₀ g l k t r) where
   word : (y : ℕ) → y < 8 → getD t y 0 ≡ getD t₀ y 0
-  word y h = m .unread y (inl h)
+  word = scope-head (m .frame)
 
   same-numbers : numbersOf t ≡ numbersOf t₀
   same-numbers = rw (word 0 (omega arith), word 1 (omega arith), word 2 (omega arith))
@@ -82,15 +79,13 @@ module _ {p : UsageFlags} {t₀ r₀ g l : List ℕ} {k : ℕ} {t r : List ℕ} 
   same-flags = rw (word 3 (omega arith), word 4 (omega arith), word 5 (omega arith), word 6 (omega arith))
 
   -- all were walked over
-  pub finish : getD g 0 0 ≤ k → SlotsMerged (mergedSlots p t₀ r₀ g l) t₀ r₀ outcome.Done t r
+  pub finish : getD g 0 0 ≤ k → SlotsMerged (ownedBy g) (mergedSlots p t₀ r₀ g l) t₀ r₀ outcome.Done t r
   finish h =
       let y = walk-end (step p g l) (m .walking) (walk-rest (step p g l) k (drop k (scopeOf t r .slots)) (λ j x b. rw (le-ltb j (getD g 0 0) (omega arith)))) in
-      subst (λ (w : Stop (Indexed InvalidUse) (List (Slot Held))). SlotsMerged w t₀ r₀ outcome.Done t r) (sym (slots-are p t₀ r₀ g l)) (record {
+      subst (λ (w : Stop (Indexed InvalidUse) (List (Slot Held))). SlotsMerged (ownedBy g) w t₀ r₀ outcome.Done t r) (sym (slots-are p t₀ r₀ g l)) (record {
         answer = ap (λ (o : Option (Indexed InvalidUse)). outcomeOf (answer o)) (y .1);
         view = m .whole ∙ ap (withSlots (scopeOf t₀ r₀)) (y .0);
-        unread = m .unread;
-        long = m .long;
-        table = m .table;
+        frame = m .frame;
       })
 
   module _ (q : SlotsReady t₀ r₀ g l p) (h : k < getD g 0 0) where
@@ -102,9 +97,9 @@ module _ {p : UsageFlags} {t₀ r₀ g l : List ℕ} {k : ℕ} {t r : List ℕ} 
           mips = rw (word 1 (omega arith)) (z .mips);
           some = rw (word 2 (omega arith)) (z .some);
           layers = rw (word 2 (omega arith)) (z .layers);
-          fits = rw (word 0 (omega arith), word 1 (omega arith), word 2 (omega arith), m .long) (z .fits);
+          fits = rw (word 0 (omega arith), word 1 (omega arith), word 2 (omega arith), m .frame .ranges .long) (z .fits);
           half = z .half;
-          table = m .table ∙ z .table;
+          table = m .frame .words .long ∙ z .table;
         }
 
     module _ (o : ownedOf g k ≡ true) where
@@ -150,18 +145,24 @@ module _ {p : UsageFlags} {t₀ r₀ g l : List ℕ} {k : ℕ} {t r : List ℕ} 
     lap-ready = record { index = omega (arith, q .given .measured .textures); slot = slot-now; given = taken-now }
 
     -- ---- After a lap
-    module _ {x : Stopped} {t′ r′ : List ℕ} (y : SlotMerged t r k (mergeGiven ranged p k (slotOf t r k) (slotOf g l k)) x t′ r′) where
+    module _ {x : Stopped} {t′ r′ : List ℕ} (y : SlotMerged (onlyOwned g k) t r k (mergeGiven ranged p k (slotOf t r k) (slotOf g l k)) x t′ r′) where
+      at-k : SlotMerged (only k) t r k (mergeGiven ranged p k (slotOf t r k) (slotOf g l k)) x t′ r′
+      at-k = slot-only (λ j n. n .0) y
+
       here : k < getD t 0 0 → step p g l k (getD (scopeOf t r .slots) k (emptySlot (single 0))) ≡ mergeGiven ranged p k (slotOf t r k) (slotOf g l k)
       here b = rw (slot-at t r k b, lt-ltb k (getD g 0 0) h)
 
       slots-now : scopeOf t′ r′ .slots ≡ set (scopeOf t r .slots) k (mergeGiven ranged p k (slotOf t r k) (slotOf g l k) .value)
-      slots-now = ap (λ (s : Set Held). s .slots) (slot-view y)
+      slots-now = ap (λ (s : Set Held). s .slots) (slot-view measured-now at-k)
 
       whole-now : scopeOf t′ r′ ≡ withSlots (scopeOf t₀ r₀) (scopeOf t′ r′ .slots)
-      whole-now = slot-view y ∙ ap (λ (s : Set Held). withSlots s (set (scopeOf t r .slots) k (mergeGiven ranged p k (slotOf t r k) (slotOf g l k) .value))) (m .whole) ∙ ap (withSlots (scopeOf t₀ r₀)) (sym slots-now)
+      whole-now = slot-view measured-now at-k ∙ ap (λ (s : Set Held). withSlots s (set (scopeOf t r .slots) k (mergeGiven ranged p k (slotOf t r k) (slotOf g l k) .value))) (m .whole) ∙ ap (withSlots (scopeOf t₀ r₀)) (sym slots-now)
 
-      unread-now : (z : ℕ) → (z < 8) ⊎ (1288 ≤ z) → getD t′ z 0 ≡ getD t₀ z 0
-      unread-now z b = slot-unread y z b ∙ m .unread z b
+      -- what it changed is of an index that the given scope owns
+      frame-now : ScopeFrame (ownedBy g) (numbersOf t₀) t₀ r₀ t′ r′
+      frame-now =
+          keeps-then (m .frame) (subst (λ (n : Numbers). ScopeFrame (ownedBy g) n t r t′ r′) same-numbers
+          (keeps-more (λ j n. (subst (λ (z : ℕ). z < getD g 0 0) (sym (n .0)) h, n .1)) (λ j z o. o) (y .frame)))
 
       walking-now : x ≡ Nowhere → Walking (step p g l) (scopeOf t₀ r₀ .slots) (k + 1) (scopeOf t′ r′ .slots)
       walking-now e =
@@ -176,10 +177,8 @@ module _ {p : UsageFlags} {t₀ r₀ g l : List ℕ} {k : ℕ} {t r : List ℕ} 
         within = omega arith;
         walking = walking-now e;
         whole = whole-now;
-        left = λ j a b. slot-other y j (rw (word 0 (omega arith)) b) (λ z. omega arith) ∙ m .left j (omega arith) b;
-        unread = unread-now;
-        long = y .long ∙ m .long;
-        table = y .table ∙ m .table;
+        left = λ j a b. slot-other measured-now at-k j (rw (word 0 (omega arith)) b) (λ z. omega arith) ∙ m .left j (omega arith) b;
+        frame = frame-now;
       }
 
       -- it met one: the given scope owns the texture
@@ -189,14 +188,12 @@ module _ {p : UsageFlags} {t₀ r₀ g l : List ℕ} {k : ℕ} {t r : List ℕ} 
           let n : metAt k x ≡ none = y .conflict ∙ rw e in let s : metAt k x ≡ some (indexed k c) = ap (metAt k) z in
           absurd (let w : _≡_ {A = ℕ} 0 1 = cc in omega arith)
 
-      pub stop : {c : InvalidUse} → x ≡ At c → SlotsMerged (mergedSlots p t₀ r₀ g l) t₀ r₀ (outcome.Conflict (record { index = trackerIndex k; found = c })) t′ r′
+      pub stop : {c : InvalidUse} → x ≡ At c → SlotsMerged (ownedBy g) (mergedSlots p t₀ r₀ g l) t₀ r₀ (outcome.Conflict (record { index = trackerIndex k; found = c })) t′ r′
       stop {c} e =
           let b : k < getD t 0 0 = passed-now (is-owned (ownedOf g k) refl e) .texture in
           let s = walk-stop (step p g l) (m .walking) (emptySlot (single 0)) (rw (slots-long t r) b) (scopeOf t′ r′ .slots) (indexed k c) (rw (here b) slots-now) (rw (here b) (sym (y .conflict) ∙ ap (metAt k) e)) in
-          subst (λ (w : Stop (Indexed InvalidUse) (List (Slot Held))). SlotsMerged w t₀ r₀ (outcome.Conflict (record { index = trackerIndex k; found = c })) t′ r′) (sym (slots-are p t₀ r₀ g l)) (record {
+          subst (λ (w : Stop (Indexed InvalidUse) (List (Slot Held))). SlotsMerged (ownedBy g) w t₀ r₀ (outcome.Conflict (record { index = trackerIndex k; found = c })) t′ r′) (sym (slots-are p t₀ r₀ g l)) (record {
             answer = ap (λ (o : Option (Indexed InvalidUse)). outcomeOf (answer o)) (s .1);
             view = whole-now ∙ ap (withSlots (scopeOf t₀ r₀)) (s .0);
-            unread = unread-now;
-            long = y .long ∙ m .long;
-            table = y .table ∙ m .table;
+            frame = frame-now;
           })

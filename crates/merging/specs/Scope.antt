@@ -1,9 +1,7 @@
 -- Every texture of a given scope, merged into a scope: what is asked for, and the contract of the walk.
-use Prim.Native.Nat.{ℕ, _≤_, _<_}
+use Prim.Native.Nat.{ℕ}
 use mathlib.Core.Path.{_≡_}
-use mathlib.Core.Logic.{_⊎_}
 use mathlib.Core.List.{List}
-use lib.ListN.{length, getD}
 use Rattle.model.specs.declared.UsageFlags.{UsageFlags}
 use Rattle.model.specs.declared.InvalidUse.{InvalidUse}
 use Rattle.model.specs.declared.Outcome.{Outcome}
@@ -12,7 +10,8 @@ use Rattle.model.specs.Sets.{Slot, withSlots}
 use Rattle.model.specs.Calls.{Indexed, answer, mergeGiven}
 use Rattle.model.specs.Log.{outcomeOf}
 use Rattle.model.specs.Texture.{Held, ranged}
-use Rattle.storage.specs.Storage.{flagsOf, scopeOf}
+use Rattle.storage.specs.Storage.{numbersOf, flagsOf, scopeOf}
+use Rattle.storage.specs.Stays.{ScopeFrame}
 use Rattle.checks.specs.Passed.{SetPassed}
 use Rattle.ready.specs.Tested.{ScopeTested}
 
@@ -27,10 +26,8 @@ pub record SlotsReady (t r g l : List ℕ) (p : UsageFlags) : Type 0 where
   pub passed : SetPassed t g
   pub flags : p ≡ flagsOf t
 
--- THE CONTRACT: the textures become what the model's walk gives, and its conflict is told
-pub record SlotsMerged (w : Stop (Indexed InvalidUse) (List (Slot Held))) (t r : List ℕ) (x : Outcome) (t′ r′ : List ℕ) : Type 0 where
+-- THE CONTRACT: the textures become what the model's walk gives, its conflict is told, and all but the named ones stay
+pub record SlotsMerged (named : ℕ → Type 0) (w : Stop (Indexed InvalidUse) (List (Slot Held))) (t r : List ℕ) (x : Outcome) (t′ r′ : List ℕ) : Type 0 where
   pub answer : x ≡ outcomeOf (answer (w .conflict))
   pub view : scopeOf t′ r′ ≡ withSlots (scopeOf t r) (w .value)
-  pub unread : (y : ℕ) → (y < 8) ⊎ (1288 ≤ y) → getD t′ y 0 ≡ getD t y 0
-  pub long : length r′ ≡ length r
-  pub table : length t′ ≡ length t
+  pub frame : ScopeFrame named (numbersOf t) t r t′ r′

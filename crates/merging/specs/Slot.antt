@@ -2,11 +2,10 @@
 use Prim.Native.Nat.{ℕ, _+_, _≤_, _<_}
 use native.Mathlib.Omega.{arith}
 use mathlib.Core.Path.{_≡_, refl, sym, ap, subst, _∙_}
-use mathlib.Core.Logic.{_⊎_, inl, inr}
 use mathlib.Core.Bool.{Bool, true}
 use mathlib.Core.List.{List}
 use mathlib.Core.Option.{Option, none, Option·map}
-use lib.ListN.{length, getD, set}
+use lib.ListN.{getD, set}
 use lib.Seq.{set-out}
 use borrow.Author.Tests.{ne-eqb, eq-eqb}
 use Rattle.model.specs.declared.UsageFlags.{UsageFlags}
@@ -21,7 +20,8 @@ use Rattle.storage.specs.Storage.{numbersOf, flagsOf, extentOf, ownedOf, startH
 use Rattle.storage.specs.Part.{by-lt}
 use Rattle.storage.specs.Lists.{list-ext, list-long}
 use Rattle.storage.specs.Frames.{Measured}
-use Rattle.storage.specs.Slots.{SlotFrame, HalfBecomes, ownWords, slot-refl, slot-then, slot-owned, set-becomes, scope-half, scope-own, half-low, own-owned, own-word}
+use Rattle.storage.specs.Stays.{only, onlyOwned, keeps-refl, keeps-then, keeps-more, ScopeFrame}
+use Rattle.storage.specs.Slots.{SlotFrame, HalfBecomes, ownWords, slot-owned, set-becomes, scope-slots, scope-half, scope-own, half-low, own-owned}
 use Rattle.texture.specs.declared.Stopped.{Stopped}
 use Rattle.texture.specs.declared.Stopped.the-variants.{Nowhere}
 use Rattle.texture.specs.Uses.{UseReady, HeldReady, HalfMerged}
@@ -58,18 +58,15 @@ pub record OwnedReady (t r : List ℕ) (i : ℕ) (g l : List ℕ) (p : UsageFlag
   pub slot : ownedOf g i ≡ true → SlotReady t r i (extentOf g i)
   pub given : ownedOf g i ≡ true → TakenTexture t i (extentOf g i) g l p
 
--- THE CONTRACT: texture i becomes what the model's merge of it gives, and nothing else of the scope is touched
-pub record SlotMerged (t r : List ℕ) (i : ℕ) (w : Stop (Indexed InvalidUse) (Slot Held)) (x : Stopped) (t′ r′ : List ℕ) : Type 0 where
+-- THE CONTRACT: texture i becomes what the model's merge of it gives, and all that is lent stays but what is of a named index: i, or none
+pub record SlotMerged (named : ℕ → Type 0) (t r : List ℕ) (i : ℕ) (w : Stop (Indexed InvalidUse) (Slot Held)) (x : Stopped) (t′ r′ : List ℕ) : Type 0 where
   pub conflict : metAt i x ≡ w .conflict
   pub slot : slotWith (heldOf (numbersOf t) startHalf t′ r′) t′ i ≡ w .value
-  pub frame : SlotFrame (getD t 0 0) i (heldOf (numbersOf t) startHalf t r) (heldOf (numbersOf t) startHalf t′ r′) t t′
-  pub past : (y : ℕ) → 1288 ≤ y → getD t′ y 0 ≡ getD t y 0
-  pub long : length r′ ≡ length r
-  pub table : length t′ ≡ length t
+  pub frame : ScopeFrame named (numbersOf t) t r t′ r′
 
 module _ {t r : List ℕ} {i : ℕ} {sh : Extent} (q : SlotReady t r i sh) (p : UsageFlags) (g : Given) where
   -- an unowned texture is owned, and then `insert`
-  pub slot-new : {t′ r′ : List ℕ} → getD t (8 + i) 0 ≡ 0 → HalfBecomes (numbersOf (ownWords t i sh)) startHalf i (insert p sh g) (ownWords t i sh) r t′ r′ → SlotMerged t r i (mergeSlot ranged p sh g i (slotOf t r i)) Nowhere t′ r′
+  pub slot-new : {t′ r′ : List ℕ} → getD t (8 + i) 0 ≡ 0 → HalfBecomes (numbersOf (ownWords t i sh)) startHalf i (insert p sh g) (ownWords t i sh) r t′ r′ → SlotMerged (only i) t r i (mergeSlot ranged p sh g i (slotOf t r i)) Nowhere t′ r′
   slot-new {t′} {r′} free b =
       let m = q .measured in let x = q .texture in
       let d : numbersOf (ownWords t i sh) ≡ numbersOf t = own-numbers m x in
@@ -81,14 +78,11 @@ module _ {t r : List ℕ} {i : ℕ} {sh : Extent} (q : SlotReady t r i sh) (p : 
       rw (eq-eqb (getD t (8 + i) 0) 0 free) (record {
         conflict = refl;
         slot = slot-owned (heldOf (numbersOf t) startHalf t′ r′) t′ i (insert p sh g) o (b₁ .held) ∙ ap (λ (y : Extent). owning y (insert p sh g)) s;
-        frame = slot-then (scope-own (numbersOf t) t i sh (m .textures) (m .mips) (x .texture) r) (scope-half m₁ (x .texture) (b₁ .frame));
-        past = λ y l. b₁ .frame .above y (omega (arith, m .textures, x .texture)) ∙ own-word (numbersOf t) t i sh (m .textures) (m .mips) (x .texture) y (inr (omega arith));
-        long = b₁ .frame .long;
-        table = b₁ .frame .table ∙ m₁ .table ∙ sym (m .table);
+        frame = keeps-then (scope-own (numbersOf t) t i sh (m .textures) (m .mips) (x .texture) r) (scope-half (b₁ .frame));
       })
 
   -- an owned one: `merge`
-  pub slot-old : {x : Stopped} {t′ r′ : List ℕ} → (getD t (8 + i) 0 ≡ 0 → ⊥) → HalfMerged (numbersOf t) startHalf i (merge p sh (heldOf (numbersOf t) startHalf t r i) g) t r x t′ r′ → SlotMerged t r i (mergeSlot ranged p sh g i (slotOf t r i)) x t′ r′
+  pub slot-old : {x : Stopped} {t′ r′ : List ℕ} → (getD t (8 + i) 0 ≡ 0 → ⊥) → HalfMerged (numbersOf t) startHalf i (merge p sh (heldOf (numbersOf t) startHalf t r i) g) t r x t′ r′ → SlotMerged (only i) t r i (mergeSlot ranged p sh g i (slotOf t r i)) x t′ r′
   slot-old {x} {t′} {r′} own b =
       let m = q .measured in let n = q .texture in
       let f = b .into .frame in
@@ -99,10 +93,7 @@ module _ {t r : List ℕ} {i : ℕ} {sh : Extent} (q : SlotReady t r i sh) (p : 
       rw (ne-eqb (getD t (8 + i) 0) 0 own) (record {
         conflict = ap (Option·map (indexed i)) (b .conflict);
         slot = slot-owned (heldOf (numbersOf t) startHalf t′ r′) t′ i _ o (b .into .held) ∙ ap (λ (y : Extent). owning y (merge p sh (heldOf (numbersOf t) startHalf t r i) g .value)) s;
-        frame = scope-half m (n .texture) f;
-        past = λ y l. f .above y (omega (arith, m .textures, n .texture));
-        long = f .long;
-        table = f .table;
+        frame = scope-half f;
       })
 
 -- ---- A use of it
@@ -155,17 +146,20 @@ module _ {t r : List ℕ} {i : ℕ} {sh : Extent} {g l : List ℕ} {p : UsageFla
 -- ---- The given scope may own the index
 module _ {t r : List ℕ} {i : ℕ} {g l : List ℕ} {p : UsageFlags} (o : OwnedReady t r i g l p) where
   -- it does not: the texture stays
-  pub slot-stays : getD g (8 + i) 0 ≡ 0 → SlotMerged t r i (mergeGiven ranged p i (slotOf t r i) (slotOf g l i)) Nowhere t r
+  pub slot-stays : getD g (8 + i) 0 ≡ 0 → SlotMerged (onlyOwned g i) t r i (mergeGiven ranged p i (slotOf t r i) (slotOf g l i)) Nowhere t r
   slot-stays free =
-      rw (eq-eqb (getD g (8 + i) 0) 0 free) (record { conflict = refl; slot = refl; frame = slot-refl (getD t 0 0) i (heldOf (numbersOf t) startHalf t r) t; past = λ y b. refl; long = refl; table = refl })
+      rw (eq-eqb (getD g (8 + i) 0) 0 free) (record { conflict = refl; slot = refl; frame = keeps-refl t r })
 
   module _ (own : getD g (8 + i) 0 ≡ 0 → ⊥) where
     pub taken-ready : SlotReady t r i (extentOf g i) × TakenTexture t i (extentOf g i) g l p
     taken-ready = let e = word-owned g i own in (o .slot e, o .given e)
 
     -- it does: the texture took what it holds
-    pub slot-taken : {x : Stopped} {t′ r′ : List ℕ} → SlotMerged t r i (mergeSlot ranged p (extentOf g i) (fromHeld (heldOf (numbersOf g) startHalf g l i)) i (slotOf t r i)) x t′ r′ → SlotMerged t r i (mergeGiven ranged p i (slotOf t r i) (slotOf g l i)) x t′ r′
-    slot-taken q = rw (ne-eqb (getD g (8 + i) 0) 0 own) q
+    pub slot-taken : {x : Stopped} {t′ r′ : List ℕ} → SlotMerged (only i) t r i (mergeSlot ranged p (extentOf g i) (fromHeld (heldOf (numbersOf g) startHalf g l i)) i (slotOf t r i)) x t′ r′ → SlotMerged (onlyOwned g i) t r i (mergeGiven ranged p i (slotOf t r i) (slotOf g l i)) x t′ r′
+    slot-taken {x} {t′} {r′} q =
+        let o : ownedOf g i ≡ true = word-owned g i own in
+        let f : ScopeFrame (onlyOwned g i) (numbersOf t) t r t′ r′ = keeps-more (λ j e. (e, subst (λ (k : ℕ). ownedOf g k ≡ true) (sym e) o)) (λ j y z. z) (q .frame) in
+        rw (ne-eqb (getD g (8 + i) 0) 0 own) (record { conflict = q .conflict; slot = q .slot; frame = f })
 
 -- a change past the last texture is none
 set-stays : {H : Type 0} {i : ℕ} {held held′ : ℕ → H} {t t′ : List ℕ} (s : Slot H) → getD t 0 0 ≤ i → SlotFrame (getD t 0 0) i held held′ t t′ → setWith held′ t′ ≡ withSlots (setWith held t) (set (setWith held t .slots) i s)
@@ -176,22 +170,24 @@ set-stays {H} {i} {held} {held′} {t} {t′} s h f =
     rw (f .head 0 (omega arith), f .head 1 (omega arith), f .head 2 (omega arith), f .head 3 (omega arith), f .head 4 (omega arith), f .head 5 (omega arith), f .head 6 (omega arith), q)
 
 -- ---- After it
-module _ {t r t′ r′ : List ℕ} {i : ℕ} {w : Stop (Indexed InvalidUse) (Slot Held)} {x : Stopped} (q : SlotMerged t r i w x t′ r′) where
+-- at most texture i is named
+pub slot-only : {named : ℕ → Type 0} {t r t′ r′ : List ℕ} {i : ℕ} {w : Stop (Indexed InvalidUse) (Slot Held)} {x : Stopped} → ((j : ℕ) → named j → j ≡ i) → SlotMerged named t r i w x t′ r′ → SlotMerged (only i) t r i w x t′ r′
+slot-only n q = record { conflict = q .conflict; slot = q .slot; frame = keeps-more n (λ j y o. o) (q .frame) }
+
+module _ {t r t′ r′ : List ℕ} {i : ℕ} {w : Stop (Indexed InvalidUse) (Slot Held)} {x : Stopped} (m : Measured (numbersOf t) startHalf t r) (q : SlotMerged (only i) t r i w x t′ r′) where
+  slots : SlotFrame (getD t 0 0) i (heldOf (numbersOf t) startHalf t r) (heldOf (numbersOf t) startHalf t′ r′) t t′
+  slots = scope-slots (m .textures) (m .mips) (q .frame)
+
   numbers-stay : numbersOf t′ ≡ numbersOf t
-  numbers-stay = rw (q .frame .head 0 (omega arith), q .frame .head 1 (omega arith), q .frame .head 2 (omega arith))
+  numbers-stay = rw (slots .head 0 (omega arith), slots .head 1 (omega arith), slots .head 2 (omega arith))
 
   -- THE VIEW
   pub slot-view : scopeOf t′ r′ ≡ withSlots (scopeOf t r) (set (scopeOf t r .slots) i (w .value))
   unfolding scopeOf
   slot-view =
       ap (λ (n : Numbers). setWith (heldOf n startHalf t′ r′) t′) numbers-stay
-      ∙ by-lt i (getD t 0 0) (λ h. set-becomes (w .value) h (q .frame) (q .slot)) (λ h. set-stays (w .value) h (q .frame))
+      ∙ by-lt i (getD t 0 0) (λ h. set-becomes (w .value) h slots (q .slot)) (λ h. set-stays (w .value) h slots)
 
   -- another texture
   pub slot-other : (j : ℕ) → j < getD t 0 0 → (j ≡ i → ⊥) → slotOf t′ r′ j ≡ slotOf t r j
-  slot-other j h ne = ap (λ (n : Numbers). slotWith (heldOf n startHalf t′ r′) t′ j) numbers-stay ∙ q .frame .others j h ne
-
-  -- the words that a scope does not read
-  pub slot-unread : (y : ℕ) → (y < 8) ⊎ (1288 ≤ y) → getD t′ y 0 ≡ getD t y 0
-  slot-unread y (inl k) = q .frame .head y k
-  slot-unread y (inr k) = q .past y k
+  slot-other j h ne = ap (λ (n : Numbers). slotWith (heldOf n startHalf t′ r′) t′ j) numbers-stay ∙ slots .others j h ne

@@ -19,6 +19,7 @@ ghost use Rattle.model.specs.Calls.{mergeUsageScope};
 ghost use Rattle.model.specs.Texture.{ranged};
 ghost use Rattle.model.specs.WellFormed.{wellFormedScope};
 ghost use Rattle.storage.specs.Storage.{scopeOf};
+ghost use Rattle.storage.specs.Stays.{ownedBy};
 ghost use Rattle.merging.specs.Merged.{Merged};
 ghost use Rattle.merging.specs.Scope.{mergedSlots, SlotsReady, SlotsMerged};
 
@@ -31,7 +32,7 @@ pub fn merge_slots(
     p: UsageFlags,
 ) -> Outcome
     requires { ⌜ SlotsReady (now table) (now ranges) (now given) (now lent) p ⌝ }
-    ensures { λ x. ⌜ SlotsMerged (mergedSlots p (now (table .entry)) (now (ranges .entry)) (now (given .entry)) (now (lent .entry))) (now (table .entry)) (now (ranges .entry)) x (now (table .exit)) (now (ranges .exit)) ⌝ }
+    ensures { λ x. ⌜ SlotsMerged (ownedBy (now (given .entry))) (mergedSlots p (now (table .entry)) (now (ranges .entry)) (now (given .entry)) (now (lent .entry))) (now (table .entry)) (now (ranges .entry)) x (now (table .exit)) (now (ranges .exit)) ⌝ }
 {
     let n = given[0];
     let mut k = 0;
@@ -53,7 +54,7 @@ pub fn merge_usage_scope(
     given: &Table,
     lent: &[u32],
 ) -> Outcome
-    ensures { λ x. ⌜ Merged (wellFormedScope (length (now (ranges .entry)) / 3) (scopeOf (now (table .entry)) (now (ranges .entry))) && wellFormedScope (length (now (lent .entry)) / 3) (scopeOf (now (given .entry)) (now (lent .entry)))) (mergeUsageScope ranged (scopeOf (now (table .entry)) (now (ranges .entry))) (scopeOf (now (given .entry)) (now (lent .entry)))) (now (table .entry)) (now (ranges .entry)) x (now (table .exit)) (now (ranges .exit)) ⌝ }
+    ensures { λ x. ⌜ Merged (ownedBy (now (given .entry))) (wellFormedScope (length (now (ranges .entry)) / 3) (scopeOf (now (table .entry)) (now (ranges .entry))) && wellFormedScope (length (now (lent .entry)) / 3) (scopeOf (now (given .entry)) (now (lent .entry)))) (mergeUsageScope ranged (scopeOf (now (table .entry)) (now (ranges .entry))) (scopeOf (now (given .entry)) (now (lent .entry)))) (now (table .entry)) (now (ranges .entry)) x (now (table .exit)) (now (ranges .exit)) ⌝ }
 {
     table_len(table);
     table_len(given);

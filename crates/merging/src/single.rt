@@ -23,6 +23,7 @@ ghost use Rattle.model.specs.Calls.{mergeSingle};
 ghost use Rattle.model.specs.Texture.{ranged};
 ghost use Rattle.model.specs.WellFormed.{wellFormedScope};
 ghost use Rattle.storage.specs.Storage.{scopeOf};
+ghost use Rattle.storage.specs.Stays.{only};
 ghost use Rattle.checks.specs.Head.{selectorOf};
 ghost use Rattle.ready.specs.Answers.{toldOf};
 ghost use Rattle.merging.specs.Merged.{Merged};
@@ -69,7 +70,7 @@ pub fn merge_single(
     selection: Selection,
     state: u16,
 ) -> Outcome
-    ensures { λ x. ⌜ Merged (wellFormedScope (length (now (ranges .entry)) / 3) (scopeOf (now (table .entry)) (now (ranges .entry)))) (mergeSingle ranged (scopeOf (now (table .entry)) (now (ranges .entry))) (index .0) extent (selectorOf selection) state) (now (table .entry)) (now (ranges .entry)) x (now (table .exit)) (now (ranges .exit)) ⌝ }
+    ensures { λ x. ⌜ Merged (only (index .0)) (wellFormedScope (length (now (ranges .entry)) / 3) (scopeOf (now (table .entry)) (now (ranges .entry)))) (mergeSingle ranged (scopeOf (now (table .entry)) (now (ranges .entry))) (index .0) extent (selectorOf selection) state) (now (table .entry)) (now (ranges .entry)) x (now (table .exit)) (now (ranges .exit)) ⌝ }
 {
     table_len(table);
     if !scope_fits(table, ranges) {

@@ -17,6 +17,7 @@ use texture::using::own;
 ghost use Rattle.model.specs.Calls.{mergeSlot, mergeGiven};
 ghost use Rattle.model.specs.Texture.{fromHeld, ranged};
 ghost use Rattle.storage.specs.Storage.{numbersOf, startHalf, heldOf};
+ghost use Rattle.storage.specs.Stays.{only, onlyOwned};
 ghost use Rattle.texture.specs.Uses.{useOf};
 ghost use Rattle.ready.specs.Merges.{TakenUse};
 ghost use Rattle.merging.specs.Slot.{slotOf, SlotReady, TakenTexture, OwnedReady, SlotMerged};
@@ -34,7 +35,7 @@ pub fn merge_use_at(
 ) -> Stopped
     requires { ⌜ SlotReady (now table) (now ranges) i extent ⌝ }
     requires { ⌜ TakenUse (now table) extent all q p new ⌝ }
-    ensures { λ x. ⌜ SlotMerged (now (table .entry)) (now (ranges .entry)) i (mergeSlot ranged p extent (useOf all q new) i (slotOf (now (table .entry)) (now (ranges .entry)) i)) x (now (table .exit)) (now (ranges .exit)) ⌝ }
+    ensures { λ x. ⌜ SlotMerged (only i) (now (table .entry)) (now (ranges .entry)) i (mergeSlot ranged p extent (useOf all q new) i (slotOf (now (table .entry)) (now (ranges .entry)) i)) x (now (table .exit)) (now (ranges .exit)) ⌝ }
 {
     if table[OWNED + i] == 0 {
         own(table, i, extent);
@@ -63,7 +64,7 @@ pub fn merge_given_at(
 ) -> Stopped
     requires { ⌜ SlotReady (now table) (now ranges) i extent ⌝ }
     requires { ⌜ TakenTexture (now table) i extent (now given) (now lent) p ⌝ }
-    ensures { λ x. ⌜ SlotMerged (now (table .entry)) (now (ranges .entry)) i (mergeSlot ranged p extent (fromHeld (heldOf (numbersOf (now (given .entry))) startHalf (now (given .entry)) (now (lent .entry)) i)) i (slotOf (now (table .entry)) (now (ranges .entry)) i)) x (now (table .exit)) (now (ranges .exit)) ⌝ }
+    ensures { λ x. ⌜ SlotMerged (only i) (now (table .entry)) (now (ranges .entry)) i (mergeSlot ranged p extent (fromHeld (heldOf (numbersOf (now (given .entry))) startHalf (now (given .entry)) (now (lent .entry)) i)) i (slotOf (now (table .entry)) (now (ranges .entry)) i)) x (now (table .exit)) (now (ranges .exit)) ⌝ }
 {
     if table[OWNED + i] == 0 {
         own(table, i, extent);
@@ -83,7 +84,7 @@ pub fn merge_owned_at(
     p: UsageFlags,
 ) -> Stopped
     requires { ⌜ OwnedReady (now table) (now ranges) i (now given) (now lent) p ⌝ }
-    ensures { λ x. ⌜ SlotMerged (now (table .entry)) (now (ranges .entry)) i (mergeGiven ranged p i (slotOf (now (table .entry)) (now (ranges .entry)) i) (slotOf (now (given .entry)) (now (lent .entry)) i)) x (now (table .exit)) (now (ranges .exit)) ⌝ }
+    ensures { λ x. ⌜ SlotMerged (onlyOwned (now (given .entry)) i) (now (table .entry)) (now (ranges .entry)) i (mergeGiven ranged p i (slotOf (now (table .entry)) (now (ranges .entry)) i) (slotOf (now (given .entry)) (now (lent .entry)) i)) x (now (table .exit)) (now (ranges .exit)) ⌝ }
 {
     if given[OWNED + i] == 0 {
         return Stopped::Nowhere;

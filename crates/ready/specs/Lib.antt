@@ -3,3 +3,4 @@ pub mod Selectors
 pub mod Merges
 pub mod Updates
 pub mod Answers
+pub mod Named

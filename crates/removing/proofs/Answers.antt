@@ -22,6 +22,7 @@ use Rattle.model.specs.Log.{pending}
 use Rattle.model.specs.Texture.{Held, Entry, ranged}
 use Rattle.model.specs.WellFormed.{scopeFits, trackerFits, wellFormedScope, wellFormedTracker}
 use Rattle.storage.specs.Storage.{numbersOf, scopeOf, trackerOf}
+use Rattle.storage.specs.Stays.{both-refl}
 use Rattle.barrier.specs.Entries.{Added}
 use Rattle.agreement.specs.LogBound.{entries}
 use Rattle.agreement.specs.LogRoom.{entries-written}
@@ -51,28 +52,20 @@ module _ (t s e g r is l : List ℕ) (h : LogHead) where
   room-for f k = omega (arith, head-le (length l / 7) h f)
 
   -- 15
-  pub not-enough : h .free < length (removedEntries t e g r is) → Changed (removedEntries t e g r is) (setsAfter t s e g r is) h t s e g r l (refusedWith NoFreeEntry h) t s e g l
+  pub not-enough : h .free < length (removedEntries t e g r is) → Changed is (removedEntries t e g r is) (setsAfter t s e g r is) h t s e g r l (refusedWith NoFreeEntry h) t s e g l
   not-enough k = record {
     few = λ q. (refl, (refl, (refl, (refl, (refl, refl)))));
     enough = λ q. absurd (omega arith);
-    stays = λ y q. refl;
-    start-long = refl;
-    end-long = refl;
-    table = refl;
-    given = refl;
+    frame = both-refl t s e;
   }
 
   -- written, and the textures changed
   pub written : {k : ℕ} {t′ s′ e′ g′ l₂ : List ℕ} → length (removedEntries t e g r is) ≤ h .free → headFits (length l / 7) h ≡ true → Adds mostEntries true l (h .written) (removedEntries t e g r is) k l₂ → Takes t s e g r is t′ s′ e′ g′
-      → Changed (removedEntries t e g r is) (setsAfter t s e g r is) h t s e g r l (movedOn h k) t′ s′ e′ g′ l₂
+      → Changed is (removedEntries t e g r is) (setsAfter t s e g r is) h t s e g r l (movedOn h k) t′ s′ e′ g′ l₂
   written {k} {t′} {s′} {e′} {g′} {l₂} le f w q = record {
     few = λ y. absurd (omega arith);
-    enough = λ y. (ap (movedOn h) (w .count), (adds-added (room-for f le) w, (q .tracker, q .scope)));
-    stays = q .stays;
-    start-long = q .start-long;
-    end-long = q .end-long;
-    table = q .table;
-    given = q .given;
+    enough = λ y. (ap (movedOn h) (w .count), (adds-added (room-for f le) w, (q .tracker, (q .scope, q .gone))));
+    frame = q .frame;
   }
 
 -- ---- The call
@@ -128,10 +121,10 @@ module _ {t s e g r is : List ℕ} (tracker : TrackerTested t s e) (scope : Scop
       omega (arith, few-entries a b)
 
   -- 15, or done
-  pub call-done : {fits : Bool} {h : LogHead} {l : List ℕ} {x : Answered} {t′ s′ e′ g′ l′ : List ℕ} → fits ≡ true → headFits (length l / 7) h ≡ true → Changed (removedEntries t e g r is) (setsAfter t s e g r is) h t s e g r l x t′ s′ e′ g′ l′
-      → Removed fits (setAndRemoveSparse ranged (trackerOf t s e) (scopeOf g r) is) h t s e g r l x t′ s′ e′ g′ l′
+  pub call-done : {fits : Bool} {h : LogHead} {l : List ℕ} {x : Answered} {t′ s′ e′ g′ l′ : List ℕ} → fits ≡ true → headFits (length l / 7) h ≡ true → Changed is (removedEntries t e g r is) (setsAfter t s e g r is) h t s e g r l x t′ s′ e′ g′ l′
+      → Removed is fits (setAndRemoveSparse ranged (trackerOf t s e) (scopeOf g r) is) h t s e g r l x t′ s′ e′ g′ l′
   call-done {fits} {h} {l} {x} {t′} {s′} {e′} {g′} {l′} f k c =
-      subst (λ (y : BothResult). Removed fits y h t s e g r l x t′ s′ e′ g′ l′) (sym (call-is t s e g r is none (sparse-done told refl)))
+      subst (λ (y : BothResult). Removed is fits y h t s e g r l x t′ s′ e′ g′ l′) (sym (call-is t s e g r is none (sparse-done told refl)))
       (changed-removed f k (answers is) (rw model-entries c))
     where
       answers : (js : List ℕ) → sparseAll ranged js (setsOf t s e g r) .answer ≡ calls.done
@@ -140,5 +133,5 @@ module _ {t s e g r is : List ℕ} (tracker : TrackerTested t s e) (scope : Scop
 
 -- 6 to 9
 pub call-away : {t s e g r is : List ℕ} {fits : Bool} {h : LogHead} {l : List ℕ} {y : Refusal} → fits ≡ true → headFits (length l / 7) h ≡ true → SparseTold t g is (outcome.Refused y)
-    → Removed fits (setAndRemoveSparse ranged (trackerOf t s e) (scopeOf g r) is) h t s e g r l (refusedWith y h) t s e g l
+    → Removed is fits (setAndRemoveSparse ranged (trackerOf t s e) (scopeOf g r) is) h t s e g r l (refusedWith y h) t s e g l
 call-away {t} {s} {e} {g} {r} {is} {y = y} f k told = away-own y f k (ap (λ (x : BothResult). x .answer) (call-is t s e g r is (some y) (sparse-refused told refl)))

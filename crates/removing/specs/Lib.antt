@@ -1,3 +1,4 @@
+pub mod Gone
 pub mod Removed
 pub mod Once
 pub mod Sparse

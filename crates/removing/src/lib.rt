@@ -15,7 +15,8 @@
 // changes: an index logs as at entry where it is first listed, and nothing where it is listed again.
 //
 // What holds: the answer, the head, the entries and the views of the tracker and of the scope are the model's (model/specs/Log, through
-// specs/Removed: `Removed`), a refusal leaves every number as it was, and the words of the scope's table past those of ownership stay.
+// specs/Removed: `Removed`), a refusal leaves every number as it was, the scope's table changes in its words of ownership alone, and of the tracker's
+// numbers all stay but those of the textures that are listed and owned.
 pub mod logged;
 pub mod sparse;
 pub mod taken;

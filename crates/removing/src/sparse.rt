@@ -74,7 +74,7 @@ pub fn remove_checked(
     requires { ⌜ length (removedEntries (now table) (now ends) (now given) (now lent) (now indices)) ≤ mostEntries ⌝ }
     requires { ⌜ headFits (length (now log) / 7) head ≡ true ⌝ }
     requires { ⌜ length (now log) < 18446744073709551616 ⌝ }
-    ensures { λ x. ⌜ Changed (removedEntries (now (table .entry)) (now (ends .entry)) (now (given .entry)) (now (lent .entry)) (now (indices .entry))) (setsAfter (now (table .entry)) (now (starts .entry)) (now (ends .entry)) (now (given .entry)) (now (lent .entry)) (now (indices .entry))) head (now (table .entry)) (now (starts .entry)) (now (ends .entry)) (now (given .entry)) (now (lent .entry)) (now (log .entry)) x (now (table .exit)) (now (starts .exit)) (now (ends .exit)) (now (given .exit)) (now (log .exit)) ⌝ }
+    ensures { λ x. ⌜ Changed (now (indices .entry)) (removedEntries (now (table .entry)) (now (ends .entry)) (now (given .entry)) (now (lent .entry)) (now (indices .entry))) (setsAfter (now (table .entry)) (now (starts .entry)) (now (ends .entry)) (now (given .entry)) (now (lent .entry)) (now (indices .entry))) head (now (table .entry)) (now (starts .entry)) (now (ends .entry)) (now (given .entry)) (now (lent .entry)) (now (log .entry)) x (now (table .exit)) (now (starts .exit)) (now (ends .exit)) (now (given .exit)) (now (log .exit)) ⌝ }
 {
     let p = flags_of(table);
     let mask = table[7];
@@ -99,7 +99,7 @@ pub fn set_and_remove_from_usage_scope_sparse(
     log: &mut [u32],
     head: LogHead,
 ) -> Answered
-    ensures { λ x. ⌜ Removed (wellFormedTracker (length (now (starts .entry)) / 3) (length (now (ends .entry)) / 3) (trackerOf (now (table .entry)) (now (starts .entry)) (now (ends .entry))) && wellFormedScope (length (now (lent .entry)) / 3) (scopeOf (now (given .entry)) (now (lent .entry)))) (setAndRemoveSparse ranged (trackerOf (now (table .entry)) (now (starts .entry)) (now (ends .entry))) (scopeOf (now (given .entry)) (now (lent .entry))) (now (indices .entry))) head (now (table .entry)) (now (starts .entry)) (now (ends .entry)) (now (given .entry)) (now (lent .entry)) (now (log .entry)) x (now (table .exit)) (now (starts .exit)) (now (ends .exit)) (now (given .exit)) (now (log .exit)) ⌝ }
+    ensures { λ x. ⌜ Removed (now (indices .entry)) (wellFormedTracker (length (now (starts .entry)) / 3) (length (now (ends .entry)) / 3) (trackerOf (now (table .entry)) (now (starts .entry)) (now (ends .entry))) && wellFormedScope (length (now (lent .entry)) / 3) (scopeOf (now (given .entry)) (now (lent .entry)))) (setAndRemoveSparse ranged (trackerOf (now (table .entry)) (now (starts .entry)) (now (ends .entry))) (scopeOf (now (given .entry)) (now (lent .entry))) (now (indices .entry))) head (now (table .entry)) (now (starts .entry)) (now (ends .entry)) (now (given .entry)) (now (lent .entry)) (now (log .entry)) x (now (table .exit)) (now (starts .exit)) (now (ends .exit)) (now (given .exit)) (now (log .exit)) ⌝ }
 {
     table_len(table);
     table_len(given);

@@ -10,6 +10,7 @@ use storage::wide;
 use texture::using::set_state;
 ghost use mathlib.Core.Path.{_≡_};
 ghost use Rattle.storage.specs.Storage.{flagsOf, startHalf};
+ghost use Rattle.storage.specs.Stays.{onlyOwned};
 ghost use Prim.Native.Nat.{_+_};
 ghost use lib.ListN.{getD};
 ghost use Rattle.setting.specs.Slot.{slotOf, SlotSet};
@@ -28,7 +29,7 @@ fn set_taken(
 )
     requires { ⌜ SetsAt (now table) (now starts) (now ends) i startHalf startHalf (now given) (now lent) (now lent) p ⌝ }
     requires { ⌜ (getD (now given) (8 + i) 0 ≡ 0 → ⊥) ⌝ }
-    ensures { λ _. ⌜ SlotSet (now (table .entry)) (now (starts .entry)) (now (ends .entry)) i (slotAfter p startHalf startHalf (now (given .entry)) (now (lent .entry)) (now (lent .entry)) i (slotOf (now (table .entry)) (now (starts .entry)) (now (ends .entry)) i)) (now (table .exit)) (now (starts .exit)) (now (ends .exit)) ⌝ }
+    ensures { λ _. ⌜ SlotSet (onlyOwned (now (given .entry)) i) (now (table .entry)) (now (starts .entry)) (now (ends .entry)) i (slotAfter p startHalf startHalf (now (given .entry)) (now (lent .entry)) (now (lent .entry)) i (slotOf (now (table .entry)) (now (starts .entry)) (now (ends .entry)) i)) (now (table .exit)) (now (starts .exit)) (now (ends .exit)) ⌝ }
 {
     if table[OWNED + i] == 0 {
         set_owned_at(table, starts, ends, i, given, lent, START, lent, START, p);

@@ -30,6 +30,7 @@ use Rattle.model.specs.Log.{pending}
 use Rattle.model.specs.Texture.{Held, Given, Entry, fromUse, ranged}
 use Rattle.storage.specs.Lists.{list-at}
 use Rattle.storage.specs.Storage.{numbersOf, flagsOf, startHalf, endHalf, trackerOf}
+use Rattle.storage.specs.Stays.{only, both-refl, both-more}
 use Rattle.texture.specs.Uses.{useOf}
 use Rattle.barrier.specs.Logged.{entriesAt, Room, Logged, logged-added, logged-unchanged}
 use Rattle.barrier.specs.Steps.{logTop}
@@ -67,24 +68,20 @@ module _ (t s e l : List ℕ) (i : ℕ) (sh : Extent) (g : Given) (h : LogHead) 
   room-for f k = omega (arith, head-le (length l / 7) h f)
 
   -- 15
-  pub not-enough : h .free < length es → Changed (usedEntries t s e i sh g) (usedTracker t s e i sh g) h t s e l (refusedWith NoFreeEntry h) t s e l
+  pub not-enough : h .free < length es → Changed (only i) (usedEntries t s e i sh g) (usedTracker t s e i sh g) h t s e l (refusedWith NoFreeEntry h) t s e l
   not-enough k = record {
     few = λ q. (refl, (refl, (refl, (refl, refl))));
     enough = λ q. absurd (omega (arith, as-entries i es));
-    start-long = refl;
-    end-long = refl;
-    table = refl;
+    frame = both-refl t s e;
   }
 
   -- written, and the texture changed
-  pub written : {top k : ℕ} {t′ s′ e′ l₂ : List ℕ} → length es ≤ h .free → headFits (length l / 7) h ≡ true → i < getD t 0 0 → Logged top i true l (h .written) es k l₂ → SlotSet t s e i (setSlot ranged (flagsOf t) sh g g (slotOf t s e i)) t′ s′ e′
-      → Changed (usedEntries t s e i sh g) (usedTracker t s e i sh g) h t s e l (movedOn h k) t′ s′ e′ l₂
+  pub written : {top k : ℕ} {t′ s′ e′ l₂ : List ℕ} → length es ≤ h .free → headFits (length l / 7) h ≡ true → SlotReady t s e i sh → Logged top i true l (h .written) es k l₂ → SlotSet (only i) t s e i (setSlot ranged (flagsOf t) sh g g (slotOf t s e i)) t′ s′ e′
+      → Changed (only i) (usedEntries t s e i sh g) (usedTracker t s e i sh g) h t s e l (movedOn h k) t′ s′ e′ l₂
   written {top} {k} {t′} {s′} {e′} {l₂} le f x w q = record {
     few = λ z. absurd (omega (arith, as-entries i es));
-    enough = λ z. (ap (movedOn h) (w .count ∙ sym (as-entries i es)), (logged-added (room-for f le) w, slot-view x q));
-    start-long = q .start-long;
-    end-long = q .end-long;
-    table = q .table;
+    enough = λ z. (ap (movedOn h) (w .count ∙ sym (as-entries i es)), (logged-added (room-for f le) w, slot-view (x .starts) (x .texture .texture) q));
+    frame = both-more (λ j n. (subst (λ (y : ℕ). y < getD t 0 0) (sym n) (x .texture .texture), n)) (λ j y o. o) (q .frame);
   }
 
 -- ---- `set_single`
@@ -112,17 +109,17 @@ module _ (t s e : List ℕ) (i : ℕ) (sh : Extent) (q : Selector) (st : ℕ) wh
   read-here h = ap (passing (flagsOf t) (getD t 7 0)) (list-at (slotOf t s e) (getD t 0 0) i (emptySlot (noEnds ranged)) h)
 
 module _ {t s e : List ℕ} {i : ℕ} {sh : Extent} {q : Selector} {st : ℕ} {fits : Bool} {h : LogHead} {l : List ℕ} (f : fits ≡ true) (k : headFits (length l / 7) h ≡ true) where
-  pub single-away : {r : Refusal} → UseTold t i sh (Part q) st (outcome.Refused r) → Tracked fits (setSingle ranged (trackerOf t s e) i sh q st) h t s e l (refusedWith r h) t s e l
+  pub single-away : {r : Refusal} → UseTold t i sh (Part q) st (outcome.Refused r) → Tracked (only i) fits (setSingle ranged (trackerOf t s e) i sh q st) h t s e l (refusedWith r h) t s e l
   single-away {r} z = away-own r f k (ap (λ (y : CallResult InvalidUse (List Entry) (Tracker Held)). y .answer) (call-is t s e i sh q st (some r) (use-refused z refl)))
 
-  pub single-done : {x : Answered} {t′ s′ e′ l′ : List ℕ} (g : Given) → UseTold t i sh (Part q) st outcome.Done → fromUse sh (some q) st ≡ g → Changed (usedEntries t s e i sh g) (usedTracker t s e i sh g) h t s e l x t′ s′ e′ l′
-      → Tracked fits (setSingle ranged (trackerOf t s e) i sh q st) h t s e l x t′ s′ e′ l′
+  pub single-done : {x : Answered} {t′ s′ e′ l′ : List ℕ} (g : Given) → UseTold t i sh (Part q) st outcome.Done → fromUse sh (some q) st ≡ g → Changed (only i) (usedEntries t s e i sh g) (usedTracker t s e i sh g) h t s e l x t′ s′ e′ l′
+      → Tracked (only i) fits (setSingle ranged (trackerOf t s e) i sh q st) h t s e l x t′ s′ e′ l′
   single-done {x} {t′} {s′} {e′} {l′} g z w c =
       let n = use-done z refl in
       let m : setSingle ranged (trackerOf t s e) i sh q st ≡ passing t s e i sh q st (flagsOf t) (getD t 7 0) (slotOf t s e i) =
       call-is t s e i sh q st none n ∙ read-here t s e i sh q st (texture-passed t i sh (use-passed t i sh (Part q) st n .0) .texture) in
-      let d : Changed (usedEntries t s e i sh (fromUse sh (some q) st)) (usedTracker t s e i sh (fromUse sh (some q) st)) h t s e l x t′ s′ e′ l′ = rw w c in
-      subst (λ (y : CallResult InvalidUse (List Entry) (Tracker Held)). Tracked fits y h t s e l x t′ s′ e′ l′) (sym m)
+      let d : Changed (only i) (usedEntries t s e i sh (fromUse sh (some q) st)) (usedTracker t s e i sh (fromUse sh (some q) st)) h t s e l x t′ s′ e′ l′ = rw w c in
+      subst (λ (y : CallResult InvalidUse (List Entry) (Tracker Held)). Tracked (only i) fits y h t s e l x t′ s′ e′ l′) (sym m)
       (changed-tracked f k refl (rw (slot-pending (flagsOf t) (getD t 7 0) sh (fromUse sh (some q) st) i (slotOf t s e i)) d))
 
 -- no more entries than the tracker has subresources

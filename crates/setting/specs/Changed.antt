@@ -16,57 +16,55 @@ use Rattle.model.specs.Calls as calls
 use Rattle.model.specs.Log.{Log, Logged, added, pending, logging}
 use Rattle.model.specs.Texture.{Held, Entry}
 use Rattle.storage.specs.Part.{by-lt}
-use Rattle.storage.specs.Storage.{trackerOf}
+use Rattle.storage.specs.Storage.{numbersOf, trackerOf}
+use Rattle.storage.specs.Stays.{both-refl, TrackerFrame}
 use Rattle.barrier.specs.Entries.{entriesOf, entries-long, Added}
+use Rattle.ready.specs.Named.{within}
 use Rattle.ready.specs.Answers.{turnedAway}
 use Rattle.setting.specs.declared.Answered.{Answered}
 use Rattle.setting.specs.Tracked.{logOf, Tracked}
 use Rattle.setting.specs.Logging.{headFits, refusedWith, movedOn, staying, unfit, too-short, own-refusal, too-few, logged-on, log-stays, log-moves}
 
 -- `new` is what the call adds to the log, and `become` the tracker that it leaves
-pub record Changed (new : List PendingTransition) (become : Tracker Held) (h : LogHead) (t s e l : List ℕ) (x : Answered) (t′ s′ e′ l′ : List ℕ) : Type 0 where
+pub record Changed (named : ℕ → Type 0) (new : List PendingTransition) (become : Tracker Held) (h : LogHead) (t s e l : List ℕ) (x : Answered) (t′ s′ e′ l′ : List ℕ) : Type 0 where
   pub few : h .free < length new → (x ≡ refusedWith NoFreeEntry h) × ((t′ ≡ t) × ((s′ ≡ s) × ((e′ ≡ e) × (l′ ≡ l))))
   pub enough : length new ≤ h .free → (x ≡ movedOn h (length new)) × (Added l (h .written) new l′ × (trackerOf t′ s′ e′ ≡ become))
-  pub start-long : length s′ ≡ length s
-  pub end-long : length e′ ≡ length e
-  pub table : length t′ ≡ length t
+  pub frame : TrackerFrame (within t named) (numbersOf t) t s e t′ s′ e′
 
 -- turned away before any change
-pub away : {fits : Bool} {m : CallResult InvalidUse (List Entry) (Tracker Held)} {h : LogHead} {t s e l : List ℕ} (r : Refusal)
-    → logging fits (logOf l h) (trackerOf t s e) m ≡ record { answer = calls.refused r; log = logOf l h; after = trackerOf t s e } → Tracked fits m h t s e l (refusedWith r h) t s e l
-away {fits} {m} {h} {t} {s} {e} {l} r z = record {
+pub away : {named : ℕ → Type 0} {fits : Bool} {m : CallResult InvalidUse (List Entry) (Tracker Held)} {h : LogHead} {t s e l : List ℕ} (r : Refusal)
+    → logging fits (logOf l h) (trackerOf t s e) m ≡ record { answer = calls.refused r; log = logOf l h; after = trackerOf t s e } → Tracked named fits m h t s e l (refusedWith r h) t s e l
+away {named} {fits} {m} {h} {t} {s} {e} {l} r z = record {
   log = log-stays (trackerOf t s e) r z;
   view = ap (λ (y : Logged (Tracker Held)). y .after) (sym z);
   kept = λ k. (refl, (refl, (refl, refl)));
-  start-long = refl;
-  end-long = refl;
-  table = refl;
+  stays = both-refl t s e;
 }
 
 -- as the code counts the entries that were lent
 lent-is : (l : List ℕ) (h : LogHead) (b : Bool) → headFits (length l / 7) h ≡ b → headFits (length (entriesOf l)) h ≡ b
 lent-is l h b z = rw (entries-long l) z
 
-module _ {fits : Bool} {m : CallResult InvalidUse (List Entry) (Tracker Held)} {h : LogHead} {t s e l : List ℕ} where
+module _ {named : ℕ → Type 0} {fits : Bool} {m : CallResult InvalidUse (List Entry) (Tracker Held)} {h : LogHead} {t s e l : List ℕ} where
   -- 4
-  pub away-unfit : fits ≡ false → Tracked fits m h t s e l (refusedWith NotWellFormed h) t s e l
+  pub away-unfit : fits ≡ false → Tracked named fits m h t s e l (refusedWith NotWellFormed h) t s e l
   away-unfit z = away NotWellFormed (rw z (unfit (logOf l h) (trackerOf t s e) m))
 
   -- 5
-  pub away-short : fits ≡ true → headFits (length l / 7) h ≡ false → Tracked fits m h t s e l (refusedWith LogTooShort h) t s e l
+  pub away-short : fits ≡ true → headFits (length l / 7) h ≡ false → Tracked named fits m h t s e l (refusedWith LogTooShort h) t s e l
   away-short f z = away LogTooShort (rw f (too-short (logOf l h) (trackerOf t s e) m (lent-is l h false z)))
 
   -- 6 to 13
-  pub away-own : (r : Refusal) → fits ≡ true → headFits (length l / 7) h ≡ true → m .answer ≡ calls.refused r → Tracked fits m h t s e l (refusedWith r h) t s e l
+  pub away-own : (r : Refusal) → fits ≡ true → headFits (length l / 7) h ≡ true → m .answer ≡ calls.refused r → Tracked named fits m h t s e l (refusedWith r h) t s e l
   away-own r f z a = away r (rw f (own-refusal (logOf l h) (trackerOf t s e) m (lent-is l h true z) r a))
 
   -- 15, or done
-  pub changed-tracked : {x : Answered} {t′ s′ e′ l′ : List ℕ} → fits ≡ true → headFits (length l / 7) h ≡ true → m .answer ≡ done → Changed (pending (m .log)) (m .after) h t s e l x t′ s′ e′ l′ → Tracked fits m h t s e l x t′ s′ e′ l′
+  pub changed-tracked : {x : Answered} {t′ s′ e′ l′ : List ℕ} → fits ≡ true → headFits (length l / 7) h ≡ true → m .answer ≡ done → Changed named (pending (m .log)) (m .after) h t s e l x t′ s′ e′ l′ → Tracked named fits m h t s e l x t′ s′ e′ l′
   changed-tracked {x} {t′} {s′} {e′} {l′} f z a c =
       by-lt (h .free) (length (pending (m .log)))
       (λ k.
       let w = c .few k in
-      let y : Tracked fits m h t s e l (refusedWith NoFreeEntry h) t s e l = away NoFreeEntry (rw f (too-few (logOf l h) (trackerOf t s e) m (lent-is l h true z) a k)) in
+      let y : Tracked named fits m h t s e l (refusedWith NoFreeEntry h) t s e l = away NoFreeEntry (rw f (too-few (logOf l h) (trackerOf t s e) m (lent-is l h true z) a k)) in
       rw (w .0, w .1 .0, w .1 .1 .0, w .1 .1 .1 .0, w .1 .1 .1 .1) y)
       (λ k.
       let w = c .enough k in
@@ -75,7 +73,5 @@ module _ {fits : Bool} {m : CallResult InvalidUse (List Entry) (Tracker Held)} {
         log = rw (w .0) (log-moves h (m .after) (pending (m .log)) y refl (w .1 .0));
         view = w .1 .1 ∙ ap (λ (q : Logged (Tracker Held)). q .after) (sym y);
         kept = λ q. absurd (false≢true (rw (w .0) at q));
-        start-long = c .start-long;
-        end-long = c .end-long;
-        table = c .table;
+        stays = c .frame;
       })

@@ -14,6 +14,7 @@ use Rattle.model.specs.Sets.{Numbers, Tracker, withTracker}
 use Rattle.model.specs.Calls.{setSlot}
 use Rattle.model.specs.Texture.{Held, Given, givenSingle, givenMany, insert, barrier, ranged}
 use Rattle.storage.specs.Storage.{numbersOf, flagsOf, extentOf, ownedOf, startHalf, endHalf, heldOf, trackerOf}
+use Rattle.storage.specs.Stays.{only}
 use Rattle.storage.specs.Frames.{Measured}
 use Rattle.storage.specs.Slots.{HalfBecomes, ownWords, half-low}
 use Rattle.texture.specs.Uses.{UseReady, useOf}
@@ -50,7 +51,7 @@ module _ {t s e : List ℕ} {i : ℕ} {sh : Extent} {all : Bool} {q : Selector} 
     -- the end, on the table that the start's insert left
     pub new-end : UseReady (numbersOf t₁) endHalf t₁ e i sh all q p new
     new-end =
-        let m : Measured (numbersOf (ownWords t i sh)) endHalf t₁ e = measured-low low refl (b .frame .table) (own-measured (r .ends) (r .texture)) in
+        let m : Measured (numbersOf (ownWords t i sh)) endHalf t₁ e = measured-low low refl (b .frame .words .long) (own-measured (r .ends) (r .texture)) in
         let y = new-in (own-measured (r .ends) (r .texture)) in
         let n = r .texture .texture in
         let k = r .starts .textures in
@@ -72,7 +73,7 @@ module _ {t s e : List ℕ} {i : ℕ} {sh : Extent} {all : Bool} {q : Selector} 
         })
 
     -- and what both leave
-    pub set-new : {t′ e′ : List ℕ} (y z : Given) → getD t (8 + i) 0 ≡ 0 → x ≡ insert p sh y → HalfBecomes (numbersOf t₁) endHalf i (insert p sh z) t₁ e t′ e′ → SlotSet t s e i (setSlot ranged p sh y z (slotOf t s e i)) t′ s′ e′
+    pub set-new : {t′ e′ : List ℕ} (y z : Given) → getD t (8 + i) 0 ≡ 0 → x ≡ insert p sh y → HalfBecomes (numbersOf t₁) endHalf i (insert p sh z) t₁ e t′ e′ → SlotSet (only i) t s e i (setSlot ranged p sh y z (slotOf t s e i)) t′ s′ e′
     set-new {t′} {e′} y z free w c =
         slot-new r p y z free (subst (λ (g : Held). HalfBecomes (numbersOf (ownWords t i sh)) startHalf i g (ownWords t i sh) s t₁ s′) w b) (subst (λ (d : Numbers). HalfBecomes d endHalf i (insert p sh z) t₁ e t′ e′) same-numbers c)
 

@@ -4,7 +4,7 @@ use native.Mathlib.Omega.{arith}
 use mathlib.Core.Path.{_≡_, refl, sym, ap, subst, _∙_}
 use mathlib.Core.Bool.{Bool, true, false}
 use mathlib.Core.List.{List, [], _∷_, append-nil}
-use lib.ListN.{length, getD, set}
+use lib.ListN.{getD, set}
 use borrow.Author.Tests.{ne-eqb, eq-eqb}
 use Rattle.model.specs.declared.UsageFlags.{UsageFlags}
 use Rattle.model.specs.declared.Extent.{Extent}
@@ -17,8 +17,9 @@ use Rattle.model.specs.Log.{pending}
 use Rattle.model.specs.Texture.{Held, Given, Entry, insert, update, barrier, ranged}
 use Rattle.storage.specs.Storage.{numbersOf, flagsOf, extentOf, ownedOf, startHalf, endHalf, heldOf, endsOf, slotWith, setWith, trackerOf}
 use Rattle.storage.specs.Frames.{Measured}
-use Rattle.storage.specs.Slots.{SlotFrame, HalfBecomes, ownWords, slot-then, slot-owned, set-becomes, tracker-own, own-owned}
-use Rattle.updating.specs.Both.{BothBecome, low-of, start-then-end, both-slots}
+use Rattle.storage.specs.Stays.{only, both-then, both-more, TrackerFrame}
+use Rattle.storage.specs.Slots.{HalfBecomes, ownWords, slot-owned, set-becomes, tracker-own, tracker-both, tracker-slots, own-owned}
+use Rattle.updating.specs.Both.{BothBecome, low-of, start-then-end}
 use Rattle.barrier.specs.Logged.{entriesAt}
 use Rattle.checks.specs.Passed.{TexturePassed}
 use Rattle.ready.specs.Tested.{HalfFits}
@@ -36,19 +37,16 @@ pub record SlotReady (t s e : List ℕ) (i : ℕ) (sh : Extent) : Type 0 where
   pub start-held : ownedOf t i ≡ true → HalfFits startHalf t s i
   pub end-held : ownedOf t i ≡ true → HalfFits endHalf t e i
 
--- THE CONTRACT of its change: texture i becomes x, and nothing else of the tracker is touched
-pub record SlotSet (t s e : List ℕ) (i : ℕ) (x : Slot (Ends Held)) (t′ s′ e′ : List ℕ) : Type 0 where
+-- THE CONTRACT of its change: texture i becomes x, and all that is lent stays but what is of a named index: i, or none
+pub record SlotSet (named : ℕ → Type 0) (t s e : List ℕ) (i : ℕ) (x : Slot (Ends Held)) (t′ s′ e′ : List ℕ) : Type 0 where
   pub slot : slotWith (endsOf (numbersOf t) t′ s′ e′) t′ i ≡ x
-  pub frame : SlotFrame (getD t 0 0) i (endsOf (numbersOf t) t s e) (endsOf (numbersOf t) t′ s′ e′) t t′
-  pub start-long : length s′ ≡ length s
-  pub end-long : length e′ ≡ length e
-  pub table : length t′ ≡ length t
+  pub frame : TrackerFrame named (numbersOf t) t s e t′ s′ e′
 
 module _ {t s e : List ℕ} {i : ℕ} {sh : Extent} (q : SlotReady t s e i sh) (p : UsageFlags) (from to : Given) where
   -- an unowned texture is owned, and then `insert` of its start and of its end
   pub slot-new : {t₁ s′ t′ e′ : List ℕ} → getD t (8 + i) 0 ≡ 0
       → HalfBecomes (numbersOf (ownWords t i sh)) startHalf i (insert p sh from) (ownWords t i sh) s t₁ s′ → HalfBecomes (numbersOf (ownWords t i sh)) endHalf i (insert p sh to) t₁ e t′ e′
-      → SlotSet t s e i (setSlot ranged p sh from to (slotOf t s e i)) t′ s′ e′
+      → SlotSet (only i) t s e i (setSlot ranged p sh from to (slotOf t s e i)) t′ s′ e′
   slot-new {t₁} {s′} {t′} {e′} free a b =
       let ms = q .starts in let x = q .texture in
       let d : numbersOf (ownWords t i sh) ≡ numbersOf t = own-numbers ms x in
@@ -62,14 +60,11 @@ module _ {t s e : List ℕ} {i : ℕ} {sh : Extent} (q : SlotReady t s e i sh) (
       let w : extentOf t′ i ≡ sh = rw (low (72 + i) (omega (arith, ms .textures, x .texture)), low (136 + i) (omega (arith, ms .textures, x .texture))) (own-extent ms x) in
       rw (eq-eqb (getD t (8 + i) 0) 0 free) (record {
         slot = slot-owned (endsOf (numbersOf t) t′ s′ e′) t′ i (record { start = insert p sh from; end = insert p sh to }) o (c .ends) ∙ ap (λ (y : Extent). owning y (record { start = insert p sh from; end = insert p sh to })) w;
-        frame = slot-then (tracker-own (numbersOf t) t i sh (ms .textures) (ms .mips) (x .texture) s e) (both-slots os oe (x .texture) (c .frame));
-        start-long = c .frame .start-long;
-        end-long = c .frame .end-long;
-        table = c .frame .table ∙ os .table ∙ sym (ms .table);
+        frame = both-then (tracker-own (numbersOf t) t i sh (ms .textures) (ms .mips) (x .texture) s e) (tracker-both (c .frame));
       })
 
   -- an owned one: `update`
-  pub slot-old : {t′ s′ e′ : List ℕ} → (getD t (8 + i) 0 ≡ 0 → ⊥) → BothBecome (numbersOf t) i (update p sh (endsOf (numbersOf t) t s e i) to) t s e t′ s′ e′ → SlotSet t s e i (setSlot ranged p sh from to (slotOf t s e i)) t′ s′ e′
+  pub slot-old : {t′ s′ e′ : List ℕ} → (getD t (8 + i) 0 ≡ 0 → ⊥) → BothBecome (numbersOf t) i (update p sh (endsOf (numbersOf t) t s e i) to) t s e t′ s′ e′ → SlotSet (only i) t s e i (setSlot ranged p sh from to (slotOf t s e i)) t′ s′ e′
   slot-old {t′} {s′} {e′} own b =
       let ms = q .starts in let x = q .texture in
       let low = low-of ms (q .ends) (x .texture) (b .frame) in
@@ -78,18 +73,20 @@ module _ {t s e : List ℕ} {i : ℕ} {sh : Extent} (q : SlotReady t s e i sh) (
       let w : extentOf t′ i ≡ sh = rw (low (72 + i) (omega (arith, ms .textures, x .texture)), low (136 + i) (omega (arith, ms .textures, x .texture))) z in
       rw (ne-eqb (getD t (8 + i) 0) 0 own) (record {
         slot = slot-owned (endsOf (numbersOf t) t′ s′ e′) t′ i _ o (b .ends) ∙ ap (λ (y : Extent). owning y (update p sh (endsOf (numbersOf t) t s e i) to)) w;
-        frame = both-slots ms (q .ends) (x .texture) (b .frame);
-        start-long = b .frame .start-long;
-        end-long = b .frame .end-long;
-        table = b .frame .table;
+        frame = tracker-both (b .frame);
       })
 
+-- at most texture i is named
+pub slot-only : {named : ℕ → Type 0} {t s e t′ s′ e′ : List ℕ} {i : ℕ} {x : Slot (Ends Held)} → ((j : ℕ) → named j → j ≡ i) → SlotSet named t s e i x t′ s′ e′ → SlotSet (only i) t s e i x t′ s′ e′
+slot-only n q = record { slot = q .slot; frame = both-more n (λ j y o. o) (q .frame) }
+
 -- THE VIEW after it
-pub slot-view : {t s e t′ s′ e′ : List ℕ} {i : ℕ} {x : Slot (Ends Held)} → i < getD t 0 0 → SlotSet t s e i x t′ s′ e′ → trackerOf t′ s′ e′ ≡ withTracker (trackerOf t s e) (set (trackerOf t s e .set .slots) i x)
+pub slot-view : {t s e t′ s′ e′ : List ℕ} {i : ℕ} {x : Slot (Ends Held)} → Measured (numbersOf t) startHalf t s → i < getD t 0 0 → SlotSet (only i) t s e i x t′ s′ e′ → trackerOf t′ s′ e′ ≡ withTracker (trackerOf t s e) (set (trackerOf t s e .set .slots) i x)
 unfolding trackerOf
-slot-view {t} {s} {e} {t′} {s′} {e′} {i} {x} h q =
-    let d : numbersOf t′ ≡ numbersOf t = rw (q .frame .head 0 (omega arith), q .frame .head 1 (omega arith), q .frame .head 2 (omega arith)) in
-    rw (q .frame .head 7 (omega arith), ap (λ (n : Numbers). setWith (endsOf n t′ s′ e′) t′) d ∙ set-becomes x h (q .frame) (q .slot))
+slot-view {t} {s} {e} {t′} {s′} {e′} {i} {x} m h q =
+    let f = tracker-slots (m .textures) (m .mips) (q .frame) in
+    let d : numbersOf t′ ≡ numbersOf t = rw (f .head 0 (omega arith), f .head 1 (omega arith), f .head 2 (omega arith)) in
+    rw (f .head 7 (omega arith), ap (λ (n : Numbers). setWith (endsOf n t′ s′ e′) t′) d ∙ set-becomes x h f (q .slot))
 
 -- ---- Its transitions: none where it is not owned
 abbrev pub slotEntries : UsageFlags → ℕ → Extent → Given → Slot (Ends Held) → List Entry

@@ -10,8 +10,10 @@ use Rattle.model.specs.Sets.{Tracker}
 use Rattle.model.specs.Calls.{CallResult}
 use Rattle.model.specs.Log.{Log, Logged, outcomeOf, logging}
 use Rattle.model.specs.Texture.{Held, Entry}
-use Rattle.storage.specs.Storage.{trackerOf}
+use Rattle.storage.specs.Storage.{numbersOf, trackerOf}
+use Rattle.storage.specs.Stays.{TrackerFrame}
 use Rattle.barrier.specs.Entries.{entriesOf, unused}
+use Rattle.ready.specs.Named.{within}
 use Rattle.ready.specs.Answers.{turnedAway}
 use Rattle.setting.specs.declared.Answered.{Answered}
 
@@ -27,15 +29,14 @@ pub record Logs {X : Type 0} (c : Logged X) (l : List ℕ) (x : Answered) (l′ 
   pub unused : unused l′ ≡ unused l
   pub long : length l′ ≡ length l
 
--- `fits` says whether every set that was handed in is well formed, and `m` is the model's call. Free, and in no view, are the counts and
--- the ranges of a Single half, counts and ranges of mips that a texture does not have, the ranges past a count, which nonzero number marks
--- an index as owned, the words of indices from N on and what is lent past N × M × W ranges: nothing is promised of them but that the
--- table and the slices stay as long as they were.
-pub record Tracked (fits : Bool) (m : CallResult InvalidUse (List Entry) (Tracker Held)) (h : LogHead) (t s e l : List ℕ) (x : Answered) (t′ s′ e′ l′ : List ℕ) : Type 0 where
+-- `fits` says whether every set that was handed in is well formed, `m` is the model's call, and `named` are the indices that the call
+-- names. All that is lent stays but the words and the ranges of those: "More room is ignored". Free, and in no view, is only what is
+-- unused inside them: which nonzero number marks one as owned, the counts and the ranges of a Single half, counts and ranges of mips that
+-- the texture does not have, and the ranges past a count.
+pub record Tracked (named : ℕ → Type 0) (fits : Bool) (m : CallResult InvalidUse (List Entry) (Tracker Held)) (h : LogHead) (t s e l : List ℕ) (x : Answered) (t′ s′ e′ l′ : List ℕ) : Type 0 where
   pub log : Logs (logging fits (logOf l h) (trackerOf t s e) m) l x l′
   pub view : trackerOf t′ s′ e′ ≡ (logging fits (logOf l h) (trackerOf t s e) m) .after
   -- "Everything lent stays."
   pub kept : turnedAway (x .outcome) ≡ true → (t′ ≡ t) × ((s′ ≡ s) × ((e′ ≡ e) × (l′ ≡ l)))
-  pub start-long : length s′ ≡ length s
-  pub end-long : length e′ ≡ length e
-  pub table : length t′ ≡ length t
+  -- every number of what is lent stays but those of the named textures
+  pub stays : TrackerFrame (within t named) (numbersOf t) t s e t′ s′ e′

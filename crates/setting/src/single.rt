@@ -33,6 +33,7 @@ ghost use Rattle.model.specs.Calls.{setSingle};
 ghost use Rattle.model.specs.Texture.{ranged};
 ghost use Rattle.model.specs.WellFormed.{wellFormedTracker};
 ghost use Rattle.storage.specs.Storage.{numbersOf, flagsOf, trackerOf};
+ghost use Rattle.storage.specs.Stays.{only};
 ghost use Rattle.texture.specs.Uses.{useOf};
 ghost use Rattle.ready.specs.Merges.{TakenUse};
 ghost use Rattle.setting.specs.Slot.{slotOf, slotEntries, SlotReady};
@@ -107,7 +108,7 @@ pub fn set_checked(
     requires { ⌜ length (usedEntries (now table) (now starts) (now ends) i extent (useOf all q new)) ≤ capacity (numbersOf (now table)) ⌝ }
     requires { ⌜ headFits (length (now log) / 7) head ≡ true ⌝ }
     requires { ⌜ length (now log) < 18446744073709551616 ⌝ }
-    ensures { λ x. ⌜ Changed (usedEntries (now (table .entry)) (now (starts .entry)) (now (ends .entry)) i extent (useOf all q new)) (usedTracker (now (table .entry)) (now (starts .entry)) (now (ends .entry)) i extent (useOf all q new)) head (now (table .entry)) (now (starts .entry)) (now (ends .entry)) (now (log .entry)) x (now (table .exit)) (now (starts .exit)) (now (ends .exit)) (now (log .exit)) ⌝ }
+    ensures { λ x. ⌜ Changed (only i) (usedEntries (now (table .entry)) (now (starts .entry)) (now (ends .entry)) i extent (useOf all q new)) (usedTracker (now (table .entry)) (now (starts .entry)) (now (ends .entry)) i extent (useOf all q new)) head (now (table .entry)) (now (starts .entry)) (now (ends .entry)) (now (log .entry)) x (now (table .exit)) (now (starts .exit)) (now (ends .exit)) (now (log .exit)) ⌝ }
 {
     let p = flags_of(table);
     let mask = table[7];
@@ -160,7 +161,7 @@ pub fn set_single(
     log: &mut [u32],
     head: LogHead,
 ) -> Answered
-    ensures { λ x. ⌜ Tracked (wellFormedTracker (length (now (starts .entry)) / 3) (length (now (ends .entry)) / 3) (trackerOf (now (table .entry)) (now (starts .entry)) (now (ends .entry)))) (setSingle ranged (trackerOf (now (table .entry)) (now (starts .entry)) (now (ends .entry))) (index .0) extent selector state) head (now (table .entry)) (now (starts .entry)) (now (ends .entry)) (now (log .entry)) x (now (table .exit)) (now (starts .exit)) (now (ends .exit)) (now (log .exit)) ⌝ }
+    ensures { λ x. ⌜ Tracked (only (index .0)) (wellFormedTracker (length (now (starts .entry)) / 3) (length (now (ends .entry)) / 3) (trackerOf (now (table .entry)) (now (starts .entry)) (now (ends .entry)))) (setSingle ranged (trackerOf (now (table .entry)) (now (starts .entry)) (now (ends .entry))) (index .0) extent selector state) head (now (table .entry)) (now (starts .entry)) (now (ends .entry)) (now (log .entry)) x (now (table .exit)) (now (starts .exit)) (now (ends .exit)) (now (log .exit)) ⌝ }
 {
     table_len(table);
     if !tracker_fits(table, starts, ends) {

@@ -15,6 +15,7 @@ use updating::using::update_use;
 ghost use Prim.Native.Nat.{_≤_};
 ghost use Rattle.model.specs.Calls.{setSlot};
 ghost use Rattle.model.specs.Texture.{ranged};
+ghost use Rattle.storage.specs.Stays.{only};
 ghost use Rattle.texture.specs.Uses.{useOf};
 ghost use Rattle.barrier.specs.Steps.{logTop};
 ghost use Rattle.barrier.specs.Logged.{Room, Logged};
@@ -35,7 +36,7 @@ pub fn set_use_at(
 )
     requires { ⌜ SlotReady (now table) (now starts) (now ends) i extent ⌝ }
     requires { ⌜ TakenUse (now table) extent all q p new ⌝ }
-    ensures { λ _. ⌜ SlotSet (now (table .entry)) (now (starts .entry)) (now (ends .entry)) i (setSlot ranged p extent (useOf all q new) (useOf all q new) (slotOf (now (table .entry)) (now (starts .entry)) (now (ends .entry)) i)) (now (table .exit)) (now (starts .exit)) (now (ends .exit)) ⌝ }
+    ensures { λ _. ⌜ SlotSet (only i) (now (table .entry)) (now (starts .entry)) (now (ends .entry)) i (setSlot ranged p extent (useOf all q new) (useOf all q new) (slotOf (now (table .entry)) (now (starts .entry)) (now (ends .entry)) i)) (now (table .exit)) (now (starts .exit)) (now (ends .exit)) ⌝ }
 {
     if table[OWNED + i] == 0 {
         own(table, i, extent);

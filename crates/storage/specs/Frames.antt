@@ -1,8 +1,9 @@
 -- What a change of one texture leaves as it was, and how changes of its mips follow one another.
-use Prim.Native.Nat.{ℕ, _+_, _*_, _≤_, _<_}
+use Prim.Native.Nat.{ℕ, suc, _+_, _*_, _≤_, _<_}
 use native.Mathlib.Omega.{arith}
 use native.Mathlib.Nat.{min-le-right}
 use mathlib.Core.Path.{_≡_, refl, ap, sym, _∙_}
+use mathlib.Core.Logic.{_⊎_, inl, inr}
 use mathlib.Core.List.{List, [], _++_}
 use lib.Dec.{leb}
 use borrow.Author.Tests.{le-leb}
@@ -11,8 +12,9 @@ use lib.Seq.{getD-set-same, getD-set-other}
 use Rattle.model.specs.declared.Range.{Range}
 use Rattle.model.specs.Sets.{Numbers}
 use Rattle.ranges.specs.View.{decode, Becomes}
-use Rattle.storage.specs.Part.{baseOf, partOf, putPart, put-length, put-part, put-apart, part-length, textures-apart, mips-apart, by-eq, places-fit, Within}
-use Rattle.storage.specs.Storage.{numbersOf, mipsIn, countAt, mipPart, mipOf, mipsOf, listFrom}
+use Rattle.storage.specs.Part.{baseOf, partOf, putPart, put-length, put-part, put-before, put-after, put-apart, part-length, mips-apart, by-eq, places-fit, Within}
+use Rattle.storage.specs.Storage.{numbersOf, tableIndices, stateAt, rangesAt, mipsIn, countAt, mipPart, mipOf, mipsOf, listFrom}
+use Rattle.storage.specs.Stays.{Frame, HalfFrame, stays-refl, stays-at, stays-of, stays-set, keeps-more, mip-first, mip-last}
 use Rattle.storage.specs.Lists.{list-set, list-long, list-at}
 
 -- ---- What the code needs of storage to index it, in the half that begins at h
@@ -26,25 +28,13 @@ pub record Measured (d : Numbers) (h : ℕ) (t r : List ℕ) : Type 0 where
   pub half : (200 ≤ h) × (h ≤ 1288)
   pub table : length t ≡ 2376
 
--- ---- Only the counts and the ranges of texture i in the half h may differ
-pub record Frame (d : Numbers) (h i : ℕ) (t r t′ r′ : List ℕ) : Type 0 where
-  pub below : (x : ℕ) → x < h + 64 + 16 * i → getD t′ x 0 ≡ getD t x 0
-  pub above : (x : ℕ) → h + 64 + 16 * i + 16 ≤ x → getD t′ x 0 ≡ getD t x 0
-  pub apart : (j k : ℕ) → j < d .textures → k < d .mips → (j ≡ i → ⊥) → mipPart d r′ j k ≡ mipPart d r j k
-  pub long : length r′ ≡ length r
-  pub table : length t′ ≡ length t
+-- ---- Only the counts and the ranges of texture i in the half h may differ: the words below its counts, and past them
+module _ {d : Numbers} {h i : ℕ} {t r t′ r′ : List ℕ} (f : Frame d h i t r t′ r′) where
+  pub frame-below : (x : ℕ) → x < countAt h i 0 → getD t′ x 0 ≡ getD t x 0
+  frame-below x q = stays-at (f .words) x (record { off = inl q })
 
-pub frame-refl : (d : Numbers) (h i : ℕ) (t r : List ℕ) → Frame d h i t r t r
-frame-refl d h i t r = record { below = λ x q. refl; above = λ x q. refl; apart = λ j k a b c. refl; long = refl; table = refl }
-
-pub frame-then : {d : Numbers} {h i : ℕ} {t r t₁ r₁ t₂ r₂ : List ℕ} → Frame d h i t r t₁ r₁ → Frame d h i t₁ r₁ t₂ r₂ → Frame d h i t r t₂ r₂
-frame-then f g = record {
-  below = λ x q. g .below x q ∙ f .below x q;
-  above = λ x q. g .above x q ∙ f .above x q;
-  apart = λ j k a b c. g .apart j k a b c ∙ f .apart j k a b c;
-  long = g .long ∙ f .long;
-  table = g .table ∙ f .table;
-}
+  pub frame-above : (x : ℕ) → countAt h i 16 ≤ x → getD t′ x 0 ≡ getD t x 0
+  frame-above x q = stays-at (f .words) x (record { off = inr q })
 
 -- ---- The mips of texture i become ss, and all else is as it was
 pub record MipsBecome (d : Numbers) (h i : ℕ) (ss : List (List Range)) (t r t′ r′ : List ℕ) : Type 0 where
@@ -105,13 +95,20 @@ module _ {d : Numbers} {h i m : ℕ} {t r : List ℕ} (q : MipReady d h t r i m)
   in-table = omega (arith, q .measured .table, q .measured .half .1, q .measured .textures, q .measured .mips, q .texture, in-mips)
 
   put-frame : Frame d h i t r t′ r′
-  put-frame = record {
-    below = λ x l. getD-set-other t (countAt h i m) x n 0 (λ z. omega arith);
-    above = λ x l. getD-set-other t (countAt h i m) x n 0 (λ z. omega (arith, q .measured .mips, in-mips));
-    apart = λ j k a b c. put-apart r base (3 * d .layers) p room size (baseOf j k (d .mips) (d .layers)) (room-of (q .measured) j k a b) (textures-apart i j m k (d .mips) (d .layers) in-mips b c);
-    long = put-length r base (3 * d .layers) p room size;
-    table = length-set t (countAt h i m) n;
-  }
+  put-frame =
+      let few : i < tableIndices = omega (arith, q .texture, q .measured .textures) in
+      record {
+        words = stays-set t (countAt h i m) n few (λ x o z. off-count x (o .off) z);
+        ranges = stays-of few (λ x o. off-part x (o .off)) (put-length r base (3 * d .layers) p room size);
+      }
+    where
+      off-count : (x : ℕ) → (x < countAt h i 0) ⊎ (countAt h i 16 ≤ x) → x ≡ countAt h i m → ⊥
+      off-count x (inl o) z = omega arith
+      off-count x (inr o) z = omega (arith, q .measured .mips, in-mips)
+
+      off-part : (x : ℕ) → (x < rangesAt d i) ⊎ (rangesAt d (suc i) ≤ x) → getD r′ x 0 ≡ getD r x 0
+      off-part x (inl o) = put-before r base (3 * d .layers) p room size x 0 (omega (arith, mip-first d i m))
+      off-part x (inr o) = put-after r base (3 * d .layers) p room size x 0 (omega (arith, mip-last d i m in-mips))
 
   put-here : n ≤ d .layers → mipOf d h t′ r′ i m ≡ decode n p
   unfolding mipOf
@@ -127,7 +124,7 @@ module _ {d : Numbers} {h i m : ℕ} {t r : List ℕ} (q : MipReady d h t r i m)
 
   pub put-mips : n ≤ d .layers → MipsBecome d h i (set (mipsOf d h t r i) m (decode n p)) t r t′ r′
   put-mips few =
-      let e : mipsIn d t′ i ≡ mipsIn d t i = mips-same d t t′ i (put-frame .below (72 + i) (omega (arith, q .measured .half .0, q .measured .textures, q .texture))) in
+      let e : mipsIn d t′ i ≡ mipsIn d t i = mips-same d t t′ i (frame-below put-frame (72 + i) (omega (arith, q .measured .half .0, q .measured .textures, q .texture))) in
       let z : 0 + m ≡ m = omega arith in
       record {
         mips = rw e (list-set (mipOf d h t r i) (mipOf d h t′ r′ i) 0 (mipsIn d t i) m (decode n p) (q .mip) (ap (λ (x : ℕ). mipOf d h t′ r′ i x) z ∙ put-here few)
@@ -145,52 +142,34 @@ mip-put {d} {h} {i} {m} {t} {r} q b k n p xs eb ek long fits seen =
     rw (eb, ek) record { mips = x .mips ∙ ap (λ (ys : List Range). set (mipsOf d h t r i) m ys) seen; frame = x .frame }
 
 -- ---- Only the state, the counts and the ranges of texture i in the half h may differ
-pub record HalfFrame (d : Numbers) (h i : ℕ) (t r t′ r′ : List ℕ) : Type 0 where
-  pub below : (x : ℕ) → x < h + 64 + 16 * i → (x ≡ h + i → ⊥) → getD t′ x 0 ≡ getD t x 0
-  pub above : (x : ℕ) → h + 64 + 16 * i + 16 ≤ x → getD t′ x 0 ≡ getD t x 0
-  pub apart : (j k : ℕ) → j < d .textures → k < d .mips → (j ≡ i → ⊥) → mipPart d r′ j k ≡ mipPart d r j k
-  pub long : length r′ ≡ length r
-  pub table : length t′ ≡ length t
-
 pub half-of : {d : Numbers} {h i : ℕ} {t r t′ r′ : List ℕ} → Frame d h i t r t′ r′ → HalfFrame d h i t r t′ r′
-half-of f = record { below = λ x q _. f .below x q; above = f .above; apart = f .apart; long = f .long; table = f .table }
-
-pub half-refl : (d : Numbers) (h i : ℕ) (t r : List ℕ) → HalfFrame d h i t r t r
-half-refl d h i t r = half-of (frame-refl d h i t r)
-
-pub half-then : {d : Numbers} {h i : ℕ} {t r t₁ r₁ t₂ r₂ : List ℕ} → HalfFrame d h i t r t₁ r₁ → HalfFrame d h i t₁ r₁ t₂ r₂ → HalfFrame d h i t r t₂ r₂
-half-then f g = record {
-  below = λ x q n. g .below x q n ∙ f .below x q n;
-  above = λ x q. g .above x q ∙ f .above x q;
-  apart = λ j k a b c. g .apart j k a b c ∙ f .apart j k a b c;
-  long = g .long ∙ f .long;
-  table = g .table ∙ f .table;
-}
+half-of f = keeps-more (λ j e. e) (λ j x o. o .counts) f
 
 -- the state alone
-pub half-word : (d : Numbers) (h i v : ℕ) (t r : List ℕ) → HalfFrame d h i t r (set t (h + i) v) r
-half-word d h i v t r = record {
-  below = λ x q n. getD-set-other t (h + i) x v 0 n;
-  above = λ x q. getD-set-other t (h + i) x v 0 (λ z. omega arith);
-  apart = λ j k a b c. refl;
-  long = refl;
-  table = length-set t (h + i) v;
-}
+pub half-word : (d : Numbers) (h i v : ℕ) (t r : List ℕ) → i < tableIndices → HalfFrame d h i t r (set t (stateAt h i) v) r
+half-word d h i v t r few = record { words = stays-set t (stateAt h i) v few (λ x o. o .state); ranges = stays-refl r }
+
+module _ {d : Numbers} {h i : ℕ} {t r t′ r′ : List ℕ} (f : HalfFrame d h i t r t′ r′) where
+  pub half-below : (x : ℕ) → x < countAt h i 0 → (x ≡ stateAt h i → ⊥) → getD t′ x 0 ≡ getD t x 0
+  half-below x q n = stays-at (f .words) x (record { state = n; counts = record { off = inl q } })
+
+  pub half-above : (x : ℕ) → countAt h i 16 ≤ x → getD t′ x 0 ≡ getD t x 0
+  half-above x q = stays-at (f .words) x (record { state = λ z. omega arith; counts = record { off = inr q } })
 
 pub half-measured : {d : Numbers} {h i : ℕ} {t r t′ r′ : List ℕ} → Measured d h t r → HalfFrame d h i t r t′ r′ → Measured d h t′ r′
 half-measured {d} {h} {i} {t} {r} {t′} {r′} s f =
-    let e₀ = f .below 0 (omega (arith, s .half .0)) (λ z. omega (arith, s .half .0)) in
-    let e₁ = f .below 1 (omega (arith, s .half .0)) (λ z. omega (arith, s .half .0)) in
-    let e₂ = f .below 2 (omega (arith, s .half .0)) (λ z. omega (arith, s .half .0)) in
+    let e₀ = half-below f 0 (omega (arith, s .half .0)) (λ z. omega (arith, s .half .0)) in
+    let e₁ = half-below f 1 (omega (arith, s .half .0)) (λ z. omega (arith, s .half .0)) in
+    let e₂ = half-below f 2 (omega (arith, s .half .0)) (λ z. omega (arith, s .half .0)) in
     record {
       dims = rw (e₀, e₁, e₂) (s .dims);
       textures = s .textures;
       mips = s .mips;
       some = s .some;
       layers = s .layers;
-      fits = rw (f .long) (s .fits);
+      fits = rw (f .ranges .long) (s .fits);
       half = s .half;
-      table = f .table ∙ s .table;
+      table = f .words .long ∙ s .table;
     }
 
 pub measured-then : {d : Numbers} {h i : ℕ} {t r t′ r′ : List ℕ} → Measured d h t r → Frame d h i t r t′ r′ → Measured d h t′ r′

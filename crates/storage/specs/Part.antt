@@ -1,8 +1,8 @@
 -- A part of a list at a computed place.
-use Prim.Native.Nat.{ℕ, zero, suc, _+_, _*_, _-_, _≤_, _<_}
+use Prim.Native.Nat.{ℕ, zero, suc, _+_, _*_, _-_, _≤_, _<_, min}
 use mathlib.Core.Path.{_≡_, refl, ap, sym, _∙_}
 use mathlib.Core.List.{List, _++_}
-use native.Mathlib.Nat.{suc-mul, mul-le-mul-right, le-mul-of-pos-right, le-trans}
+use native.Mathlib.Nat.{suc-mul, mul-le-mul-right, le-mul-of-pos-right, le-trans, min-le-left}
 use native.Mathlib.Omega.{arith}
 use mathlib.Core.Bool.{Bool, true, false}
 use mathlib.Core.Logic.{_⊎_, inl, inr}
@@ -86,6 +86,16 @@ part-same l l′ b k e h f =
     let n′ : length (take k (drop b l′)) ≡ k = simp (length-take, length-drop) (omega arith) in
     ext-getD 0 (take k (drop b l)) (take k (drop b l′)) (n ∙ sym n′)
     (λ i hi. let h′ : i < k = omega arith in getD-take k (drop b l) i 0 h′ ∙ getD-drop b l i 0 ∙ f i h′ ∙ sym (getD-drop b l′ i 0) ∙ sym (getD-take k (drop b l′) i 0 h′))
+
+-- the same where the lists may end before
+pub part-alike : (l l′ : List ℕ) (b k : ℕ) → length l ≡ length l′ → ((j : ℕ) → j < k → getD l (b + j) 0 ≡ getD l′ (b + j) 0) → partOf l b k ≡ partOf l′ b k
+unfolding partOf
+part-alike l l′ b k e f =
+    let n : length (take k (drop b l)) ≡ length (take k (drop b l′)) = simp (length-take, length-drop) (rw e) in
+    ext-getD 0 (take k (drop b l)) (take k (drop b l′)) n
+    (λ i hi. let m : i < min k (length l - b) = simp (length-take, length-drop) at hi in
+    let h′ : i < k = omega (arith, min-le-left k (length l - b)) in
+    getD-take k (drop b l) i 0 h′ ∙ getD-drop b l i 0 ∙ f i h′ ∙ sym (getD-drop b l′ i 0) ∙ sym (getD-take k (drop b l′) i 0 h′))
 
 -- blocks of W, one below the other, do not meet
 pub blocks-apart : (s t W : ℕ) → s < t → s * W * 3 + 3 * W ≤ t * W * 3

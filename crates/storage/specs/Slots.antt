@@ -1,7 +1,7 @@
 -- From a change of one texture to the view of the whole set: a scope's, and either half of a tracker's.
 use Prim.Native.Nat.{ℕ, _+_, _*_, _≤_, _<_}
 use native.Mathlib.Omega.{arith}
-use mathlib.Core.Path.{_≡_, refl, sym, ap, _∙_}
+use mathlib.Core.Path.{_≡_, refl, sym, ap, subst, _∙_}
 use mathlib.Core.Logic.{_⊎_, inl, inr}
 use mathlib.Core.List.{List, []}
 use lib.Dec.{eqb, leb}
@@ -16,20 +16,15 @@ use Rattle.model.specs.Sets.{Numbers, Slot, Set, Tracker, withSlots, withTracke
 use Rattle.model.specs.Calls.{owning}
 use Rattle.model.specs.Texture.{Held, single, many}
 use Rattle.storage.specs.Part.{by-lt}
-use Rattle.storage.specs.Storage.{numbersOf, flagsOf, extentOf, ownedOf, startHalf, endHalf, countAt, mipPart, mipOf, mipsIn, mipsOf, heldOf, endsOf, slotWith, setWith, scopeOf, trackerOf, listFrom}
+use Rattle.storage.specs.Storage.{numbersOf, flagsOf, extentOf, ownedOf, startHalf, endHalf, tableIndices, ownedAt, mipsAt, layersAt, stateAt, countAt, mipPart, mipOf, mipsIn, mipsOf, heldOf, endsOf, slotWith, setWith, scopeOf, trackerOf, listFrom}
 use Rattle.storage.specs.Lists.{list-ext, list-set}
-use Rattle.storage.specs.Frames.{Measured, HalfFrame, MipsBecome, half-of, half-word, mips-top, mips-same}
+use Rattle.storage.specs.Stays.{Stays, only, stays-refl, stays-then, stays-set, stays-at, stays-more, OffHead, OffScope, OffTracker, off-scope, head-off, owned-off, mips-off, layers-off, start-off, end-off, start-count-off, end-count-off, mip-stays, Keeps, KeepsBoth, keeps-then, keeps-more, both-then, both-more, HalfFrame, ScopeFrame, BothFrame, TrackerFrame}
+use Rattle.storage.specs.Frames.{Measured, MipsBecome, half-of, half-word, half-below, half-above, frame-below, frame-above, mips-top, mips-same}
 
--- ---- Nothing but the slot of texture i differs
+-- ---- How a frame reads in the view: nothing but the slot of texture i differs
 pub record SlotFrame {H : Type 0} (n i : ℕ) (held held′ : ℕ → H) (t t′ : List ℕ) : Type 0 where
   pub head : (x : ℕ) → x < 8 → getD t′ x 0 ≡ getD t x 0
   pub others : (j : ℕ) → j < n → (j ≡ i → ⊥) → slotWith held′ t′ j ≡ slotWith held t j
-
-pub slot-refl : {H : Type 0} (n i : ℕ) (held : ℕ → H) (t : List ℕ) → SlotFrame n i held held t t
-slot-refl n i held t = record { head = λ x q. refl; others = λ j a b. refl }
-
-pub slot-then : {H : Type 0} {n i : ℕ} {f g h : ℕ → H} {t t₁ t₂ : List ℕ} → SlotFrame n i f g t t₁ → SlotFrame n i g h t₁ t₂ → SlotFrame n i f h t t₂
-slot-then a b = record { head = λ x q. b .head x q ∙ a .head x q; others = λ j p q. b .others j p q ∙ a .others j p q }
 
 -- THE VIEW after a change of one texture
 pub set-becomes : {H : Type 0} {i : ℕ} {held held′ : ℕ → H} {t t′ : List ℕ} (s : Slot H) → i < getD t 0 0 → SlotFrame (getD t 0 0) i held held′ t t′ → slotWith held′ t′ i ≡ s → setWith held′ t′ ≡ withSlots (setWith held t) (set (setWith held t .slots) i s)
@@ -59,43 +54,66 @@ slot-ext held held′ t t′ j a b c e = rw (a, b, c, e)
 module _ {d : Numbers} {h i : ℕ} {t r t′ r′ : List ℕ} (s : Measured d h t r) (hi : i < d .textures) (f : HalfFrame d h i t r t′ r′) where
   -- a word of the head, of ownership or of an extent
   pub half-low : (x : ℕ) → x < 200 → getD t′ x 0 ≡ getD t x 0
-  half-low x q = f .below x (omega (arith, s .half .0)) (λ z. omega (arith, s .half .0))
-
-  -- another texture in the same half
-  pub half-other : (j : ℕ) → j < d .textures → (j ≡ i → ⊥) → heldOf d h t′ r′ j ≡ heldOf d h t r j
-  half-other j a ne =
-      held-ext d h t r t′ r′ j (half-low 5 (omega arith)) (half-low (72 + j) (omega (arith, s .textures))) (f .below (h + j) (omega (arith, s .textures)) (λ z. ne (omega arith)))
-      (λ k q. mip-ext d h t r t′ r′ j k
-      (by-lt j i (λ l. f .below (countAt h j k) (omega (arith, s .mips)) (λ z. omega (arith, s .textures))) (λ l. f .above (countAt h j k) (by-lt i j (λ w. omega arith) (λ w. absurd (ne (omega arith))))))
-      (f .apart j k a q ne))
+  half-low x q = half-below f x (omega (arith, s .half .0)) (λ z. omega (arith, s .half .0))
 
   -- any texture in the other half, whose ranges are lent apart
   pub half-away : (g : ℕ) → ((h + 1088 ≤ g) ⊎ (g + 1088 ≤ h)) → 200 ≤ g → (r₂ : List ℕ) (j : ℕ) → j < d .textures → heldOf d g t′ r₂ j ≡ heldOf d g t r₂ j
   half-away g (inl o) low r₂ j a =
-      held-ext d g t r₂ t′ r₂ j (half-low 5 (omega arith)) (half-low (72 + j) (omega (arith, s .textures))) (f .above (g + j) (omega (arith, s .textures)))
-      (λ k q. mip-ext d g t r₂ t′ r₂ j k (f .above (countAt g j k) (omega (arith, s .textures))) refl)
+      held-ext d g t r₂ t′ r₂ j (half-low 5 (omega arith)) (half-low (72 + j) (omega (arith, s .textures))) (half-above f (g + j) (omega (arith, s .textures)))
+      (λ k q. mip-ext d g t r₂ t′ r₂ j k (half-above f (countAt g j k) (omega (arith, s .textures))) refl)
   half-away g (inr o) low r₂ j a =
-      held-ext d g t r₂ t′ r₂ j (half-low 5 (omega arith)) (half-low (72 + j) (omega (arith, s .textures))) (f .below (g + j) (omega (arith, s .textures)) (λ z. omega (arith, s .textures)))
-      (λ k q. mip-ext d g t r₂ t′ r₂ j k (f .below (countAt g j k) (omega (arith, s .textures, s .mips)) (λ z. omega (arith, s .textures, s .mips))) refl)
+      held-ext d g t r₂ t′ r₂ j (half-low 5 (omega arith)) (half-low (72 + j) (omega (arith, s .textures))) (half-below f (g + j) (omega (arith, s .textures)) (λ z. omega (arith, s .textures)))
+      (λ k q. mip-ext d g t r₂ t′ r₂ j k (half-below f (countAt g j k) (omega (arith, s .textures, s .mips)) (λ z. omega (arith, s .textures, s .mips))) refl)
 
-  half-slots : {H : Type 0} (held held′ : ℕ → H) → ((j : ℕ) → j < d .textures → (j ≡ i → ⊥) → held′ j ≡ held j) → SlotFrame (d .textures) i held held′ t t′
-  half-slots held held′ e = record {
-    head = λ x q. half-low x (omega arith);
-    others = λ j a ne. slot-ext held held′ t t′ j (half-low (8 + j) (omega (arith, s .textures))) (half-low (72 + j) (omega (arith, s .textures))) (half-low (136 + j) (omega (arith, s .textures))) (e j a ne);
-  }
+-- ---- The head reads as before
+pub scope-head : {named : ℕ → Type 0} {d : Numbers} {t r t′ r′ : List ℕ} → ScopeFrame named d t r t′ r′ → (x : ℕ) → x < 8 → getD t′ x 0 ≡ getD t x 0
+scope-head f x q = f .words .same x (λ i _ _. off-scope i x (head-off i x q))
 
-pub scope-half : {d : Numbers} {i : ℕ} {t r t′ r′ : List ℕ} → Measured d startHalf t r → i < d .textures → HalfFrame d startHalf i t r t′ r′ → SlotFrame (d .textures) i (heldOf d startHalf t r) (heldOf d startHalf t′ r′) t t′
-scope-half {d} {i} {t} {r} {t′} {r′} s hi f = half-slots s hi f (heldOf d startHalf t r) (heldOf d startHalf t′ r′) (half-other s hi f)
+pub tracker-head : {named : ℕ → Type 0} {d : Numbers} {t s e t′ s′ e′ : List ℕ} → TrackerFrame named d t s e t′ s′ e′ → (x : ℕ) → x < 8 → getD t′ x 0 ≡ getD t x 0
+tracker-head f x q = f .words .same x (λ i _ _. head-off i x q)
 
-pub start-half : {d : Numbers} {i : ℕ} {t s t′ s′ : List ℕ} (e : List ℕ) → Measured d startHalf t s → i < d .textures → HalfFrame d startHalf i t s t′ s′ → SlotFrame (d .textures) i (endsOf d t s e) (endsOf d t′ s′ e) t t′
-start-half {d} {i} {t} {s} {t′} {s′} e m hi f =
-    half-slots m hi f (endsOf d t s e) (endsOf d t′ s′ e)
-    (λ j a ne. rw (half-other m hi f j a ne, half-away m hi f endHalf (inl (omega arith)) (omega arith) e j a))
+-- ---- A slot that is not named reads as before
+-- a word that is off every other index
+tracker-word : {named : ℕ → Type 0} {t t′ : List ℕ} → Stays OffTracker named t t′ → (j x : ℕ) → (named j → ⊥) → ((i : ℕ) → i < tableIndices → (j ≡ i → ⊥) → OffTracker i x) → getD t′ x 0 ≡ getD t x 0
+tracker-word {named} f j x out o = f .same x (λ i h y. o i h (λ e. out (subst named (sym e) y)))
 
-pub end-half : {d : Numbers} {i : ℕ} {t e t′ e′ : List ℕ} (s : List ℕ) → Measured d endHalf t e → i < d .textures → HalfFrame d endHalf i t e t′ e′ → SlotFrame (d .textures) i (endsOf d t s e) (endsOf d t′ s e′) t t′
-end-half {d} {i} {t} {e} {t′} {e′} s m hi f =
-    half-slots m hi f (endsOf d t s e) (endsOf d t′ s e′)
-    (λ j a ne. rw (half-other m hi f j a ne, half-away m hi f startHalf (inr (omega arith)) (omega arith) s j a))
+scope-word : {named : ℕ → Type 0} {t t′ : List ℕ} → Stays OffScope named t t′ → (j x : ℕ) → (named j → ⊥) → ((i : ℕ) → i < tableIndices → (j ≡ i → ⊥) → OffTracker i x) → getD t′ x 0 ≡ getD t x 0
+scope-word {named} f j x out o = f .same x (λ i h y. off-scope i x (o i h (λ e. out (subst named (sym e) y))))
+
+module _ {named : ℕ → Type 0} {d : Numbers} (n : d .textures ≤ 64) (m : d .mips ≤ 16) where
+  module _ {t r t′ r′ : List ℕ} (f : ScopeFrame named d t r t′ r′) where
+    pub scope-other : (j : ℕ) → j < d .textures → (named j → ⊥) → slotWith (heldOf d startHalf t′ r′) t′ j ≡ slotWith (heldOf d startHalf t r) t j
+    scope-other j h out =
+        let w = scope-word (f .words) j in let few : j < tableIndices = omega arith in
+        let b = w (mipsAt j) out (λ i a ne. mips-off i j a few ne) in
+        slot-ext (heldOf d startHalf t r) (heldOf d startHalf t′ r′) t t′ j (w (ownedAt j) out (λ i a ne. owned-off i j a few ne)) b (w (layersAt j) out (λ i a ne. layers-off i j a few ne))
+        (held-ext d startHalf t r t′ r′ j (scope-head f 5 (omega arith)) b (w (stateAt startHalf j) out (λ i a ne. start-off i j a few ne))
+        (λ k q. mip-ext d startHalf t r t′ r′ j k (w (countAt startHalf j k) out (λ i a ne. start-count-off i j a few ne k (omega arith))) (mip-stays (f .ranges) j k out q)))
+
+  module _ {t s e t′ s′ e′ : List ℕ} (f : TrackerFrame named d t s e t′ s′ e′) where
+    pub tracker-other : (j : ℕ) → j < d .textures → (named j → ⊥) → slotWith (endsOf d t′ s′ e′) t′ j ≡ slotWith (endsOf d t s e) t j
+    tracker-other j h out =
+        let w = tracker-word (f .words) j in let few : j < tableIndices = omega arith in
+        let b = w (mipsAt j) out (λ i a ne. mips-off i j a few ne) in let c = tracker-head f 5 (omega arith) in
+        let x = held-ext d startHalf t s t′ s′ j c b (w (stateAt startHalf j) out (λ i a ne. start-off i j a few ne))
+        (λ k q. mip-ext d startHalf t s t′ s′ j k (w (countAt startHalf j k) out (λ i a ne. start-count-off i j a few ne k (omega arith))) (mip-stays (f .starts) j k out q)) in
+        let y = held-ext d endHalf t e t′ e′ j c b (w (stateAt endHalf j) out (λ i a ne. end-off i j a few ne))
+        (λ k q. mip-ext d endHalf t e t′ e′ j k (w (countAt endHalf j k) out (λ i a ne. end-count-off i j a few ne k (omega arith))) (mip-stays (f .ends) j k out q)) in
+        slot-ext (endsOf d t s e) (endsOf d t′ s′ e′) t t′ j (w (ownedAt j) out (λ i a ne. owned-off i j a few ne)) b (w (layersAt j) out (λ i a ne. layers-off i j a few ne)) (rw (x, y))
+
+-- one index is named
+pub scope-slots : {d : Numbers} {i : ℕ} {t r t′ r′ : List ℕ} → d .textures ≤ 64 → d .mips ≤ 16 → ScopeFrame (only i) d t r t′ r′ → SlotFrame (d .textures) i (heldOf d startHalf t r) (heldOf d startHalf t′ r′) t t′
+scope-slots n m f = record { head = scope-head f; others = scope-other n m f }
+
+pub tracker-slots : {d : Numbers} {i : ℕ} {t s e t′ s′ e′ : List ℕ} → d .textures ≤ 64 → d .mips ≤ 16 → TrackerFrame (only i) d t s e t′ s′ e′ → SlotFrame (d .textures) i (endsOf d t s e) (endsOf d t′ s′ e′) t t′
+tracker-slots n m f = record { head = tracker-head f; others = tracker-other n m f }
+
+-- a change of the start is one of a scope's texture, and one of both halves of a tracker's
+pub scope-half : {d : Numbers} {i : ℕ} {t r t′ r′ : List ℕ} → HalfFrame d startHalf i t r t′ r′ → ScopeFrame (only i) d t r t′ r′
+scope-half f = keeps-more (λ j e. e) (λ j x o. o .start) f
+
+pub tracker-both : {d : Numbers} {i : ℕ} {t s e t′ s′ e′ : List ℕ} → BothFrame d i t s e t′ s′ e′ → TrackerFrame (only i) d t s e t′ s′ e′
+tracker-both f = both-more (λ j e. e) (λ j x o. o .both) f
 
 -- ---- Texture i is owned, with an extent
 abbrev pub ownWords : List ℕ → ℕ → Extent → List ℕ
@@ -112,22 +130,17 @@ module _ (d : Numbers) (t : List ℕ) (i : ℕ) (sh : Extent) (n : d .textures �
   own-word x (inl q) = own-same x (λ z. omega arith) (λ z. omega arith) (λ z. omega arith)
   own-word x (inr q) = own-same x (λ z. omega arith) (λ z. omega arith) (λ z. omega arith)
 
-  own-other : (h : ℕ) → 200 ≤ h → (r : List ℕ) (j : ℕ) → j < d .textures → (j ≡ i → ⊥) → heldOf d h (ownWords t i sh) r j ≡ heldOf d h t r j
-  own-other h low r j a ne =
-      held-ext d h t r (ownWords t i sh) r j (own-word 5 (inl (omega arith))) (own-same (72 + j) (λ z. omega arith) (λ z. ne (omega arith)) (λ z. omega arith)) (own-word (h + j) (inr (omega arith)))
-      (λ k q. mip-ext d h t r (ownWords t i sh) r j k (own-word (countAt h j k) (inr (omega arith))) refl)
+  own-words : Stays OffHead (only i) t (ownWords t i sh)
+  own-words =
+      let few : i < tableIndices = omega arith in
+      stays-then (stays-set t (ownedAt i) 1 few (λ x o. o .owned))
+      (stays-then (stays-set (set t (ownedAt i) 1) (mipsAt i) (sh .mips) few (λ x o. o .mips)) (stays-set (set (set t (ownedAt i) 1) (mipsAt i) (sh .mips)) (layersAt i) (sh .layers) few (λ x o. o .layers)))
 
-  own-slots : {H : Type 0} (held held′ : ℕ → H) → ((j : ℕ) → j < d .textures → (j ≡ i → ⊥) → held′ j ≡ held j) → SlotFrame (d .textures) i held held′ t (ownWords t i sh)
-  own-slots held held′ e = record {
-    head = λ x q. own-word x (inl q);
-    others = λ j a ne. slot-ext held held′ t (ownWords t i sh) j (own-same (8 + j) (λ z. ne (omega arith)) (λ z. omega arith) (λ z. omega arith)) (own-same (72 + j) (λ z. omega arith) (λ z. ne (omega arith)) (λ z. omega arith)) (own-same (136 + j) (λ z. omega arith) (λ z. omega arith) (λ z. ne (omega arith))) (e j a ne);
-  }
+  pub scope-own : (r : List ℕ) → ScopeFrame (only i) d t r (ownWords t i sh) r
+  scope-own r = record { words = stays-more (λ j e. e) (λ j x o. o .head) own-words; ranges = stays-refl r }
 
-  pub scope-own : (r : List ℕ) → SlotFrame (d .textures) i (heldOf d startHalf t r) (heldOf d startHalf (ownWords t i sh) r) t (ownWords t i sh)
-  scope-own r = own-slots (heldOf d startHalf t r) (heldOf d startHalf (ownWords t i sh) r) (own-other startHalf (omega arith) r)
-
-  pub tracker-own : (s e : List ℕ) → SlotFrame (d .textures) i (endsOf d t s e) (endsOf d (ownWords t i sh) s e) t (ownWords t i sh)
-  tracker-own s e = own-slots (endsOf d t s e) (endsOf d (ownWords t i sh) s e) (λ j a ne. rw (own-other startHalf (omega arith) s j a ne, own-other endHalf (omega arith) e j a ne))
+  pub tracker-own : (s e : List ℕ) → TrackerFrame (only i) d t s e (ownWords t i sh) s e
+  tracker-own s e = record { words = stays-more (λ j e. e) (λ j x o. o .head) own-words; starts = stays-refl s; ends = stays-refl e }
 
   module _ (long : length t ≡ 2376) where
     pub own-owned : getD (ownWords t i sh) (8 + i) 0 ≡ 0 → ⊥
@@ -164,13 +177,13 @@ pub become-single : {d : Numbers} {h i v : ℕ} {t r : List ℕ} → Measured d 
 become-single {d} {h} {i} {v} {t} {r} s hi c =
     let w = getD-set-same t (h + i) v 0 (omega (arith, s .table, s .half .1, s .textures)) in
     let k = getD-set-other t (h + i) 5 v 0 (λ z. omega (arith, s .half .0)) in
-    record { held = held-single d h (set t (h + i) v) r i (λ z. c (sym w ∙ z ∙ k)) ∙ ap single w; frame = half-word d h i v t r }
+    record { held = held-single d h (set t (h + i) v) r i (λ z. c (sym w ∙ z ∙ k)) ∙ ap single w; frame = half-word d h i v t r (omega (arith, s .textures)) }
 
 -- the mips of a texture whose state tells COMPLEX
 pub become-many : {d : Numbers} {h i : ℕ} {ss : List (List Range)} {t r t′ r′ : List ℕ} → Measured d h t r → i < d .textures → getD t (h + i) 0 ≡ getD t 5 0 → MipsBecome d h i ss t r t′ r′ → HalfBecomes d h i (many ss) t r t′ r′
 become-many {d} {h} {i} {ss} {t} {r} {t′} {r′} s hi c b =
     record {
-      held = held-many d h t′ r′ i ss (b .frame .below (h + i) (omega arith) ∙ c ∙ sym (b .frame .below 5 (omega (arith, s .half .0)))) (b .mips);
+      held = held-many d h t′ r′ i ss (frame-below (b .frame) (h + i) (omega (arith, s .textures)) ∙ c ∙ sym (frame-below (b .frame) 5 (omega (arith, s .half .0)))) (b .mips);
       frame = half-of (b .frame);
     }
 
@@ -182,4 +195,4 @@ become-marked {d} {h} {i} {v} {t} {r} s hi c =
     let n : mipsIn d (set t (h + i) v) i ≡ mipsIn d t i = mips-same d t (set t (h + i) v) i (getD-set-other t (h + i) (72 + i) v 0 (λ z. omega (arith, s .half .0))) in
     let e : mipsOf d h (set t (h + i) v) r i ≡ mipsOf d h t r i =
     rw n (list-ext (mipOf d h t r i) (mipOf d h (set t (h + i) v) r i) 0 (mipsIn d t i) (λ x _ _. mip-ext d h t r (set t (h + i) v) r i x (getD-set-other t (h + i) (countAt h i x) v 0 (λ z. omega arith)) refl)) in
-    record { held = held-many d h (set t (h + i) v) r i (mipsOf d h t r i) (w ∙ c ∙ sym k) e; frame = half-word d h i v t r }
+    record { held = held-many d h (set t (h + i) v) r i (mipsOf d h t r i) (w ∙ c ∙ sym k) e; frame = half-word d h i v t r (omega (arith, s .textures)) }

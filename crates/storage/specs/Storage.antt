@@ -36,6 +36,27 @@ startHalf = 200
 abbrev pub endHalf : ℕ
 endHalf = 1288
 
+-- ---- Where the words of an index stand: whether it is owned, its extent, and its state in the half that begins at h
+abbrev pub ownedAt : ℕ → ℕ
+ownedAt i = 8 + i
+
+abbrev pub mipsAt : ℕ → ℕ
+mipsAt i = 72 + i
+
+abbrev pub layersAt : ℕ → ℕ
+layersAt i = 136 + i
+
+abbrev pub stateAt : ℕ → ℕ → ℕ
+stateAt h i = h + i
+
+-- how many indices a table has words for
+abbrev pub tableIndices : ℕ
+tableIndices = 64
+
+-- where the ranges of index i begin, and those of i - 1 end
+abbrev pub rangesAt : Numbers → ℕ → ℕ
+rangesAt d i = i * d .mips * d .layers * 3
+
 -- where the count of the ranges of (i, k) stands, in the half that begins at h
 abbrev pub countAt : ℕ → ℕ → ℕ → ℕ
 countAt h i k = h + 64 + (16 * i + k)

@@ -14,7 +14,8 @@ use Rattle.model.specs.Sets.{Numbers}
 use Rattle.model.specs.RangedStates.{range}
 use Rattle.model.specs.Texture.{Held, many, onMips, freshMips}
 use Rattle.storage.specs.Storage.{numbersOf, mipsIn, mipsOf}
-use Rattle.storage.specs.Frames.{Measured, MipsBecome, HalfFrame, half-of, half-then, half-word}
+use Rattle.storage.specs.Stays.{HalfFrame, keeps-then}
+use Rattle.storage.specs.Frames.{Measured, MipsBecome, frame-below, half-of, half-word}
 use Rattle.storage.specs.Slots.{HalfBecomes, become-many, half-low}
 use Rattle.texture.specs.Ready.{ManyReady, Selects, EveryReady}
 use Rattle.texture.specs.Uses.{UseReady, use-then, use-mips, use-every, use-selects, fresh-many}
@@ -24,7 +25,7 @@ module _ {h i : ℕ} {sh : Extent} {all : Bool} {q : Selector} {p : UsageFlags} 
   t₁ = set t (h + i) (p .complex)
 
   first : UseReady (numbersOf t) h t₁ r i sh all q p new
-  first = use-then u (half-word (numbersOf t) h i (p .complex) t r)
+  first = use-then u (half-word (numbersOf t) h i (p .complex) t r (omega (arith, u .texture, u .measured .textures)))
 
   -- the state of the first step tells COMPLEX
   told : getD t₁ (h + i) 0 ≡ getD t₁ 5 0
@@ -61,11 +62,11 @@ module _ {h i : ℕ} {sh : Extent} {all : Bool} {q : Selector} {p : UsageFlags} 
     break-then {t₃} {r₃} g c =
         let c₂ : MipsBecome (numbersOf t) h i (g (mipsOf (numbersOf t) h t₂ r₂ i)) t₂ r₂ t₃ r₃ =
         subst (λ (d : Numbers). MipsBecome d h i (g (mipsOf d h t₂ r₂ i)) t₂ r₂ t₃ r₃) (second .measured .dims) c in
-        let k : getD t₂ (h + i) 0 ≡ getD t₂ 5 0 = b₂ .frame .below (h + i) (omega (arith, u .measured .textures)) ∙ told ∙ sym (b₂ .frame .below 5 (omega (arith, u .measured .half .0))) in
+        let k : getD t₂ (h + i) 0 ≡ getD t₂ 5 0 = frame-below (b₂ .frame) (h + i) (omega (arith, u .measured .textures)) ∙ told ∙ sym (frame-below (b₂ .frame) 5 (omega (arith, u .measured .half .0))) in
         let x = become-many (second .measured) (u .texture) k c₂ in
         record {
           held = x .held ∙ ap (λ (ss : List (List Range)). many (g ss)) (b₂ .mips);
-          frame = half-then (half-word (numbersOf t) h i (p .complex) t r) (half-then (half-of (b₂ .frame)) (x .frame));
+          frame = keeps-then (half-word (numbersOf t) h i (p .complex) t r (omega (arith, u .texture, u .measured .textures))) (keeps-then (half-of (b₂ .frame)) (x .frame));
         }
 
     pub break-done : {t₃ r₃ : List ℕ} (f : List Range → List Range) → MipsBecome (numbersOf t₂) h i (onMips q f 0 (mipsOf (numbersOf t₂) h t₂ r₂ i)) t₂ r₂ t₃ r₃ → HalfBecomes (numbersOf t) h i (many (onMips q f 0 (freshMips sh st))) t r t₃ r₃

@@ -19,7 +19,8 @@ use Rattle.model.specs.Sets.{Numbers}
 use Rattle.model.specs.Representation.{mipStart, mipEnd, layerStart, layerEnd}
 use Rattle.model.specs.RangedStates.{Tiles}
 use Rattle.storage.specs.Storage.{numbersOf, mipsIn, mipOf, mipsOf}
-use Rattle.storage.specs.Frames.{Measured, Frame, MipsBecome, MipReady, mips-long, mips-top}
+use Rattle.storage.specs.Stays.{Frame}
+use Rattle.storage.specs.Frames.{Measured, MipsBecome, MipReady, mips-long, mips-top}
 use Rattle.texture.specs.Editing.{edited, edited-long, edited-in, Editing, editing-measured, editing-word, editing-here, editing-ready, editing-turn}
 use Rattle.texture.specs.Walks.{MipWalk, MipWalked, MipsWalked, walk-measured, walk-word, walk-count, walk-ready, walk-on, walk-stopped}
 use Rattle.texture.specs.declared.Stopped.the-variants.{At}

@@ -17,8 +17,9 @@ use Rattle.model.specs.Sets.{Numbers}
 use Rattle.model.specs.Representation.{full}
 use Rattle.model.specs.RangedStates.{range}
 use Rattle.model.specs.Texture.{Held, single, many, Given, givenSingle, givenMany, Piece, piecesOf, fromHeld, freshMips, paintAll, insert, spreadPiece, mergeMip, asMany, merge}
-use Rattle.storage.specs.Storage.{numbersOf, flagsOf, mipsIn, mipOf, mipsOf, heldOf}
-use Rattle.storage.specs.Frames.{Measured, Frame, MipsBecome, half-of, half-then, half-word, frame-then, measured-then, mips-long}
+use Rattle.storage.specs.Storage.{numbersOf, flagsOf, countAt, mipsIn, mipOf, mipsOf, heldOf}
+use Rattle.storage.specs.Stays.{Frame, keeps-then}
+use Rattle.storage.specs.Frames.{Measured, MipsBecome, frame-below, half-of, half-word, measured-then, mips-long}
 use Rattle.storage.specs.Slots.{HalfBecomes, become-single, become-many, become-marked, held-single, held-many}
 use Rattle.texture.specs.declared.Stopped.{Stopped}
 use Rattle.texture.specs.declared.Stopped.the-variants.{Nowhere, At}
@@ -128,10 +129,10 @@ module _ {h i from : ℕ} {sh : Extent} {p : UsageFlags} {t r t₂ r₂ : List �
               (subst (λ (d : Numbers). MipsWalked d h i (passes (taken (Spread cur) p) (piecesOf gs) (mipsOf d h t₃ r₃ i)) t₃ r₃ z t₄ r₄) dims₃ w)
 
           both : Frame (numbersOf t) h i t r t₄ r₄
-          both = frame-then (b .frame) (v .into .frame)
+          both = keeps-then (b .frame) (v .into .frame)
 
-          word : (y : ℕ) → y < h + 64 + 16 * i → getD t₄ y 0 ≡ getD t y 0
-          word = both .below
+          word : (y : ℕ) → y < countAt h i 0 → getD t₄ y 0 ≡ getD t y 0
+          word = frame-below both
 
           held-single-is : heldOf (numbersOf t) h t r i ≡ single cur
           held-single-is = held-single (numbersOf t) h t r i (λ q. ne (e ∙ q ∙ sym complex-is)) ∙ ap single (sym e)
@@ -155,4 +156,4 @@ module _ {h i from : ℕ} {sh : Extent} {p : UsageFlags} {t r t₂ r₂ : List �
               let n : s .conflict ≡ none = sym (v .conflict) ∙ ap stoppedOf q in
               let m = become-marked (measured-then (x .measured) both) (x .texture) (complex-is ∙ sym (word 5 (omega (arith, x .measured .half .0)))) in
               rw (given-many, held-single-is, n)
-              record { conflict = refl; into = record { held = m .held ∙ ap many (v .into .mips); frame = half-then (half-of both) (m .frame) } }
+              record { conflict = refl; into = record { held = m .held ∙ ap many (v .into .mips); frame = keeps-then (half-of both) (m .frame) } }

@@ -16,7 +16,7 @@ use Rattle.model.specs.Base.{Stop, fine, stopped, walk}
 use Rattle.model.specs.StateRules.{unite}
 use Rattle.model.specs.Texture.{Held, single, many, mergeMip, mergeEvery, invalidUse, asMany, merge}
 use Rattle.storage.specs.Storage.{numbersOf, flagsOf, mipsOf, heldOf}
-use Rattle.storage.specs.Frames.{half-refl}
+use Rattle.storage.specs.Stays.{keeps-refl}
 use Rattle.storage.specs.Slots.{HalfBecomes, become-single, become-many, held-single, held-many}
 use Rattle.texture.specs.declared.Stopped.{Stopped}
 use Rattle.texture.specs.declared.Stopped.the-variants.{Nowhere, At}
@@ -38,7 +38,7 @@ module _ {h i : ℕ} {sh : Extent} {all : Bool} {q : Selector} {p : UsageFlags} 
         subst (λ (w : Stop InvalidUse Held). HalfMerged (numbersOf t) h i w t r (At (invalidUse q cur new)) t r) (sym (single-conflict p sh cur new all q (x .whole) e))
         record {
           conflict = refl;
-          into = record { held = held-single (numbersOf t) h t r i (λ z. s .single (s .here ∙ z ∙ sym complex-is)) ∙ ap single (sym (s .here)); frame = half-refl (numbersOf t) h i t r };
+          into = record { held = held-single (numbersOf t) h t r i (λ z. s .single (s .here ∙ z ∙ sym complex-is)) ∙ ap single (sym (s .here)); frame = keeps-refl t r };
         }
 
     pub all-left : (u : ℕ) → unite p cur new ≡ some u → all ≡ true → HalfMerged (numbersOf t) h i (merge p sh (single cur) (useOf all q new)) t r Nowhere (set t (h + i) u) r

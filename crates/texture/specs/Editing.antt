@@ -16,7 +16,8 @@ use Rattle.model.specs.Representation.{mipStart, mipEnd, inMips}
 use Rattle.model.specs.Texture.{onMips}
 use Rattle.storage.specs.Part.{by-lt, by-eq}
 use Rattle.storage.specs.Storage.{mipsIn, mipOf, mipsOf, countAt}
-use Rattle.storage.specs.Frames.{Measured, Frame, MipsBecome, MipReady, frame-refl, frame-then, measured-then, mips-same, mips-top, mip-at, mips-long}
+use Rattle.storage.specs.Stays.{Frame, keeps-refl, keeps-then}
+use Rattle.storage.specs.Frames.{Measured, MipsBecome, MipReady, frame-below, measured-then, mips-same, mips-top, mip-at, mips-long}
 
 -- ---- n elements from a on, each made anew from itself
 module _ {A : Type 0} (z : A) (f : ℕ → A → A) where
@@ -80,7 +81,7 @@ pub record Editing (f : ℕ → List Range → List Range) (d : Numbers) (h i a 
 
 pub editing-start : (f : ℕ → List Range → List Range) (d : Numbers) (h i a : ℕ) (t r : List ℕ) → Editing f d h i a t r a t r
 unfolding edited
-editing-start f d h i a t r = let e : a - a ≡ 0 = omega arith in record { from = omega arith; mips = rw e; frame = frame-refl d h i t r }
+editing-start f d h i a t r = let e : a - a ≡ 0 = omega arith in record { from = omega arith; mips = rw e; frame = keeps-refl t r }
 
 module _ {f : ℕ → List Range → List Range} {d : Numbers} {h i a : ℕ} {t₀ r₀ : List ℕ} {m : ℕ} {t r : List ℕ} (s : Measured d h t₀ r₀) (hi : i < d .textures) (w : Editing f d h i a t₀ r₀ m t r) where
   pub editing-measured : Measured d h t r
@@ -88,7 +89,7 @@ module _ {f : ℕ → List Range → List Range} {d : Numbers} {h i a : ℕ} {t�
 
   -- a word of the head, of ownership or of an extent
   pub editing-word : (x : ℕ) → x < 200 → getD t x 0 ≡ getD t₀ x 0
-  editing-word x q = w .frame .below x (omega (arith, s .half .0))
+  editing-word x q = frame-below (w .frame) x (omega (arith, s .half .0))
 
   pub editing-count : mipsIn d t i ≡ mipsIn d t₀ i
   editing-count = mips-same d t₀ t i (editing-word (72 + i) (omega (arith, s .textures)))
@@ -109,7 +110,7 @@ module _ {f : ℕ → List Range → List Range} {d : Numbers} {h i a : ℕ} {t�
       let n : m + 1 - a ≡ suc (m - a) = omega arith in
       let k : a + (m - a) ≡ m = omega arith in
       let x : mipOf d h t r i m ≡ getD (mipsOf d h t₀ r₀ i) m [] = editing-here m (omega arith) q ∙ sym (mip-at d h t₀ r₀ i m [] q) in
-      record { from = omega arith; mips = b .mips ∙ rw (n, k, x, w .mips); frame = frame-then (w .frame) (b .frame) }
+      record { from = omega arith; mips = b .mips ∙ rw (n, k, x, w .mips); frame = keeps-then (w .frame) (b .frame) }
 
   -- all mips of a selector are done
   pub editing-end : (q : Selector) (g : List Range → List Range) → f ≡ (λ (k : ℕ). g) → a ≡ mipStart q → m ≡ mipEnd q → mipEnd q ≤ mipsIn d t₀ i → MipsBecome d h i (onMips q g 0 (mipsOf d h t₀ r₀ i)) t₀ r₀ t r

@@ -21,7 +21,8 @@ use Rattle.isolating.specs.Tiling.{by-test, paint-tiles}
 use Rattle.mips.specs.Merge.{mergeRun, merge-mip, merge-other}
 use Rattle.mips.specs.Kept.{run-tiles, update-tiles}
 use Rattle.storage.specs.Storage.{numbersOf, mipsIn, mipOf, mipsOf}
-use Rattle.storage.specs.Frames.{Measured, Frame, MipsBecome, frame-refl, frame-then, measured-then, mips-same, mip-at, mips-long}
+use Rattle.storage.specs.Stays.{Frame, keeps-refl, keeps-then}
+use Rattle.storage.specs.Frames.{Measured, MipsBecome, frame-below, measured-then, mips-same, mip-at, mips-long}
 use Rattle.texture.specs.declared.Stopped.{Stopped}
 use Rattle.texture.specs.declared.Stopped.the-variants.{Nowhere, At}
 use Rattle.texture.specs.declared.Doing.{Doing}
@@ -135,7 +136,7 @@ module _ {h i layers : ℕ} {t r : List ℕ} (m : ManyReady (numbersOf t) h t r 
   pub giving-start : (left : List (List Range) → Stop InvalidUse (List (List Range))) → Giving h i layers (left (mipsOf (numbersOf t) h t r i)) t r left t r
   giving-start left = record {
     ends = refl;
-    frame = frame-refl (numbersOf t) h i t r;
+    frame = keeps-refl t r;
     tiled = tiled-of layers (mipsOf (numbersOf t) h t r i) (λ k b.
         let l : k < mipsIn (numbersOf t) t i = rw (mips-long (numbersOf t) h t r i) at b in
         subst (λ (s : List Range). Tiles 0 s layers) (sym (mip-at (numbersOf t) h t r i k [] l)) (m .tiled k l));
@@ -146,7 +147,7 @@ module _ {h i layers : ℕ} {goal : Stop InvalidUse (List (List Range))} {t₀ r
   dims = measured-then (m .measured) (g .frame) .dims
 
   pub giving-word : (x : ℕ) → x < 200 → getD t x 0 ≡ getD t₀ x 0
-  giving-word x q = g .frame .below x (omega (arith, m .measured .half .0))
+  giving-word x q = frame-below (g .frame) x (omega (arith, m .measured .half .0))
 
   -- the texture is ready for the next piece
   pub giving-ready : ManyReady (numbersOf t) h t r i layers
@@ -172,7 +173,7 @@ module _ {h i layers : ℕ} {goal : Stop InvalidUse (List (List Range))} {t₀ r
     pub giving-turn : stoppedOf x ≡ none → Tiled layers (f (mipsOf (numbersOf t₀) h t r i) .value) → Giving h i layers goal t₀ r₀ next t′ r′
     giving-turn e k = record {
       ends = rest none e;
-      frame = frame-then (g .frame) (here .into .frame);
+      frame = keeps-then (g .frame) (here .into .frame);
       tiled = subst (λ (ss : List (List Range)). Tiled layers ss) (sym (here .into .mips)) k;
     }
 
@@ -181,7 +182,7 @@ module _ {h i layers : ℕ} {goal : Stop InvalidUse (List (List Range))} {t₀ r
         let z = rest (some c) e in
         record {
           conflict = ap (λ (s : Stop InvalidUse (List (List Range))). s .conflict) z;
-          into = record { mips = ap (λ (s : Stop InvalidUse (List (List Range))). s .value) z; frame = frame-then (g .frame) (here .into .frame) };
+          into = record { mips = ap (λ (s : Stop InvalidUse (List (List Range))). s .value) z; frame = keeps-then (g .frame) (here .into .frame) };
         }
 
   -- nothing is left

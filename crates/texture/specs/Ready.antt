@@ -17,7 +17,7 @@ use Rattle.isolating.specs.Isolation.{IsolateRoom}
 use Rattle.isolating.specs.Tiling.{isolate-room}
 use Rattle.storage.specs.Part.{baseOf, partOf, part-length, by-lt}
 use Rattle.storage.specs.Storage.{numbersOf, mipsIn, countAt, mipPart, mipOf, mipsOf}
-use Rattle.storage.specs.Frames.{Measured, Frame, MipsBecome, MipReady, mip-is, mip-put, room-of, mips-top, measured-then, mips-same}
+use Rattle.storage.specs.Frames.{Measured, MipsBecome, MipReady, mip-is, mip-put, room-of, mips-top, measured-then, mips-same}
 use Rattle.storage.specs.Locate.{LocatedAt}
 use Rattle.storage.specs.declared.Located.{Located}
 

@@ -21,7 +21,8 @@ use Rattle.model.specs.RangedStates.{range, coalesce, paint, Tiles}
 use Rattle.model.specs.Texture.{Held, single, many, Given, givenSingle, givenMany, Piece, onMips, freshMips, paintAll, insert, spreadPiece, mergeMip, mergeEvery, invalidUse, asMany, merge}
 use Rattle.isolating.specs.Tiling.{tiles-one}
 use Rattle.storage.specs.Storage.{numbersOf, flagsOf, mipsIn, mipOf, mipsOf, heldOf}
-use Rattle.storage.specs.Frames.{Measured, Frame, HalfFrame, MipsBecome, half-of, half-then, half-measured, half-word, mips-same, mip-at, mips-long}
+use Rattle.storage.specs.Stays.{Frame, HalfFrame}
+use Rattle.storage.specs.Frames.{Measured, MipsBecome, half-of, half-measured, half-word, mips-same, mip-at, mips-long}
 use Rattle.storage.specs.Slots.{HalfBecomes, become-single, become-many, held-many, held-single, half-low}
 use Rattle.texture.specs.declared.Stopped.{Stopped}
 use Rattle.texture.specs.declared.Stopped.the-variants.{Nowhere, At}

@@ -11,7 +11,8 @@ use Rattle.model.specs.declared.InvalidUse.{InvalidUse}
 use Rattle.model.specs.Base.{Stop, fine, walk}
 use Rattle.model.specs.Sets.{Numbers}
 use Rattle.storage.specs.Storage.{mipsIn, mipOf, mipsOf}
-use Rattle.storage.specs.Frames.{Measured, Frame, MipsBecome, MipReady, frame-refl, frame-then, measured-then, mips-same, mips-top, mip-at, mips-long}
+use Rattle.storage.specs.Stays.{Frame, keeps-refl, keeps-then}
+use Rattle.storage.specs.Frames.{Measured, MipsBecome, MipReady, frame-below, measured-then, mips-same, mips-top, mip-at, mips-long}
 use Rattle.texture.specs.Walking.{Walking, walk-start, walk-turn, walk-stop, walk-end, walk-skip}
 use Rattle.texture.specs.declared.Stopped.{Stopped}
 use Rattle.texture.specs.declared.Stopped.the-variants.{Nowhere, At}
@@ -41,7 +42,7 @@ module _ (f : ℕ → List Range → Stop InvalidUse (List Range)) (d : Numbers)
   walk-from lo q under = record {
     walking = walk-skip f [] (mipsOf d h t₀ r₀ i) lo (rw (mips-long d h t₀ r₀ i) q) under;
     left = λ k a b. refl;
-    frame = frame-refl d h i t₀ r₀;
+    frame = keeps-refl t₀ r₀;
   }
 
   module _ {m : ℕ} {t r : List ℕ} (s : Measured d h t₀ r₀) (hi : i < d .textures) (w : MipWalk m t r) where
@@ -49,7 +50,7 @@ module _ (f : ℕ → List Range → Stop InvalidUse (List Range)) (d : Numbers)
     walk-measured = measured-then s (w .frame)
 
     pub walk-word : (x : ℕ) → x < 200 → getD t x 0 ≡ getD t₀ x 0
-    walk-word x q = w .frame .below x (omega (arith, s .half .0))
+    walk-word x q = frame-below (w .frame) x (omega (arith, s .half .0))
 
     pub walk-count : mipsIn d t i ≡ mipsIn d t₀ i
     walk-count = mips-same d t₀ t i (walk-word (72 + i) (omega (arith, s .textures)))
@@ -71,10 +72,10 @@ module _ (f : ℕ → List Range → Stop InvalidUse (List Range)) (d : Numbers)
       conflict-is = rw here (sym (k .conflict))
 
       frame-is : Frame d h i t₀ r₀ t′ r′
-      frame-is = frame-then (w .frame) (k .into .frame)
+      frame-is = keeps-then (w .frame) (k .into .frame)
 
       count-is : mipsIn d t′ i ≡ mipsIn d t₀ i
-      count-is = mips-same d t₀ t′ i (frame-is .below (72 + i) (omega (arith, s .half .0, s .textures)))
+      count-is = mips-same d t₀ t′ i (frame-below frame-is (72 + i) (omega (arith, s .half .0, s .textures)))
 
       -- a mip that comes later is not touched
       later : (x : ℕ) → m + 1 ≤ x → x < mipsIn d t₀ i → mipOf d h t′ r′ i x ≡ mipOf d h t₀ r₀ i x

@@ -4,3 +4,4 @@ pub mod LogLaws
 pub mod OpenedLaws
 pub mod StepLaws
 pub mod TraceLaws
+pub mod Untouched

@@ -24,6 +24,7 @@ use Rattle.checks.specs.Head.{selectorOf}
 use Rattle.merging.specs.Merged.{Merged}
 use Rattle.setting.specs.declared.Answered.{Answered}
 use Rattle.setting.specs.Tracked.{logOf, Logs}
+use Rattle.storage.specs.Stays.{only}
 use Rattle.removing.specs.Removed.{Removed}
 use Rattle.agreement.specs.WellFormedSets.{All, Word, GivenWord}
 use Rattle.agreement.specs.LogBound.{entries, trackerCapacity, capacityOf}
@@ -80,8 +81,8 @@ sparse-done [] p = refl
 sparse-done (i ∷ is) p = refl
 
 -- its contract, of any call m of the model
-abbrev Sparse : Bool → CallResult InvalidUse (List Entry) Pair → LentTracker → LentScope → LogHead → List ℕ → Answered → LentTracker → List ℕ → List ℕ → Type 0
-Sparse fits m a g h l x b t l′ = Removed fits m h (a .table) (a .starts) (a .ends) (g .table) (g .ranges) l x (b .table) (b .starts) (b .ends) t l′
+abbrev Sparse : List ℕ → Bool → CallResult InvalidUse (List Entry) Pair → LentTracker → LentScope → LogHead → List ℕ → Answered → LentTracker → List ℕ → List ℕ → Type 0
+Sparse is fits m a g h l x b t l′ = Removed is fits m h (a .table) (a .starts) (a .ends) (g .table) (g .ranges) l x (b .table) (b .starts) (b .ends) t l′
 
 -- ---- What a step that is the model's gives
 pub record Follows (r : CallResult InvalidUse (List Entry) (Sets ranged)) (s : Step) : Type 0 where
@@ -105,9 +106,9 @@ module _ (k : Lent) (ready : Ready k) (s : Step) (empty : Empty (logOf (s .log) 
   no-call c = record { answer = c .answer; after = ap viewOf (c .sets); entries = no-entries (c .log); ready = subst Ready (sym (c .sets)) ready }
 
   -- a merge into a scope a, at n
-  merged : (n : ℕ) (a : LentScope) (fits : Bool) (m : CallResult InvalidUse (List Entry) (Set Held)) → ScopeReady a → fits ≡ true
+  merged : {named : ℕ → Type 0} (n : ℕ) (a : LentScope) (fits : Bool) (m : CallResult InvalidUse (List Entry) (Set Held)) → ScopeReady a → fits ≡ true
       → m .log ≡ [] → m .after .numbers ≡ scopeIn a .numbers → scopeFits (m .after) ≡ true
-      → MergedAt n (λ x b. Merged fits m (a .table) (a .ranges) x (b .table) (b .ranges)) k s
+      → MergedAt n (λ x b. Merged named fits m (a .table) (a .ranges) x (b .table) (b .ranges)) k s
       → Follows (into ranged m (λ x. withScopes ranged (viewOf k) (set (map scopeIn (k .scopes)) n x))) s
   unfolding merging firstFailing
   merged n a fits m test f silent same well c =
@@ -118,7 +119,7 @@ module _ (k : Lent) (ready : Ready k) (s : Step) (empty : Empty (logOf (s .log) 
         after = ap viewOf (c .sets) ∙ ap (withScopes ranged (viewOf k)) (set-map scopeIn (k .scopes) n b ∙ ap (set (map scopeIn (k .scopes)) n) view);
         entries = no-entries (c .log) ∙ sym (ap pending silent);
         ready = subst Ready (sym (c .sets)) (record {
-          scopes = all-set ScopeReady (k .scopes) n b (scope-again a b (m .after) view (p .long) same well test) (ready .scopes);
+          scopes = all-set ScopeReady (k .scopes) n b (scope-again a b (m .after) view (p .stays .ranges .long) same well test) (ready .scopes);
           trackers = ready .trackers;
         });
       }
@@ -136,14 +137,14 @@ module _ (k : Lent) (ready : Ready k) (s : Step) (empty : Empty (logOf (s .log) 
     logs-entries c = rw (c .head, c .entries) (own .entries)
 
   -- a call into a tracker a, at n
-  tracked : (n : ℕ) (a : LentTracker) (fits : Bool) (o : Option Refusal) (out : CallResult InvalidUse (List Entry) (Tracker Held)) → TrackerReady a → fits ≡ true
+  tracked : {named : ℕ → Type 0} (n : ℕ) (a : LentTracker) (fits : Bool) (o : Option Refusal) (out : CallResult InvalidUse (List Entry) (Tracker Held)) → TrackerReady a → fits ≡ true
       → out .answer ≡ done → out .after .set .numbers ≡ trackerIn a .set .numbers → trackerFits (unless o (trackerIn a) out .after) ≡ true
       → entries (unless o (trackerIn a) out .log) ≤ capacity (trackerIn a .set .numbers) → capacity (trackerIn a .set .numbers) ≤ s .emptied .head .free
-      → TrackedAt n (TrackerCall fits (unless o (trackerIn a) out) a) k s
+      → TrackedAt n (TrackerCall named fits (unless o (trackerIn a) out) a) k s
       → Follows (into ranged (unless o (trackerIn a) out) (λ x. withTrackers ranged (viewOf k) (set (map trackerIn (k .trackers)) n x))) s
-  tracked n a fits o out test f d same well few room c =
+  tracked {named} n a fits o out test f d same well few room c =
       let m = unless o (trackerIn a) out in let b = c .tracker in
-      let p = subst (λ (t : Bool). TrackerCall t m a (s .emptied .head) (s .log) (s .answered) b (s .logged)) f (c .contract) in
+      let p = subst (λ (t : Bool). TrackerCall named t m a (s .emptied .head) (s .log) (s .answered) b (s .logged)) f (c .contract) in
       let r = le-trans few room in
       let view : trackerIn b ≡ m .after = p .view ∙ own (trackerIn a) o out d r .after in
       record {
@@ -153,22 +154,22 @@ module _ (k : Lent) (ready : Ready k) (s : Step) (empty : Empty (logOf (s .log) 
         ready = subst Ready (sym (c .sets)) (record {
           scopes = ready .scopes;
           trackers = all-set TrackerReady (k .trackers) n b
-              (tracker-again a b (m .after) view (p .start-long) (p .end-long) (kept o (trackerIn a) out (λ (t : Tracker Held). t .set .numbers) same) well test) (ready .trackers);
+              (tracker-again a b (m .after) view (p .stays .starts .long) (p .stays .ends .long) (kept o (trackerIn a) out (λ (t : Tracker Held). t .set .numbers) same) well test) (ready .trackers);
         });
       }
 
   -- the sparse call, into a tracker a at n and out of a scope g at m
-  removed : (n m : ℕ) (a : LentTracker) (g : LentScope) (fits : Bool) (o : Option Refusal) (out : CallResult InvalidUse (List Entry) Pair)
+  removed : {is : List ℕ} (n m : ℕ) (a : LentTracker) (g : LentScope) (fits : Bool) (o : Option Refusal) (out : CallResult InvalidUse (List Entry) Pair)
       → TrackerReady a → ScopeReady g → fits ≡ true
       → out .answer ≡ done → numbersIn (out .after) ≡ numbersIn (trackerIn a, scopeIn g)
       → (trackerFits (unless o (trackerIn a, scopeIn g) out .after .0) ≡ true) × (scopeFits (unless o (trackerIn a, scopeIn g) out .after .1) ≡ true)
       → entries (unless o (trackerIn a, scopeIn g) out .log) ≤ capacity (trackerIn a .set .numbers) → capacity (trackerIn a .set .numbers) ≤ s .emptied .head .free
-      → RemovedAt n m g (Sparse fits (unless o (trackerIn a, scopeIn g) out) a g) k s
+      → RemovedAt n m g (Sparse is fits (unless o (trackerIn a, scopeIn g) out) a g) k s
       → Follows (into ranged (unless o (trackerIn a, scopeIn g) out) (λ x. record { scopes = set (map scopeIn (k .scopes)) m (x .1); trackers = set (map trackerIn (k .trackers)) n (x .0) })) s
-  removed n m a g fits o out test test′ f d same well few room c =
+  removed {is} n m a g fits o out test test′ f d same well few room c =
       let was : Pair = (trackerIn a, scopeIn g) in let r = unless o was out in let b = c .tracker in
       let h : LentScope = record { table = c .table; ranges = g .ranges } in
-      let p = subst (λ (t : Bool). Sparse t r a g (s .emptied .head) (s .log) (s .answered) b (c .table) (s .logged)) f (c .contract) in
+      let p = subst (λ (t : Bool). Sparse is t r a g (s .emptied .head) (s .log) (s .answered) b (c .table) (s .logged)) f (c .contract) in
       let enough = le-trans few room in
       let after = own was o out d enough .after in
       let view : trackerIn b ≡ r .after .0 = p .tracker ∙ ap (λ (x : Pair). x .0) after in
@@ -184,7 +185,7 @@ module _ (k : Lent) (ready : Ready k) (s : Step) (empty : Empty (logOf (s .log) 
         ready = subst Ready (sym (c .sets)) (record {
           scopes = all-set ScopeReady (k .scopes) m h (scope-again g h (r .after .1) view′ refl (ap (λ (x : Numbers × Numbers). x .1) numbers) (well .1) test′) (ready .scopes);
           trackers = all-set TrackerReady (k .trackers) n b
-              (tracker-again a b (r .after .0) view (p .start-long) (p .end-long) (ap (λ (x : Numbers × Numbers). x .0) numbers) (well .0) test) (ready .trackers);
+              (tracker-again a b (r .after .0) view (p .stays .starts .long) (p .stays .ends .long) (ap (λ (x : Numbers × Numbers). x .0) numbers) (well .0) test) (ready .trackers);
         });
       }
 
@@ -233,7 +234,7 @@ module _ (k : Lent) (ready : Ready k) (s : Step) (empty : Empty (logOf (s .log) 
       let x = scopeIn a in let o = singleRefusal (headOf x) (i .0) sh sel st in
       merged n a (scopeTest a) (mergeSingle ranged x (i .0) sh sel st) p p (quiet o x _ refl) (kept o x _ (λ (y : Set Held). y .numbers) refl)
       (merge-single-fits x (and-left _ _ p) (i .0) sh sel st w)
-      (subst (λ (q : Option Selector). MergedAt n (λ y b. Merged (scopeTest a) (mergeSingle ranged x (i .0) sh q st) (a .table) (a .ranges) y (b .table) (b .ranges)) k s) (selector-back sel) c)
+      (subst (λ (q : Option Selector). MergedAt n (λ y b. Merged (only (i .0)) (scopeTest a) (mergeSingle ranged x (i .0) sh q st) (a .table) (a .ranges) y (b .table) (b .ranges)) k s) (selector-back sel) c)
 
   merge-scope : (n : ℕ) (a g : LentScope) → ScopeReady a → ScopeReady g → MergedAt n (MergeUsageScope a g) k s → Follows (putScope n (mergeUsageScope ranged (scopeIn a) (scopeIn g))) s
   merge-scope n a g p q =

@@ -29,6 +29,7 @@ use Rattle.model.specs.Texture.{Held, Entry, ranged}
 use Rattle.model.specs.WellFormed.{wellFormedScope, wellFormedTracker}
 use Rattle.model.specs.Log.{emptying}
 use Rattle.storage.specs.Storage.{scopeOf, trackerOf}
+use Rattle.storage.specs.Stays.{only, ownedBy}
 use Rattle.barrier.specs.Entries.{entriesOf}
 use Rattle.checks.specs.Head.{selectorOf}
 use Rattle.agreement.specs.Grid.{Grid, SubresourceConflict, grid}
@@ -130,33 +131,34 @@ openedSets scopes trackers = record {
 -- `merge_single`
 abbrev pub MergeSingle : LentScope → TrackerIndex → Extent → Selection → ℕ → Outcome → LentScope → Type 0
 MergeSingle s i sh q st x s′ =
-    Merged (scopeTest s) (mergeSingle ranged (scopeIn s) (i .0) sh (selectorOf q) st) (s .table) (s .ranges) x (s′ .table) (s′ .ranges)
+    Merged (only (i .0)) (scopeTest s) (mergeSingle ranged (scopeIn s) (i .0) sh (selectorOf q) st) (s .table) (s .ranges) x (s′ .table) (s′ .ranges)
 
 -- `merge_usage_scope`: the given scope g is only read
 abbrev pub MergeUsageScope : LentScope → LentScope → Outcome → LentScope → Type 0
 MergeUsageScope s g x s′ =
-    Merged (scopeTest s && scopeTest g) (mergeUsageScope ranged (scopeIn s) (scopeIn g)) (s .table) (s .ranges) x (s′ .table) (s′ .ranges)
+    Merged (ownedBy (g .table)) (scopeTest s && scopeTest g) (mergeUsageScope ranged (scopeIn s) (scopeIn g)) (s .table) (s .ranges) x (s′ .table) (s′ .ranges)
 
--- a call into a tracker, with a log l and its head h: m is the model's call, and `fits` whether every set that it is handed is well formed
-abbrev pub TrackerCall : Bool → CallResult InvalidUse (List Entry) (Tracker Held) → LentTracker → LogHead → List ℕ → Answered → LentTracker → List ℕ → Type 0
-TrackerCall fits m t h l x t′ l′ = Tracked fits m h (t .table) (t .starts) (t .ends) l x (t′ .table) (t′ .starts) (t′ .ends) l′
+-- a call into a tracker, with a log l and its head h: m is the model's call, `named` are the indices that it names, and `fits` says whether every set that
+-- it is handed is well formed
+abbrev pub TrackerCall : (ℕ → Type 0) → Bool → CallResult InvalidUse (List Entry) (Tracker Held) → LentTracker → LogHead → List ℕ → Answered → LentTracker → List ℕ → Type 0
+TrackerCall named fits m t h l x t′ l′ = Tracked named fits m h (t .table) (t .starts) (t .ends) l x (t′ .table) (t′ .starts) (t′ .ends) l′
 
 -- `set_single`
 abbrev pub SetSingle : LentTracker → TrackerIndex → Extent → Selector → ℕ → LogHead → List ℕ → Answered → LentTracker → List ℕ → Type 0
-SetSingle t i sh sel st = TrackerCall (trackerTest t) (setSingle ranged (trackerIn t) (i .0) sh sel st) t
+SetSingle t i sh sel st = TrackerCall (only (i .0)) (trackerTest t) (setSingle ranged (trackerIn t) (i .0) sh sel st) t
 
 -- `set_from_usage_scope`: the given scope g is only read
 abbrev pub SetFromUsageScope : LentTracker → LentScope → LogHead → List ℕ → Answered → LentTracker → List ℕ → Type 0
-SetFromUsageScope t g = TrackerCall (trackerTest t && scopeTest g) (setFromUsageScope ranged (trackerIn t) (scopeIn g)) t
+SetFromUsageScope t g = TrackerCall (ownedBy (g .table)) (trackerTest t && scopeTest g) (setFromUsageScope ranged (trackerIn t) (scopeIn g)) t
 
 -- `set_from_tracker`: the given tracker g is only read
 abbrev pub SetFromTracker : LentTracker → LentTracker → LogHead → List ℕ → Answered → LentTracker → List ℕ → Type 0
-SetFromTracker t g = TrackerCall (trackerTest t && trackerTest g) (setFromTracker ranged (trackerIn t) (trackerIn g)) t
+SetFromTracker t g = TrackerCall (ownedBy (g .table)) (trackerTest t && trackerTest g) (setFromTracker ranged (trackerIn t) (trackerIn g)) t
 
 -- `set_and_remove_from_usage_scope_sparse`: the scope's table becomes g′, its ranges are only read
 abbrev pub SetAndRemoveSparse : LentTracker → LentScope → List ℕ → LogHead → List ℕ → Answered → LentTracker → List ℕ → List ℕ → Type 0
 SetAndRemoveSparse t g is h l x t′ g′ l′ =
-    Removed (trackerTest t && scopeTest g) (setAndRemoveSparse ranged (trackerIn t) (scopeIn g) is) h (t .table) (t .starts) (t .ends) (g .table) (g .ranges) l
+    Removed is (trackerTest t && scopeTest g) (setAndRemoveSparse ranged (trackerIn t) (scopeIn g) is) h (t .table) (t .starts) (t .ends) (g .table) (g .ranges) l
     x (t′ .table) (t′ .starts) (t′ .ends) g′ l′
 
 -- emptying: the log is only read

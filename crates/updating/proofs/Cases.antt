@@ -58,7 +58,7 @@ module _ {t s e : List ℕ} {i : ℕ} {sh : Extent} {p : UsageFlags} {new : ℕ}
   all-learnt {t₁} {s′} c d b =
       let a = become-many (r .starts) (r .texture) (d ∙ complex-is r) b in
       let low = half-low (r .starts) (r .texture) (a .frame) in
-      let m : Measured (numbersOf t) endHalf t₁ e = measured-low low refl (a .frame .table) (r .ends) in
+      let m : Measured (numbersOf t) endHalf t₁ e = measured-low low refl (a .frame .words .long) (r .ends) in
       subst (λ (x : Ends Held). BothBecome (numbersOf t) i x t s e (set t₁ (1288 + i) new) s′ e)
       (held-is (givenSingle new) _ (start-many d) (end-many c) (state-learnt p sh new (mipsOf (numbersOf t) startHalf t s i) (mipsOf (numbersOf t) endHalf t e i)))
       (start-then-end (r .starts) (r .ends) (r .texture) a (become-single m (r .texture) (λ z. plain (z ∙ low 5 (omega arith)))))

@@ -39,7 +39,7 @@ module _ (u new : ℕ) {t₀ s₀ e : List ℕ} {i m : ℕ} {t s : List ℕ} (q 
     pub lesson-tiled : PairTiled t s e i m
     lesson-tiled = record {
       start = lap-piece (q .start) w 0 (getD t₀ (136 + i) 0) b (q .start .some) (omega arith) .tiled;
-      end = tiled-low (editing-word (q .start .measured) (q .start .texture) w) refl (w .frame .table) i m (q .end) b away;
+      end = tiled-low (editing-word (q .start .measured) (q .start .texture) w) refl (w .frame .words .long) i m (q .end) b away;
     }
 
     pub lesson-turn : {t′ s′ : List ℕ} → MipsBecome (numbersOf t) startHalf i (set (mipsOf (numbersOf t) startHalf t s i) m (learn u new (mipOf (numbersOf t) endHalf t e i m) (mipOf (numbersOf t) startHalf t s i m))) t s t′ s′ → Editing (lesson u new t₀ e i) (numbersOf t₀) startHalf i 0 t₀ s₀ (m + 1) t′ s′

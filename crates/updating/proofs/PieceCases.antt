@@ -16,7 +16,8 @@ use Rattle.storage.specs.Frames.{Measured, MipsBecome, mip-at, mips-long}
 use Rattle.storage.specs.Slots.{become-many, held-many, held-single}
 use Rattle.texture.specs.Ready.{ManyReady}
 use Rattle.texture.specs.Giving.{Tiled, tiled-get, tiled-of}
-use Rattle.updating.specs.Both.{BothBecome, BothMips, both-refl, low-of, end-alone}
+use Rattle.storage.specs.Stays.{both-refl}
+use Rattle.updating.specs.Both.{BothBecome, BothMips, low-of, end-alone}
 use Rattle.updating.specs.Learning.{BothReady}
 use Rattle.updating.specs.Pieces.{paintedBy, updated, HeldTiled, ManyTiled, PairReady}
 
@@ -66,7 +67,7 @@ module _ {t s e : List ℕ} {i : ℕ} {p : UsageFlags} (x : PairReady t s e i p)
     -- one that is UNKNOWN
     pub piece-passed : q .state ≡ p .unknown → BothBecome (numbersOf t) i (updated (p .unknown) q (endsOf (numbersOf t) t s e i)) t s e t s e
     unfolding updated
-    piece-passed z = record { ends = rw (end-held, eq-eqb (q .state) (p .unknown) z); frame = both-refl (numbersOf t) i t s e }
+    piece-passed z = record { ends = rw (end-held, eq-eqb (q .state) (p .unknown) z); frame = both-refl t s e }
 
     module _ (n : q .state ≡ p .unknown → ⊥) where
       -- on a Single start

@@ -20,7 +20,8 @@ use Rattle.storage.specs.declared.Located.{Located}
 use Rattle.texture.specs.Ready.{MipTiled, Selects, lentPart, lent-is, lent-fits}
 use Rattle.texture.specs.Giving.{tiles-le, pieceOn, piecesFrom, GivenMip, GivenTexture}
 use Rattle.texture.proofs.Pieces.{tiles-at}
-use Rattle.updating.specs.Both.{BothFrame, BothBecome, both-refl, both-then, low-of, measured-low}
+use Rattle.storage.specs.Stays.{BothFrame, both-refl, both-then}
+use Rattle.updating.specs.Both.{BothBecome, low-of, measured-low}
 use Rattle.updating.specs.Pieces.{updated, updates, updates-append, EndsTiled, updated-tiled, PairReady}
 
 -- ---- The storage on the way: `left` is what is still to be done
@@ -30,7 +31,7 @@ pub record Taking (i : ℕ) (p : UsageFlags) (goal : Ends Held) (t₀ s₀ e₀ 
   pub ready : PairReady t s e i p
 
 taking-start : {t s e : List ℕ} {i : ℕ} {p : UsageFlags} → PairReady t s e i p → (left : Ends Held → Ends Held) → Taking i p (left (endsOf (numbersOf t) t s e i)) t s e left t s e
-taking-start {t} {s} {e} {i} {p} x left = record { ends = refl; frame = both-refl (numbersOf t) i t s e; ready = x }
+taking-start {t} {s} {e} {i} {p} x left = record { ends = refl; frame = both-refl t s e; ready = x }
 
 -- a change of the texture that keeps its halves tiled leaves it ready for the next
 module _ {t s e : List ℕ} {i : ℕ} {p : UsageFlags} {t′ s′ e′ : List ℕ} (x : PairReady t s e i p) (f : BothFrame (numbersOf t) i t s e t′ s′ e′) where
@@ -48,8 +49,8 @@ module _ {t s e : List ℕ} {i : ℕ} {p : UsageFlags} {t′ s′ e′ : List �
 
   ready-then : EndsTiled (getD t (136 + i) 0) (endsOf (numbersOf t) t′ s′ e′ i) → PairReady t′ s′ e′ i p
   ready-then k = record {
-    starts = subst (λ (d : Numbers). Measured d startHalf t′ s′) (sym same-dims) (measured-low low (f .start-long) (f .table) (x .starts));
-    ends = subst (λ (d : Numbers). Measured d endHalf t′ e′) (sym same-dims) (measured-low low (f .end-long) (f .table) (x .ends));
+    starts = subst (λ (d : Numbers). Measured d startHalf t′ s′) (sym same-dims) (measured-low low (f .starts .long) (f .words .long) (x .starts));
+    ends = subst (λ (d : Numbers). Measured d endHalf t′ e′) (sym same-dims) (measured-low low (f .ends .long) (f .words .long) (x .ends));
     texture = rw (low 0 (omega arith)) (x .texture);
     some = rw same-layers (x .some);
     low = rw (same-layers, low 2 (omega arith)) (x .low);

@@ -29,7 +29,8 @@ use Rattle.texture.specs.Ready.{lentPart, putBack, mip-left, part-long, lent-is
 use Rattle.texture.specs.Editing.{edited, edited-past, edited-mips}
 use Rattle.updating.specs.declared.pair.Both.{Both}
 use Rattle.updating.specs.Pair.{PairLeft}
-use Rattle.updating.specs.Both.{BothMips, both-refl, both-then, low-of, measured-low, tiled-low, away-mips, mips-then-mips}
+use Rattle.storage.specs.Stays.{both-refl, both-then}
+use Rattle.updating.specs.Both.{BothMips, low-of, measured-low, tiled-low, away-mips, mips-then-mips}
 use Rattle.updating.specs.Learning.{PairTiled, BothReady, learned-is}
 
 -- ---- one mip
@@ -60,7 +61,7 @@ module _ {t s e : List ℕ} {i m : ℕ} (q : PairTiled t s e i m) {x y : Located
       let low = half-low (rs .measured) (rs .texture) (half-of (first .frame)) in
       let n : mipsIn (numbersOf t) (set t (countAt startHalf i m) (r .start)) i ≡ mipsIn (numbersOf t) t i = mips-same (numbersOf t) t (set t (countAt startHalf i m) (r .start)) i (low (72 + i) (omega (arith, rs .measured .textures, rs .texture))) in
       let ready : MipReady (numbersOf t) endHalf (set t (countAt startHalf i m) (r .start)) e i m =
-      record { measured = measured-low low refl (first .frame .table) (re .measured); texture = re .texture; mip = rw n (re .mip); top = mips-top (numbersOf t) (set t (countAt startHalf i m) (r .start)) i } in
+      record { measured = measured-low low refl (first .frame .words .long) (re .measured); texture = re .texture; mip = rw n (re .mip); top = mips-top (numbersOf t) (set t (countAt startHalf i m) (r .start)) i } in
       let second = mip-put ready (y .base) (y .end - y .base) (r .end) e′ painted (k .base) (k .size) (p .end .long) (omega (arith, p .end .fits, part-long re k, k .size)) (rw (lent-is (q .end) k) at (p .end .seen)) in
       mips-then-mips (rs .measured) (re .measured) (rs .texture) first
       (subst (λ (ys : List (List Range)). MipsBecome (numbersOf t) endHalf i (set ys m painted) (set t (countAt startHalf i m) (r .start)) e (set (set t (countAt startHalf i m) (r .start)) (countAt endHalf i m) (r .end)) (putBack y e e′))
@@ -82,7 +83,7 @@ pub turn-start : (u new : ℕ) (q : Selector) (i : ℕ) (t s e : List ℕ) → T
 unfolding edited
 turn-start u new q i t s e =
     let z : mipStart q - mipStart q ≡ 0 = omega arith in
-    record { from = omega arith; into = rw z record { starts = refl; ends = refl; start-word = refl; end-word = refl; frame = both-refl (numbersOf t) i t s e } }
+    record { from = omega arith; into = rw z record { starts = refl; ends = refl; start-word = refl; end-word = refl; frame = both-refl t s e } }
 
 -- the mips from m on are as they were, and one more is edited
 module _ (f : ℕ → List Range → List Range) (d : Numbers) (h i a m : ℕ) (t₀ r₀ t r : List ℕ) (from : a ≤ m) (n : mipsIn d t i ≡ mipsIn d t₀ i) (b : m < mipsIn d t₀ i) (w : mipsOf d h t r i ≡ edited [] f a (m - a) (mipsOf d h t₀ r₀ i)) where
@@ -116,13 +117,13 @@ module _ {u new : ℕ} {q : Selector} {i : ℕ} {t₀ s₀ e₀ : List ℕ} {m :
 
     pub turn-tiled : PairTiled t s e i m
     turn-tiled = record {
-      start = tiled-low low (w .into .frame .start-long) (w .into .frame .table) i m (p .start) b start-here;
-      end = tiled-low low (w .into .frame .end-long) (w .into .frame .table) i m (p .end) b end-here;
+      start = tiled-low low (w .into .frame .starts .long) (w .into .frame .words .long) i m (p .start) b start-here;
+      end = tiled-low low (w .into .frame .ends .long) (w .into .frame .words .long) i m (p .end) b end-here;
     }
 
     pub turn-on : {t′ s′ e′ : List ℕ} → BothMips (numbersOf t) i (set (mipsOf (numbersOf t) startHalf t s i) m (learn u new ((isolate (layerStart q) (layerEnd q) u (mipOf (numbersOf t) endHalf t e i m)) .run) (mipOf (numbersOf t) startHalf t s i m))) (set (mipsOf (numbersOf t) endHalf t e i) m (given u new q (mipOf (numbersOf t) endHalf t e i m))) t s e t′ s′ e′ → Turning u new q i t₀ s₀ e₀ (m + 1) t′ s′ e′
     turn-on {t′} {s′} {e′} x =
-        let n : numbersOf t ≡ numbersOf t₀ = measured-low {h = startHalf} {t₀ = t₀} {r₀ = s₀} {t = t} {r = s} low (w .into .frame .start-long) (w .into .frame .table) (p .start .measured) .dims in
+        let n : numbersOf t ≡ numbersOf t₀ = measured-low {h = startHalf} {t₀ = t₀} {r₀ = s₀} {t = t} {r = s} low (w .into .frame .starts .long) (w .into .frame .words .long) (p .start .measured) .dims in
         let y : BothMips (numbersOf t₀) i (set (mipsOf (numbersOf t₀) startHalf t s i) m (learn u new ((isolate (layerStart q) (layerEnd q) u (mipOf (numbersOf t₀) endHalf t e i m)) .run) (mipOf (numbersOf t₀) startHalf t s i m))) (set (mipsOf (numbersOf t₀) endHalf t e i) m (given u new q (mipOf (numbersOf t₀) endHalf t e i m))) t s e t′ s′ e′ =
         subst (λ (d : Numbers). BothMips d i (set (mipsOf d startHalf t s i) m (learn u new ((isolate (layerStart q) (layerEnd q) u (mipOf d endHalf t e i m)) .run) (mipOf d startHalf t s i m))) (set (mipsOf d endHalf t e i) m (given u new q (mipOf d endHalf t e i m))) t s e t′ s′ e′) n x in
         let k = w .from in

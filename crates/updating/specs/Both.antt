@@ -13,46 +13,17 @@ use Rattle.model.specs.Texture.{Held}
 use Rattle.storage.specs.Part.{by-lt}
 use Rattle.storage.specs.Lists.{list-ext}
 use Rattle.storage.specs.Storage.{numbersOf, startHalf, endHalf, countAt, mipPart, mipOf, mipsIn, mipsOf, heldOf, endsOf}
-use Rattle.storage.specs.Frames.{Measured, HalfFrame, MipsBecome, half-of, mips-top, mips-same}
-use Rattle.storage.specs.Slots.{SlotFrame, HalfBecomes, held-ext, mip-ext, half-low, half-away}
+use Rattle.storage.specs.Stays.{HalfFrame, BothFrame, stays-refl, stays-at, stays-more, both-then}
+use Rattle.storage.specs.Frames.{Measured, MipsBecome, frame-below, frame-above, half-of, half-below, half-above, mips-top, mips-same}
+use Rattle.storage.specs.Slots.{HalfBecomes, mip-ext, half-low, half-away}
 use Rattle.texture.specs.Ready.{MipTiled, ManyReady}
 
--- a word that is no count of texture i, of those that begin at b
-abbrev pub Outside : ℕ → ℕ → ℕ → Type 0
-Outside b i x = (x < b + 16 * i) ⊎ (b + 16 * i + 16 ≤ x)
-
--- ---- Only the states, the counts and the ranges of texture i may differ
-pub record BothFrame (d : Numbers) (i : ℕ) (t s e t′ s′ e′ : List ℕ) : Type 0 where
-  pub words : (x : ℕ) → (x ≡ 200 + i → ⊥) → (x ≡ 1288 + i → ⊥) → Outside 264 i x → Outside 1352 i x → getD t′ x 0 ≡ getD t x 0
-  pub starts : (j k : ℕ) → j < d .textures → k < d .mips → (j ≡ i → ⊥) → mipPart d s′ j k ≡ mipPart d s j k
-  pub ends : (j k : ℕ) → j < d .textures → k < d .mips → (j ≡ i → ⊥) → mipPart d e′ j k ≡ mipPart d e j k
-  pub start-long : length s′ ≡ length s
-  pub end-long : length e′ ≡ length e
-  pub table : length t′ ≡ length t
-
-pub both-refl : (d : Numbers) (i : ℕ) (t s e : List ℕ) → BothFrame d i t s e t s e
-both-refl d i t s e = record { words = λ x a b o p. refl; starts = λ j k a b c. refl; ends = λ j k a b c. refl; start-long = refl; end-long = refl; table = refl }
-
-pub both-then : {d : Numbers} {i : ℕ} {t s e t₁ s₁ e₁ t₂ s₂ e₂ : List ℕ} → BothFrame d i t s e t₁ s₁ e₁ → BothFrame d i t₁ s₁ e₁ t₂ s₂ e₂ → BothFrame d i t s e t₂ s₂ e₂
-both-then f g = record {
-  words = λ x a b o p. g .words x a b o p ∙ f .words x a b o p;
-  starts = λ j k a b c. g .starts j k a b c ∙ f .starts j k a b c;
-  ends = λ j k a b c. g .ends j k a b c ∙ f .ends j k a b c;
-  start-long = g .start-long ∙ f .start-long;
-  end-long = g .end-long ∙ f .end-long;
-  table = g .table ∙ f .table;
-}
-
--- a change of one half
-half-words : {d : Numbers} {h i : ℕ} {t r t′ r′ : List ℕ} → HalfFrame d h i t r t′ r′ → (x : ℕ) → (x ≡ h + i → ⊥) → Outside (h + 64) i x → getD t′ x 0 ≡ getD t x 0
-half-words f x a (inl o) = f .below x o a
-half-words f x a (inr o) = f .above x o
-
+-- ---- Only the states, the counts and the ranges of texture i may differ: a change of one half
 pub both-start : {d : Numbers} {i : ℕ} {t s t′ s′ : List ℕ} (e : List ℕ) → HalfFrame d startHalf i t s t′ s′ → BothFrame d i t s e t′ s′ e
-both-start e f = record { words = λ x a b o p. half-words f x a o; starts = f .apart; ends = λ j k a b c. refl; start-long = f .long; end-long = refl; table = f .table }
+both-start e f = record { words = stays-more (λ j z. z) (λ j x o. o .start) (f .words); starts = f .ranges; ends = stays-refl e }
 
 pub both-end : {d : Numbers} {i : ℕ} {t e t′ e′ : List ℕ} (s : List ℕ) → HalfFrame d endHalf i t e t′ e′ → BothFrame d i t s e t′ s e′
-both-end s f = record { words = λ x a b o p. half-words f x b p; starts = λ j k a b c. refl; ends = f .apart; start-long = refl; end-long = f .long; table = f .table }
+both-end s f = record { words = stays-more (λ j z. z) (λ j x o. o .end) (f .words); starts = stays-refl s; ends = f .ranges }
 
 -- ---- What is measured or tiled stays so, where the words below the halves and the lengths do
 module _ {h : ℕ} {t₀ r₀ t r : List ℕ} (low : (x : ℕ) → x < 200 → getD t x 0 ≡ getD t₀ x 0) (long : length r ≡ length r₀) (table : length t ≡ length t₀) where
@@ -85,8 +56,8 @@ module _ {h : ℕ} {t₀ r₀ t r : List ℕ} (low : (x : ℕ) → x < 200 → g
 -- ---- A change of one half leaves the mips of the other
 module _ {d : Numbers} {h i : ℕ} {t r t′ r′ : List ℕ} (s : Measured d h t r) (hi : i < d .textures) (f : HalfFrame d h i t r t′ r′) where
   pub away-mip : (g : ℕ) → ((h + 1088 ≤ g) ⊎ (g + 1088 ≤ h)) → (r₂ : List ℕ) (k : ℕ) → k < d .mips → mipOf d g t′ r₂ i k ≡ mipOf d g t r₂ i k
-  away-mip g (inl o) r₂ k q = mip-ext d g t r₂ t′ r₂ i k (f .above (countAt g i k) (omega (arith, s .textures))) refl
-  away-mip g (inr o) r₂ k q = mip-ext d g t r₂ t′ r₂ i k (f .below (countAt g i k) (omega (arith, s .textures, s .mips)) (λ z. omega (arith, s .textures, s .mips))) refl
+  away-mip g (inl o) r₂ k q = mip-ext d g t r₂ t′ r₂ i k (half-above f (countAt g i k) (omega (arith, s .textures))) refl
+  away-mip g (inr o) r₂ k q = mip-ext d g t r₂ t′ r₂ i k (half-below f (countAt g i k) (omega (arith, s .textures, s .mips)) (λ z. omega (arith, s .textures, s .mips))) refl
 
   pub away-mips : (g : ℕ) → ((h + 1088 ≤ g) ⊎ (g + 1088 ≤ h)) → (r₂ : List ℕ) → mipsOf d g t′ r₂ i ≡ mipsOf d g t r₂ i
   away-mips g o r₂ =
@@ -108,12 +79,12 @@ pub record BothMips (d : Numbers) (i : ℕ) (ss es : List (List Range)) (t s e t
 
 module _ {d : Numbers} {i : ℕ} {t s e : List ℕ} (ms : Measured d startHalf t s) (me : Measured d endHalf t e) (hi : i < d .textures) where
   pub low-of : {t′ s′ e′ : List ℕ} → BothFrame d i t s e t′ s′ e′ → (x : ℕ) → x < 200 → getD t′ x 0 ≡ getD t x 0
-  low-of f x q = f .words x (λ z. omega arith) (λ z. omega arith) (inl (omega arith)) (inl (omega arith))
+  low-of f x q = stays-at (f .words) x (record { start = record { state = λ z. omega arith; counts = record { off = inl (omega arith) } }; end = record { state = λ z. omega arith; counts = record { off = inl (omega arith) } } })
 
   -- the start, and then the end
   pub start-then-end : {x y : Held} {t₁ s′ t₂ e′ : List ℕ} → HalfBecomes d startHalf i x t s t₁ s′ → HalfBecomes d endHalf i y t₁ e t₂ e′ → BothBecome d i (record { start = x; end = y }) t s e t₂ s′ e′
   start-then-end {x} {y} {t₁} {s′} {t₂} {e′} a b =
-      let m₁ = measured-low (half-low ms hi (a .frame)) refl (a .frame .table) me in
+      let m₁ = measured-low (half-low ms hi (a .frame)) refl (a .frame .words .long) me in
       let w : heldOf d startHalf t₂ s′ i ≡ x = half-away m₁ hi (b .frame) startHalf (inr (omega arith)) (omega arith) s′ i hi ∙ a .held in
       record { ends = rw (w, b .held); frame = both-then (both-start e (a .frame)) (both-end s′ (b .frame)) }
 
@@ -126,39 +97,11 @@ module _ {d : Numbers} {i : ℕ} {t s e : List ℕ} (ms : Measured d startHalf t
   -- the mips of the start, and then those of the end
   pub mips-then-mips : {ss es : List (List Range)} {t₁ s′ t₂ e′ : List ℕ} → MipsBecome d startHalf i ss t s t₁ s′ → MipsBecome d endHalf i es t₁ e t₂ e′ → BothMips d i ss es t s e t₂ s′ e′
   mips-then-mips {ss} {es} {t₁} {s′} {t₂} {e′} a b =
-      let m₁ = measured-low (half-low ms hi (half-of (a .frame))) refl (a .frame .table) me in
+      let m₁ = measured-low (half-low ms hi (half-of (a .frame))) refl (a .frame .words .long) me in
       record {
         starts = away-mips m₁ hi (half-of (b .frame)) startHalf (inr (omega arith)) s′ ∙ a .mips;
         ends = b .mips;
-        start-word = b .frame .below (200 + i) (omega arith) ∙ a .frame .below (200 + i) (omega (arith, ms .textures));
-        end-word = b .frame .below (1288 + i) (omega (arith, ms .textures)) ∙ a .frame .above (1288 + i) (omega (arith, ms .textures));
+        start-word = frame-below (b .frame) (200 + i) (omega arith) ∙ frame-below (a .frame) (200 + i) (omega (arith, ms .textures));
+        end-word = frame-below (b .frame) (1288 + i) (omega (arith, ms .textures)) ∙ frame-above (a .frame) (1288 + i) (omega (arith, ms .textures));
         frame = both-then (both-start e (half-of (a .frame))) (both-end s′ (half-of (b .frame)));
       }
-
-  -- every other texture, and the head, read as before
-  module _ {t′ s′ e′ : List ℕ} (f : BothFrame d i t s e t′ s′ e′) where
-    count-other : (h : ℕ) → ((h ≡ 200) ⊎ (h ≡ 1288)) → (j k : ℕ) → j < d .textures → k < d .mips → (j ≡ i → ⊥) → getD t′ (countAt h j k) 0 ≡ getD t (countAt h j k) 0
-    count-other h (inl eh) j k a b ne =
-        f .words (countAt h j k) (λ z. omega (arith, ms .textures)) (λ z. omega (arith, ms .textures, ms .mips))
-        (by-lt j i (λ l. inl (omega (arith, ms .mips))) (λ l. inr (by-lt i j (λ w. omega arith) (λ w. absurd (ne (omega arith)))))) (inl (omega (arith, ms .textures, ms .mips)))
-    count-other h (inr eh) j k a b ne =
-        f .words (countAt h j k) (λ z. omega (arith, ms .textures)) (λ z. omega (arith, ms .textures))
-        (inr (omega (arith, ms .textures))) (by-lt j i (λ l. inl (omega (arith, ms .mips))) (λ l. inr (by-lt i j (λ w. omega arith) (λ w. absurd (ne (omega arith))))))
-
-    start-other : (j : ℕ) → j < d .textures → (j ≡ i → ⊥) → heldOf d startHalf t′ s′ j ≡ heldOf d startHalf t s j
-    start-other j a ne =
-        held-ext d startHalf t s t′ s′ j (low-of f 5 (omega arith)) (low-of f (72 + j) (omega (arith, ms .textures)))
-        (f .words (200 + j) (λ z. ne (omega arith)) (λ z. omega (arith, ms .textures)) (inl (omega (arith, ms .textures))) (inl (omega (arith, ms .textures))))
-        (λ k q. mip-ext d startHalf t s t′ s′ j k (count-other startHalf (inl refl) j k a q ne) (f .starts j k a q ne))
-
-    end-other : (j : ℕ) → j < d .textures → (j ≡ i → ⊥) → heldOf d endHalf t′ e′ j ≡ heldOf d endHalf t e j
-    end-other j a ne =
-        held-ext d endHalf t e t′ e′ j (low-of f 5 (omega arith)) (low-of f (72 + j) (omega (arith, ms .textures)))
-        (f .words (1288 + j) (λ z. omega (arith, ms .textures)) (λ z. ne (omega arith)) (inr (omega (arith, ms .textures))) (inl (omega (arith, ms .textures))))
-        (λ k q. mip-ext d endHalf t e t′ e′ j k (count-other endHalf (inr refl) j k a q ne) (f .ends j k a q ne))
-
-    pub both-slots : SlotFrame (d .textures) i (endsOf d t s e) (endsOf d t′ s′ e′) t t′
-    both-slots = record {
-      head = λ x q. low-of f x (omega arith);
-      others = λ j a ne. rw (low-of f (8 + j) (omega (arith, ms .textures)), low-of f (72 + j) (omega (arith, ms .textures)), low-of f (136 + j) (omega (arith, ms .textures)), start-other j a ne, end-other j a ne);
-    }

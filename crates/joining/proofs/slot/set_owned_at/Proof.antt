@@ -1,7 +1,7 @@
 -- `set_owned_at`: the texture stays where the given set does not own its index, otherwise it takes the given start and end.
 use borrow.Author.Tests.{eq-eqb, ne-eqb}
 use borrow.Author.Needs.{needs}
-use Rattle.joining.specs.Slot.{set-same}
+use Rattle.joining.specs.Slot.{set-owned, set-same}
 use Rattle.joining.proofs.slot.set_owned_at.Statement.{statement}
 use Rattle.joining.proofs.slot.set_owned_at.Tie as tie
 
@@ -45,7 +45,7 @@ same-length-2 : tie.Need-same-length-2
 same-length-2 c = search needs
 
 returns-2 : tie.Need-returns-2
-returns-2 c = rw (ne-eqb _ _ (c .before .before .before .before .before .before .before .before .before .before .if1 .left)) (c .before .before .before .before .set-given-at .ensures)
+returns-2 c = rw (ne-eqb _ _ (c .before .before .before .before .before .before .before .before .before .before .if1 .left)) (set-owned ((c .before .before .before .before .before .before .before .before .before .before .before .before .before .before .before .before .args) .given .now) (c .before .before .before .before .before .before .before .before .before .before .if1 .left) (c .before .before .before .before .set-given-at .ensures))
 
 pub set-owned-at-spec : {M : Type 1} → statement M
 set-owned-at-spec =

@@ -28,7 +28,7 @@ enum-known-x : tie.Need-enum-known-x Inv-loop μ-loop
 enum-known-x c = search needs
 
 same-length : tie.Need-same-length Inv-loop μ-loop
-same-length c = let e = (c .before .before .before .before .before .merge-owned-at .ensures) .long ∙ (c .before .before .before .before .before .before .before .before .before .before .loop .inv) .long in search (needs, e)
+same-length c = let e = (c .before .before .before .before .before .merge-owned-at .ensures) .frame .ranges .long ∙ (c .before .before .before .before .before .before .before .before .before .before .loop .inv) .frame .ranges .long in search (needs, e)
 
 returns : tie.Need-returns Inv-loop μ-loop
 returns c = stop (c .before .before .before .before .before .before .before .before .before .before .loop .inv) (c .before .before .before .before .before .before .before .before .before .before .before .before .before .before .pre) (c .before .before .before .before .before .before .before .before .before .loop-test .taken) (rw ((c .before .before .before .before .before .before .wide .ensures) .0) at (c .before .before .before .before .before .merge-owned-at .ensures)) ((c .before .x .given) .1)

@@ -50,7 +50,7 @@ same-length-2 : tie.Need-same-length-2
 same-length-2 c = search needs
 
 returns-2 : tie.Need-returns-2
-returns-2 c = let z = (rw (((c .before .before .before .before .before .before .before .before .before .before .enum-told .given)) .1) at (c .before .before .before .before .before .before .before .before .before .before .before .before .check-single .ensures)) in rw ((c .told .ensures)) (single-done (sym (c .before .before .before .before .before .before .before .before .before .before .before .before .before .before .before .scope-fits .ensures) ∙ not-false _ (c .before .before .before .before .before .before .before .before .before .before .before .before .before .before .if1 .left)) z (rw ((c .before .before .before .before .before .before .wide .ensures) .0, (c .before .before .before .before .before .before .before .flags-of .ensures), ← (c .before .before .before .before .before .before .before .before .before .use-of .ensures) .given _) at (c .before .before .before .merge-use-at .ensures)))
+returns-2 c = let z = (rw (((c .before .before .before .before .before .before .before .before .before .before .enum-told .given)) .1) at (c .before .before .before .before .before .before .before .before .before .before .before .before .check-single .ensures)) in rw ((c .told .ensures)) (single-done (sym (c .before .before .before .before .before .before .before .before .before .before .before .before .before .before .before .scope-fits .ensures) ∙ not-false _ (c .before .before .before .before .before .before .before .before .before .before .before .before .before .before .if1 .left)) (scope-tested _ _ ((c .before .before .before .before .before .before .before .before .before .before .before .before .before .before .before .before .before .before .table-len .ensures) .1) (sym (c .before .before .before .before .before .before .before .before .before .before .before .before .before .before .before .scope-fits .ensures) ∙ not-false _ (c .before .before .before .before .before .before .before .before .before .before .before .before .before .before .if1 .left))) z (rw ((c .before .before .before .before .before .before .wide .ensures) .0, (c .before .before .before .before .before .before .before .flags-of .ensures), ← (c .before .before .before .before .before .before .before .before .before .use-of .ensures) .given _) at (c .before .before .before .merge-use-at .ensures)))
 
 same-length-3 : tie.Need-same-length-3
 same-length-3 c = search needs

@@ -29,7 +29,7 @@ met-at-requires : tie.Need-met-at-requires Inv-loop μ-loop
 met-at-requires c κs = let p = (c .before .before .before .before .before .before .before .before .before .before .before .pre) in let w = (c .before .before .before .before .before .before .before .before .before .loop .inv) in lap-small (p .0) (omega (arith, (c .before .before .before .before .before .before .before .before .loop-test .taken), p .1 .all))
 
 same-length : tie.Need-same-length Inv-loop μ-loop
-same-length c = let w = (c .before .before .before .before .before .before .before .before .before .before .loop .inv) in let e = (c .before .before .before .before .before .before .merge-every-mip .ensures) .into .frame .long ∙ w .1 .frame .long in search (needs, e)
+same-length c = let w = (c .before .before .before .before .before .before .before .before .before .before .loop .inv) in let e = (c .before .before .before .before .before .before .merge-every-mip .ensures) .into .frame .ranges .long ∙ w .1 .frame .ranges .long in search (needs, e)
 
 returns : tie.Need-returns Inv-loop μ-loop
 returns c = let p = (c .before .before .before .before .before .before .before .before .before .before .before .before .pre) in let w = (c .before .before .before .before .before .before .before .before .before .before .loop .inv) in lap-stop (p .0) (w .1) (omega (arith, (c .before .before .before .before .before .before .before .before .before .loop-test .taken), p .1 .all)) _ (λ x. refl) (c .before .before .before .before .before .before .merge-every-mip .ensures) _ (rw ((c .before .before .met .given) .1, (c .met-at .ensures)))

@@ -1,4 +1,5 @@
 -- `merge_mips`: each lap is a step of the model's walk over the mips, up to the first conflict.
+use mathlib.Core.Path.{_∙_}
 use native.Mathlib.Omega.{arith}
 use borrow.Author.Needs.{needs}
 use Rattle.storage.specs.Storage.{numbersOf}
@@ -37,7 +38,7 @@ met-at-requires : tie.Need-met-at-requires Inv-loop μ-loop
 met-at-requires c κs = let p = (c .before .before .before .before .before .before .before .before .before .before .before .before .before .pre) in let w = (c .before .before .before .before .before .before .before .before .before .loop .inv) in lap-small (p .0) (omega (arith, (c .before .before .before .before .before .before .before .before .loop-test .taken), (c .before .before .before .before .before .before .before .before .before .before .before .wide .ensures) .0, p .1 .in-mips))
 
 same-length : tie.Need-same-length Inv-loop μ-loop
-same-length c = search needs
+same-length c = let w = (c .before .before .before .before .before .before .before .before .before .before .loop .inv) in let e = (c .before .before .before .before .before .before .merge-mip .ensures) .into .frame .ranges .long ∙ w .1 .frame .ranges .long in search (needs, e)
 
 returns : tie.Need-returns Inv-loop μ-loop
 returns c = let p = (c .before .before .before .before .before .before .before .before .before .before .before .before .before .before .pre) in let w = (c .before .before .before .before .before .before .before .before .before .before .loop .inv) in lap-stop (p .0) (w .1) (omega (arith, (c .before .before .before .before .before .before .before .before .before .loop-test .taken), (c .before .before .before .before .before .before .before .before .before .before .before .before .wide .ensures) .0, p .1 .in-mips)) _ (piece-in _ _ _ _ (w .0) (omega (arith, (c .before .before .before .before .before .before .before .before .before .loop-test .taken), (c .before .before .before .before .before .before .before .before .before .before .before .before .wide .ensures) .0))) (c .before .before .before .before .before .before .merge-mip .ensures) _ (rw ((c .before .before .met .given) .1, (c .met-at .ensures)))

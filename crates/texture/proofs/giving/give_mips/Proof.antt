@@ -44,7 +44,7 @@ enum-known-x : tie.Need-enum-known-x Inv-loop μ-loop
 enum-known-x c = search needs
 
 same-length : tie.Need-same-length Inv-loop μ-loop
-same-length c = let w = (c .before .before .before .before .before .before .before .before .before .before .before .loop .inv) in let e = (c .before .before .before .before .before .give-mip .ensures) .into .frame .long ∙ w .1 .frame .long in search (needs, e)
+same-length c = let w = (c .before .before .before .before .before .before .before .before .before .before .before .loop .inv) in let e = (c .before .before .before .before .before .give-mip .ensures) .into .frame .ranges .long ∙ w .1 .frame .ranges .long in search (needs, e)
 
 returns : tie.Need-returns Inv-loop μ-loop
 returns c = let p = (c .before .before .before .before .before .before .before .before .before .before .before .before .before .before .pre) in let w = (c .before .before .before .before .before .before .before .before .before .before .before .loop .inv) in mip-stop (p .0) (p .1) _ _ (w .1) (c .before .before .before .before .before .before .before .before .before .before .loop-test .taken) (c .before .before .before .before .before .before .before .before .before .locate .ensures) (c .before .before .before .before .before .give-mip .ensures) _ (rw ((c .before .x .given) .1))

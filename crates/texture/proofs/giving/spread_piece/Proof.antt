@@ -1,7 +1,7 @@
 -- `spread_piece`: a conflict leaves the mips, and otherwise those of the piece take the union.
 use native.Mathlib.Omega.{arith}
 use mathlib.Core.Path.{_≡_, refl, sym}
-use Rattle.storage.specs.Frames.{frame-refl}
+use Rattle.storage.specs.Stays.{keeps-refl}
 use Rattle.model.specs.Texture.{spreadPiece}
 use borrow.Author.Needs.{needs}
 use Rattle.texture.proofs.giving.spread_piece.Statement.{statement}
@@ -18,7 +18,7 @@ enum-told c = search needs
 
 returns : tie.Need-returns
 unfolding spreadPiece
-returns c = let e = sym (rw ((c .enum-told .given) .1) at (c .before .before .unite .ensures)) in rw e record { conflict = refl; into = record { mips = refl; frame = frame-refl _ _ _ _ _ } }
+returns c = let e = sym (rw ((c .enum-told .given) .1) at (c .before .before .unite .ensures)) in rw e record { conflict = refl; into = record { mips = refl; frame = keeps-refl _ _ } }
 
 update-mips-requires : tie.Need-update-mips-requires
 update-mips-requires c κs = (c .before .before .before .before .before .before .before .pre)
