@@ -1,4 +1,4 @@
--- Demand 3, proved: what holds of one texture in a scope and in a tracker is handed to the lifting of LiftCalls, for every list of calls.
+-- Demand 3, from sets that are good: what holds of one texture in a scope and in a tracker is handed to the lifting of LiftCalls, for every list of calls.
 use mathlib.Core.Bool.{Bool, true, false, _||_, and-eq-true-iff, false≢true}
 use mathlib.Core.List.{List, [], _∷_, _++_, map}
 use mathlib.Core.Option.{Option, none, some, Option·map}
@@ -22,7 +22,7 @@ use Rattle.model.specs.StateRules.{Move, invalidState, unite}
 use Rattle.model.specs.Texture.{Held, single, many, Given, givenSingle, givenMany, Entry, fromUse, fromHeld, ranged, merge, invalidUse, spreadPiece, freshMips}
 use Rattle.model.specs.Subresources.{everywhere}
 use Rattle.agreement.specs.Grid.{Grid, Named, SubresourceConflict, grid, namedUse, namedAll, gridBarrier}
-use Rattle.agreement.specs.Shared.{firstOf, seen, seenSlot, itself, seenAnswer, Shares, Agree, Demand3, gridOf, gridEnds, gridScope, gridTracker, toGrids, entriesAt, gridAt}
+use Rattle.agreement.specs.Shared.{firstOf, seen, seenSlot, itself, seenAnswer, Shares, Agree, gridOf, gridEnds, gridScope, gridTracker, toGrids, entriesAt, gridAt}
 use Rattle.agreement.specs.WellFormedSets.{All}
 use Rattle.agreement.specs.BoolLaws.{by-test, neither}
 use Rattle.agreement.specs.ListLaws.{all-right, at-most-one}
@@ -215,12 +215,10 @@ no-word (callSetAndRemoveSparse n m is) = tt
 pub one-step : (c : Call) (k : Sets ranged) → GoodSets k → StepS (step ranged c k) (step grid c (toGrids k))
 one-step c k ok = stepped ranged grid gridOf firstOf UnknownNonzero WordP FitS FitEnds GivesC Pairs entriesAt gridAt scope-facts tracker-facts sure-open c k (no-word c) ok
 
-from-here : (cs : List Call) (k : Sets ranged) → GoodSets k → Agree k (toGrids k) cs
+pub from-here : (cs : List Call) (k : Sets ranged) → GoodSets k → Agree k (toGrids k) cs
 from-here [] k ok = tt
 from-here (c ∷ cs) k ok = let m = one-step c k ok in (shares (step ranged c k) (step grid c (toGrids k)) m, rw (← m .after) (from-here cs (step ranged c k .after) (m .good)))
 
--- for every list of calls, on however many sets
-pub agree : Demand3
-agree os ts cs =
-    let o = opened ranged grid gridOf firstOf UnknownNonzero WordP FitS FitEnds GivesC Pairs entriesAt gridAt scope-facts tracker-facts sure-open os ts in
-    rw (← o .1) (from-here cs (newly ranged os ts) (o .0))
+-- newly opened sets of the two are each other's image
+pub opened-grids : (os ts : List Opening) → toGrids (newly ranged os ts) ≡ newly grid os ts
+opened-grids os ts = opened ranged grid gridOf firstOf UnknownNonzero WordP FitS FitEnds GivesC Pairs entriesAt gridAt scope-facts tracker-facts sure-open os ts .1

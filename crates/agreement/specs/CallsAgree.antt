@@ -14,12 +14,12 @@ use Rattle.model.specs.Calls.{Answer, done, refused, inConflict, Call, Sets, st
 use Rattle.model.specs.Texture.{Held, ranged}
 use Rattle.model.specs.WellFormed.{scopeFits, trackerFits}
 use Rattle.agreement.specs.Grid.{SubresourceConflict, grid}
-use Rattle.agreement.specs.Shared.{toGrids, seenAnswer, Shares, afterCalls}
+use Rattle.agreement.specs.Shared.{toGrids, seenAnswer, Shares, Agree, Demand3, afterCalls}
 use Rattle.agreement.specs.WellFormedSets.{All, wellFormed, GivenWord}
 use Rattle.agreement.specs.BoolLaws.{every-all, all-every}
 use Rattle.agreement.specs.ListLaws.{all-weak}
 use Rattle.agreement.specs.TrackerLaws.{FitEnds, UnknownNonzero}
-use Rattle.agreement.specs.Agree.{FitS, GoodSets, one-step, shares}
+use Rattle.agreement.specs.Agree.{FitS, GoodSets, one-step, shares, from-here, opened-grids}
 use Rattle.agreement.specs.Fits.{HeldFits, EndsFit, SetFits, SetsFit}
 use Rattle.agreement.specs.WellStates.{FlagFacts}
 use Rattle.agreement.specs.WellLaws.{FitW, FitEW, WellSets, known-flags, well-good, call-keeps-well-formed, opened-well-formed}
@@ -82,6 +82,13 @@ good-weak k g = (all-weak ScopeW ScopeK scope-weak (k .scopes) (g .0), all-weak 
 
 pub call-shares : (c : Call) (k : Sets ranged) → wellFormed k ≡ true → Shares (step ranged c k) (step grid c (toGrids k))
 call-shares c k e = shares (step ranged c k) (step grid c (toGrids k)) (one-step c k (good-weak k (well-good k (sets-to k e) .0)))
+
+-- for every list of calls
+pub agrees-from : (k : Sets ranged) → wellFormed k ≡ true → (calls : List Call) → Agree k (toGrids k) calls
+agrees-from k e cs = from-here cs k (good-weak k (well-good k (sets-to k e) .0))
+
+pub agrees : Demand3
+agrees os ts cs = rw (← opened-grids os ts) (agrees-from (newly ranged os ts) (opened-fits os ts) cs)
 
 -- ---- refusals
 alike-to : (a : Answer InvalidUse) (b : Answer SubresourceConflict) (r : Refusal) → seenAnswer a ≡ b → a ≡ refused r → b ≡ refused r

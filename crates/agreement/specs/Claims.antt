@@ -1,5 +1,5 @@
 -- What is proved, in one place: each claim is a statement with the name of its proof. To trust it, read crate `model`, and here Grid (01's grid), Shared
--- (what the two representations share), WellFormedSets, LogBound, Asserts and WebGpu; the other modules hold proofs alone.
+-- (what the two representations share), WellFormedSets, LogBound, Layers, Asserts and WebGpu; the other modules hold proofs alone.
 use mathlib.Core.Bool.{true, false, _||_}
 use mathlib.Core.List.{List, map}
 use mathlib.Core.Logic.{_↔_}
@@ -15,38 +15,47 @@ use Rattle.model.specs.declared.Selector.{Selector}
 use Rattle.model.specs.declared.UsageFlags.{UsageFlags}
 use Rattle.model.specs.Base.{every}
 use Rattle.model.specs.Flags.{flagsFit}
-use Rattle.model.specs.Sets.{Set, headOf, Opening}
+use Rattle.model.specs.Representation.{Ends}
+use Rattle.model.specs.Sets.{Slot, Set, Tracker, headOf, Opening}
 use Rattle.model.specs.Refusals.{numberOf, trackerIndex, singleRefusal}
 use Rattle.model.specs.Calls.{Indexed, refused, Call, callMergeSingle, Sets, step, newly}
 use Rattle.model.specs.RangedStates.{Tiles, isolate, listOf}
+use Rattle.model.specs.RangeCalls.{ascends}
 use Rattle.model.specs.Texture.{Held, Entry, ranged}
+use Rattle.model.specs.WellFormed.{scopeFits, trackerFits}
 use Rattle.model.specs.Log.{Log, pending, headCheck, logging}
 use Rattle.agreement.specs.Grid.{grid}
-use Rattle.agreement.specs.Shared.{toGrids, Use, useFits, TextureShares, Shares, Demand3, afterCalls}
+use Rattle.agreement.specs.Shared.{toGrids, Use, useFits, TextureShares, Shares, Agree, Demand3, afterCalls}
 use Rattle.agreement.specs.WellFormedSets.{All, wellFormed, Word, GivenWord}
-use Rattle.agreement.specs.LogBound.{entries, namedStates, capacityOf}
+use Rattle.agreement.specs.LogBound.{entries, namedStates, capacityOf, ownedOf}
+use Rattle.agreement.specs.Layers.{covered, lengths, AddUp}
 use Rattle.agreement.specs.Asserts.{callAsserts}
-use Rattle.agreement.specs.WebGpu.{Usage, isAttachment, compatibleList, usesFit, Renders, Histories, histories, InConflict, Unfit}
-use Rattle.agreement.specs.RangeCount.{ranges-few, isolated-few}
-use Rattle.agreement.specs.Agree.{agree}
+use Rattle.agreement.specs.WebGpu.{Usage, isAttachment, compatibleList, usesFit, Renders, benchFlags, benchBit, wgpuFlags, Storing, Attaching, wgpuBit, Histories, histories, InConflict, Unfit, GivenUsage, NotCompatible}
+use Rattle.agreement.specs.RangeCount.{ranges-few, isolated-few, ascending-few, covered-lengths, scope-adds-up, tracker-adds-up}
 use Rattle.agreement.specs.TexturesAgree.{texture-shares}
-use Rattle.agreement.specs.CallsAgree.{sets-to, opened-fits, call-keeps, call-shares, refused-alike, always-fit}
+use Rattle.agreement.specs.CallsAgree.{sets-to, opened-fits, call-keeps, call-shares, agrees-from, agrees, refused-alike, always-fit}
 use Rattle.agreement.specs.OwnRefusals.{own-refusals}
 use Rattle.agreement.specs.LogFew.{few-entries}
-use Rattle.agreement.specs.LogRoom.{entries-written, never-full, capacity-few, never-full-capacity, never-15}
+use Rattle.agreement.specs.LogRoom.{entries-written, never-full, owned-few, owned-most, never-full-owned, capacity-few, never-full-capacity, never-15}
 use Rattle.agreement.specs.AssertCalls.{calls-assert}
 use Rattle.agreement.specs.FitLaws.{flags-rule}
-use Rattle.agreement.specs.Judged.{webgpu}
+use Rattle.agreement.specs.Judged.{uses-judged}
+use Rattle.agreement.specs.UsagesJudged.{bench-renders, wgpu-renders, usages-judged}
 
--- ---- Demand 3: ranged and grid share what it lists after each call of every list, on however many sets, newly opened alike
-pub demand3 : Demand3
-demand3 = agree
+-- ---- Demand 3 of the definitions: ranged and grid share what it lists after each call of every list, on however many sets
+-- "given to both newly opened" (crate `track` has `demand3`, of the code's contracts)
+pub grid-agrees : Demand3
+grid-agrees = agrees
+
+-- from any well-formed sets, with the grids read off them: "a cell has the state of the range with its layer, or of its whole texture"
+pub grid-agrees-from : (k : Sets ranged) → wellFormed k ≡ true → (calls : List Call) → Agree k (toGrids k) calls
+grid-agrees-from = agrees-from
 
 -- ---- Texture by texture: insert, merge, barrier and update agree, for every use that passes its checks and every well-formed texture, and keep it so
 pub by-texture : (p : UsageFlags) (sh : Extent) → flagsFit p ≡ true → 0 < sh .mips → 0 < sh .layers → (u : Use) → useFits p sh u ≡ true → TextureShares p sh u
 by-texture = texture-shares
 
--- ---- Call by call, from any well-formed sets (EachCall has `kept` and `within-capacity` for each of the six calls by itself)
+-- ---- Call by call, from any well-formed sets (EachCall has `kept`, `within-owned` and `within-capacity` for each of the six calls by itself)
 -- opened sets are well formed
 pub opened : (scopes trackers : List Opening) → wellFormed (newly ranged scopes trackers) ≡ true
 opened = opened-fits
@@ -71,7 +80,25 @@ refusals = refused-alike
 pub own : (c : Call) (k : Sets ranged) (r : Refusal) → step ranged c k .answer ≡ refused r → (6 ≤ numberOf r) × (numberOf r ≤ 13)
 own = own-refusals ranged
 
--- ---- Ranges: "A strip's ranges never outnumber the layers it covers", also between `isolate` and `coalesce`
+-- ---- Ranges
+-- "A strip's ranges never outnumber the layers it covers": any ascending list of nonempty ranges, gaps allowed, that ends at w or before
+pub ascending : (s : List Range) (w : ℕ) → ascends 0 s ≡ true → All (λ (r : Range). r .end ≤ w) s → length s ≤ covered s w
+ascending = ascending-few
+
+-- the layers that it covers are as many as its lengths add up to
+pub covering : (s : List Range) (w : ℕ) → ascends 0 s ≡ true → All (λ (r : Range). r .end ≤ w) s → covered s w ≡ lengths s
+covering = covered-lengths
+
+-- "in a sound set their lengths add up to the layer count": in a scope
+pub adds-up : (s : Set Held) → scopeFits s ≡ true → All (λ (x : Slot Held). x .owned ≡ true → AddUp (x .extent) (x .held)) (s .slots)
+adds-up = scope-adds-up
+
+-- and in a tracker
+pub tracker-adds : (t : Tracker Held) → trackerFits t ≡ true
+    → All (λ (x : Slot (Ends Held)). x .owned ≡ true → AddUp (x .extent) (x .held .start) × AddUp (x .extent) (x .held .end)) (t .set .slots)
+tracker-adds = tracker-adds-up
+
+-- of a list that tiles w layers, also between `isolate` and `coalesce`
 pub ranges : (s : List Range) (w : ℕ) → Tiles 0 s w → length s ≤ w
 ranges = ranges-few
 
@@ -88,11 +115,19 @@ counted = entries-written
 pub few : (c : Call) (k : Sets ranged) → GivenWord c → wellFormed k ≡ true → entries (step ranged c k .log) ≤ namedStates c k
 few c k w e = few-entries c k w (sets-to k e)
 
--- nor than its tracker has
+-- nor than the textures have that its tracker owns before it: an index without an owner has no transition
+pub within-owned : (c : Call) (k : Sets ranged) → GivenWord c → wellFormed k ≡ true → entries (step ranged c k .log) ≤ ownedOf c k
+within-owned = owned-few
+
+-- which are no more than N × M × W
+pub owned-within : (c : Call) (k : Sets ranged) → wellFormed k ≡ true → ownedOf c k ≤ capacityOf c k
+owned-within = owned-most
+
+-- so neither are the entries
 pub within-capacity : (c : Call) (k : Sets ranged) → GivenWord c → wellFormed k ≡ true → entries (step ranged c k .log) ≤ capacityOf c k
 within-capacity = capacity-few
 
--- so a log whose head fits, with a free entry for each of them, never refuses: the answer is the call's own
+-- so a log whose head fits, with a free entry for each that the call names, never refuses: the answer is the call's own
 pub room : (c : Call) (k : Sets ranged) → GivenWord c → wellFormed k ≡ true → (log : Log) → headCheck log .fails ≡ false → namedStates c k ≤ log .head .free
     → logging (wellFormed k) log k (step ranged c k) .answer ≡ step ranged c k .answer
 room = never-full
@@ -102,7 +137,12 @@ pub no-free-entry-never : (c : Call) (k : Sets ranged) → GivenWord c → wellF
     → logging (wellFormed k) log k (step ranged c k) .answer ≡ refused NoFreeEntry → ⊥
 no-free-entry-never = never-15
 
--- with a free entry for every subresource of the tracker
+-- with a free entry for every subresource that the tracker owns
+pub room-for-owned : (c : Call) (k : Sets ranged) → GivenWord c → wellFormed k ≡ true → (log : Log) → headCheck log .fails ≡ false → ownedOf c k ≤ log .head .free
+    → logging (wellFormed k) log k (step ranged c k) .answer ≡ step ranged c k .answer
+room-for-owned = never-full-owned
+
+-- with a free entry for every subresource that it has room for
 pub room-for-all : (c : Call) (k : Sets ranged) → GivenWord c → wellFormed k ≡ true → (log : Log) → headCheck log .fails ≡ false → capacityOf c k ≤ log .head .free
     → logging (wellFormed k) log k (step ranged c k) .answer ≡ step ranged c k .answer
 room-for-all = never-full-capacity
@@ -122,4 +162,20 @@ pub judged : (scopes trackers : List Opening) (calls : List Call) → All GivenW
     → (r : Set Held) → getElem? (afterCalls ranged calls (newly ranged scopes trackers) .scopes) n ≡ some r → singleRefusal (headOf r) i sh sel st ≡ none
     → (s : Set Histories) × (getElem? (afterCalls histories calls (newly histories scopes trackers) .scopes) n ≡ some s)
     × (InConflict (step ranged (callMergeSingle n (trackerIndex i) sh sel st) (afterCalls ranged calls (newly ranged scopes trackers)) .answer) ↔ Unfit s i sh sel st)
-judged scopes trackers calls w n i sh sel st word r e p = let j = webgpu scopes trackers calls w n i sh sel st word r e p in (j .0, j .1, (j .2, j .3))
+judged scopes trackers calls w n i sh sel st word r e p = let j = uses-judged scopes trackers calls w n i sh sel st word r e p in (j .0, j .1, (j .3, j .4))
+
+-- "UNINITIALIZED 1, EXCLUSIVE 20, COMPLEX 4096, UNKNOWN 8192" renders the specification's usages
+pub bench : Renders benchFlags benchBit
+bench = bench-renders
+
+-- and wgpu's does, with any one of its bits for storage and any one for an attachment
+pub wgpu : (x : Storing) (y : Attaching) → Renders wgpuFlags (wgpuBit x y)
+wgpu = wgpu-renders
+
+-- `rule` and `judged` joined, where single merges are given usages' bits: it conflicts if and only if a named subresource's usages are neither compatible nor all attachments
+pub webgpu : (bit : Usage → ℕ) (scopes trackers : List Opening) (calls : List Call) → All GivenWord calls → All (GivenUsage bit) calls
+    → (n i : ℕ) (sh : Extent) (sel : Option Selector) (u : Usage) → Word (bit u)
+    → (r : Set Held) → getElem? (afterCalls ranged calls (newly ranged scopes trackers) .scopes) n ≡ some r → Renders (r .flags) bit → singleRefusal (headOf r) i sh sel (bit u) ≡ none
+    → (s : Set Histories) × (getElem? (afterCalls histories calls (newly histories scopes trackers) .scopes) n ≡ some s)
+    × (InConflict (step ranged (callMergeSingle n (trackerIndex i) sh sel (bit u)) (afterCalls ranged calls (newly ranged scopes trackers)) .answer) ↔ NotCompatible bit s i sh sel u)
+webgpu = usages-judged

@@ -1,4 +1,4 @@
--- The claims of CallsAgree and LogRoom for each of the six calls by itself, on the handed that it is handed.
+-- The claims of CallsAgree and LogRoom for each of the six calls by itself, on what it is handed.
 use mathlib.Core.Bool.{true, _&&_}
 use mathlib.Core.List.{List, [], _∷_}
 use mathlib.Core.Option.{Option}
@@ -12,12 +12,12 @@ use Rattle.model.specs.Calls.{callMergeSingle, callMergeUsageScope, callSetSing
 use Rattle.model.specs.Texture.{Held, ranged}
 use Rattle.model.specs.WellFormed.{scopeFits, trackerFits}
 use Rattle.agreement.specs.WellFormedSets.{Word}
-use Rattle.agreement.specs.LogBound.{entries}
+use Rattle.agreement.specs.LogBound.{entries, ownedStates}
 use Rattle.agreement.specs.BoolLaws.{and-left, and-right}
 use Rattle.agreement.specs.CallsAgree.{call-keeps}
-use Rattle.agreement.specs.LogRoom.{capacity-few}
+use Rattle.agreement.specs.LogRoom.{owned-few, capacity-few}
 
--- the handed that a call is handed, and no others
+-- the sets that a call is handed, and no others
 abbrev handed : List (Set Held) → List (Tracker Held) → Sets ranged
 handed ss ts = record { scopes = ss; trackers = ts }
 
@@ -54,7 +54,24 @@ module _ (t : Tracker Held) (fits : trackerFits t ≡ true) where
       let h = call-keeps (callSetAndRemoveSparse 0 0 is) (handed (s ∷ []) (t ∷ [])) tt (rw (fits, e)) in
       (and-left _ true (and-right (scopeFits (setAndRemoveSparse ranged t s is .after .1) && true) _ h), and-left _ true (and-left _ _ h))
 
-  -- ---- the entries that each adds are no more than N × M × W
+  -- ---- the entries that each adds are no more than the subresources of the textures that the tracker owns
+  pub set-single-owned : (i : ℕ) (sh : Extent) (sel : Selector) (st : ℕ) → Word st → entries (setSingle ranged t i sh sel st .log) ≤ ownedStates (t .set .slots)
+  unfolding step
+  set-single-owned i sh sel st w = owned-few (callSetSingle 0 (trackerIndex i) sh sel st) (handed [] (t ∷ [])) w (rw fits)
+
+  pub set-from-usage-scope-owned : (g : Set Held) → scopeFits g ≡ true → entries (setFromUsageScope ranged t g .log) ≤ ownedStates (t .set .slots)
+  unfolding step
+  set-from-usage-scope-owned g e = owned-few (callSetFromUsageScope 0 0) (handed (g ∷ []) (t ∷ [])) tt (rw (fits, e))
+
+  pub set-from-tracker-owned : (g : Tracker Held) → trackerFits g ≡ true → entries (setFromTracker ranged t g .log) ≤ ownedStates (t .set .slots)
+  unfolding step
+  set-from-tracker-owned g e = owned-few (callSetFromTracker 0 1) (handed [] (t ∷ g ∷ [])) tt (rw (fits, e))
+
+  pub sparse-owned : (s : Set Held) → scopeFits s ≡ true → (is : List ℕ) → entries (setAndRemoveSparse ranged t s is .log) ≤ ownedStates (t .set .slots)
+  unfolding step
+  sparse-owned s e is = owned-few (callSetAndRemoveSparse 0 0 is) (handed (s ∷ []) (t ∷ [])) tt (rw (fits, e))
+
+  -- ---- nor than N × M × W
   pub set-single-room : (i : ℕ) (sh : Extent) (sel : Selector) (st : ℕ) → Word st → entries (setSingle ranged t i sh sel st .log) ≤ capacity (t .set .numbers)
   unfolding step
   set-single-room i sh sel st w = capacity-few (callSetSingle 0 (trackerIndex i) sh sel st) (handed [] (t ∷ [])) w (rw fits)

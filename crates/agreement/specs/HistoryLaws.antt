@@ -97,7 +97,7 @@ pub joined-union : (p : UsageFlags) (c g : History) → Tied p c → Tied p g �
 joined-union p c g x y = without-or (p .unknown) (c .state) (g .state) ∙ rw (x .union, y .union) (sym (union-append (c .uses) (g .uses)))
 
 -- what a rule for states does to a subresource
-abbrev after : History → History → ℕ → History
+abbrev pub after : History → History → ℕ → History
 after c g u = record { state = u; uses = c .uses ++ g .uses }
 
 single-tied : (p : UsageFlags) (c g : History) (u : ℕ) → Tied p c → Tied p g → singleUnion p (c .state) (g .state) ≡ some u → Tied p (after c g u)
@@ -147,7 +147,7 @@ module _ (P : History → Type 0) (f : ℕ → ℕ → Option ℕ) (keeps : (c g
       go none e = x
       go (some u) e = keeps c g u x y e
 
-  takes-keep : (g : List (List History)) (n : List (List (Option History))) → GridAll P g → GridAll (AllO P) n → GridAll P (takeStates f g n .value)
+  pub takes-keep : (g : List (List History)) (n : List (List (Option History))) → GridAll P g → GridAll (AllO P) n → GridAll P (takeStates f g n .value)
   takes-keep g n a b =
       walk₂-all (All P) (All (AllO P)) (λ m. walk₂ (takeState f m) 0) (λ k r q x y. walk₂-all P (AllO P) (takeState f k) (take-keeps k) 0 r q x y) 0 g n a b
 
@@ -314,7 +314,7 @@ grid-pass : (g : List (List History)) → map (map statesO) (map (map some) g) �
 grid-pass [] = refl
 grid-pass (r ∷ g) = rw (row-pass r, grid-pass g)
 
-pass-all : (P : History → Type 0) (Q : Option History → Type 0) → ((c : History) → P c → Q (some c)) → (g : List (List History)) → GridAll P g → GridAll Q (map (map some) g)
+pub pass-all : (P : History → Type 0) (Q : Option History → Type 0) → ((c : History) → P c → Q (some c)) → (g : List (List History)) → GridAll P g → GridAll Q (map (map some) g)
 pass-all P Q h g t = all-map (All P) (All Q) (map some) (λ r. all-map P Q some h r) g t
 
 history-passed : (p : UsageFlags) (sh : Extent) (h : Histories) → TiedHeld p sh h → TiedGiven p sh (handAll h) (namedAll (statesOf h))
@@ -327,7 +327,7 @@ history-passed p sh h f = record {
 }
 
 -- ---- insert
-abbrev blankOf : UsageFlags → History
+abbrev pub blankOf : UsageFlags → History
 blankOf p = record { state = p .unknown; uses = [] }
 
 row-insert : (p : UsageFlags) (r : List (Option History)) → map stateOf (map (namedOr (blankOf p)) r) ≡ map (namedOr (p .unknown)) (map statesO r)

@@ -165,8 +165,8 @@ module _ (os ts : List Opening) (cs : List Call) (w : All GivenWord cs) where
           let y : setT s ≡ setR r = cc in
           (s, q, sym (head-t s) ∙ ap headOf y ∙ head-r r)
 
-  pub webgpu : (n i : ℕ) (sh : Extent) (sel : Option Selector) (st : ℕ) → Word st → (r : Set Held) → getElem? (KR .scopes) n ≡ some r → singleRefusal (headOf r) i sh sel st ≡ none
-      → (s : Set Histories) × (getElem? (KT .scopes) n ≡ some s)
+  pub uses-judged : (n i : ℕ) (sh : Extent) (sel : Option Selector) (st : ℕ) → Word st → (r : Set Held) → getElem? (KR .scopes) n ≡ some r → singleRefusal (headOf r) i sh sel st ≡ none
+      → (s : Set Histories) × (getElem? (KT .scopes) n ≡ some s) × (headOf s ≡ headOf r)
       × (InConflict (step ranged (callMergeSingle n (trackerIndex i) sh sel st) KR .answer) → Unfit s i sh sel st) × (Unfit s i sh sel st → InConflict (step ranged (callMergeSingle n (trackerIndex i) sh sel st) KR .answer))
-  webgpu n i sh sel st word r e c =
-      let b = beside n r e in let j = webgpu-judges n i sh sel st word (b .0) (b .1) (subst (λ (h : Head). singleRefusal h i sh sel st ≡ none) (sym (b .2)) c) in (b .0, b .1, j .0, j .1)
+  uses-judged n i sh sel st word r e c =
+      let b = beside n r e in let j = webgpu-judges n i sh sel st word (b .0) (b .1) (subst (λ (h : Head). singleRefusal h i sh sel st ≡ none) (sym (b .2)) c) in (b .0, b .1, b .2, j .0, j .1)

@@ -2,6 +2,7 @@ pub mod Grid
 pub mod Shared
 pub mod WellFormedSets
 pub mod LogBound
+pub mod Layers
 pub mod Asserts
 pub mod WebGpu
 pub mod Claims
@@ -9,7 +10,6 @@ pub mod BoolLaws
 pub mod ListLaws
 pub mod WalkLaws
 pub mod RangeLaws
-pub mod RangeCount
 pub mod PaintLaws
 pub mod LearnLaws
 pub mod FilterLaws
@@ -33,11 +33,13 @@ pub mod WellStates
 pub mod WellLaws
 pub mod Rooms
 pub mod Decides
+pub mod RangeCount
 pub mod TexturesAgree
 pub mod CallsAgree
 pub mod OwnRefusals
 pub mod LogCount
 pub mod LogFew
+pub mod LogOwned
 pub mod LogRoom
 pub mod EachCall
 pub mod GivenFits
@@ -47,3 +49,5 @@ pub mod FitLaws
 pub mod HistoryLaws
 pub mod ConflictLaws
 pub mod Judged
+pub mod UsesKept
+pub mod UsagesJudged

@@ -85,3 +85,12 @@ capacityOf (callSetSingle n i sh sel st) k = trackerCapacity (getElem? (k .track
 capacityOf (callSetFromUsageScope n m) k = trackerCapacity (getElem? (k .trackers) n)
 capacityOf (callSetFromTracker n m) k = trackerCapacity (getElem? (k .trackers) n)
 capacityOf (callSetAndRemoveSparse n m is) k = trackerCapacity (getElem? (k .trackers) n)
+
+-- the subresources of the textures that the tracker which a call writes into owns before it: no other has a transition
+abbrev pub ownedOf : Call → Sets ranged → ℕ
+ownedOf (callMergeSingle n i sh sel st) k = 0
+ownedOf (callMergeUsageScope n m) k = 0
+ownedOf (callSetSingle n i sh sel st) k = ofTracker (getElem? (k .trackers) n)
+ownedOf (callSetFromUsageScope n m) k = ofTracker (getElem? (k .trackers) n)
+ownedOf (callSetFromTracker n m) k = ofTracker (getElem? (k .trackers) n)
+ownedOf (callSetAndRemoveSparse n m is) k = ofTracker (getElem? (k .trackers) n)

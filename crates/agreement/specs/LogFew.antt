@@ -68,10 +68,10 @@ module _ (p : UsageFlags) (mask : ℕ) (sh : Extent) (a : Given) (b : Named) (c 
       omega arith)
       (λ e. omega arith)
 
-  slot-most : entries (logSlot ranged p mask sh a i s) ≤ allStates sh
+  pub slot-most : entries (logSlot ranged p mask sh a i s) ≤ allStates sh
   slot-most = let x = slot-few in let y = states-most sh (namedAt b) in omega arith
 
-entries-append : (x y : List (Indexed (List Entry))) → entries (x ++ y) ≡ entries x + entries y
+pub entries-append : (x y : List (Indexed (List Entry))) → entries (x ++ y) ≡ entries x + entries y
 entries-append [] y = omega arith
 entries-append (e ∷ x) y = let h = entries-append x y in omega arith
 

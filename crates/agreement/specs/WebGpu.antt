@@ -5,7 +5,7 @@ use mathlib.Core.Bool.{Bool, true, false, _&&_, _||_, not}
 use mathlib.Core.List.{List, [], _∷_, _++_, map}
 use mathlib.Core.Option.{Option, none, some, Option·map}
 use mathlib.Core.Path.{_≡_}
-use Prim.Native.Nat.{ℕ, _≤_, _<_}
+use Prim.Native.Nat.{ℕ, _+_, _≤_, _<_}
 use lib.Bits.{bitAnd}
 use lib.Dec.{eqb}
 use lib.ListN.{getD}
@@ -16,7 +16,7 @@ use Rattle.model.specs.Base.{if_then_else_, every, Stop, fine, ruled, orKeep, w
 use Rattle.model.specs.Flags.{meets, oneBit}
 use Rattle.model.specs.Representation.{Ends, Representation}
 use Rattle.model.specs.Sets.{Set, slotAt}
-use Rattle.model.specs.Calls.{Answer, done, refused, inConflict}
+use Rattle.model.specs.Calls.{Answer, done, refused, inConflict, Call, callMergeSingle, callMergeUsageScope, callSetSingle, callSetFromUsageScope, callSetFromTracker, callSetAndRemoveSparse}
 use Rattle.model.specs.StateRules.{Move}
 use Rattle.agreement.specs.Grid.{Grid, Named, SubresourceConflict, namedUse, namedOr, singleUnion, manyUnion, gridBarrier, gridUpdate}
 
@@ -80,6 +80,50 @@ pub record Renders (p : UsageFlags) (bit : Usage → ℕ) : Type 0 where
   pub stores : oneBit (bit storage) ≡ true
   pub attaches : oneBit (bit attachment) ≡ true
   pub apart : bit storage ≡ bit attachment → ⊥
+
+-- 01's "Bench samples": "UNINITIALIZED 1, EXCLUSIVE 20, COMPLEX 4096, UNKNOWN 8192"
+abbrev pub benchFlags : UsageFlags
+benchFlags = record { exclusive = 20; uninitialized = 1; complex = 4096; unknown = 8192 }
+
+-- with a bit for each usage: 4 and 16 are those of EXCLUSIVE
+abbrev pub benchBit : Usage → ℕ
+benchBit input = 2
+benchBit constant = 8
+benchBit storage = 4
+benchBit storageRead = 32
+benchBit attachment = 16
+benchBit attachmentRead = 64
+
+-- wgpu's `TextureUses`, written down from memory: EXCLUSIVE is PRESENT, COPY_DST, COLOR_TARGET, DEPTH_STENCIL_WRITE and the three storage uses that write
+abbrev pub wgpuFlags : UsageFlags
+wgpuFlags = record { exclusive = 2 + 8 + 32 + 128 + 512 + 1024 + 2048; uninitialized = 1; complex = 8192; unknown = 16384 }
+
+-- wgpu has three bits for the specification's storage, and two for its attachment: a rendering takes one of each
+pub data Storing : Type 0 where
+  writeOnly readWrite atomic : Storing
+
+-- STORAGE_WRITE_ONLY, STORAGE_READ_WRITE, STORAGE_ATOMIC
+abbrev pub storingBit : Storing → ℕ
+storingBit writeOnly = 512
+storingBit readWrite = 1024
+storingBit atomic = 2048
+
+pub data Attaching : Type 0 where
+  colorTarget depthStencilWrite : Attaching
+
+-- COLOR_TARGET, DEPTH_STENCIL_WRITE
+abbrev pub attachingBit : Attaching → ℕ
+attachingBit colorTarget = 32
+attachingBit depthStencilWrite = 128
+
+-- COPY_SRC, RESOURCE, STORAGE_READ_ONLY, DEPTH_STENCIL_READ for those that read
+abbrev pub wgpuBit : Storing → Attaching → Usage → ℕ
+wgpuBit x y input = 4
+wgpuBit x y constant = 16
+wgpuBit x y storage = storingBit x
+wgpuBit x y storageRead = 256
+wgpuBit x y attachment = attachingBit y
+wgpuBit x y attachmentRead = 64
 
 -- ---- A subresource of a scope: its state, and the uses that it has taken and keeps
 pub record History : Type 0 where
@@ -193,3 +237,30 @@ pub record Unfit (s : Set Histories) (i : ℕ) (sh : Extent) (sel : Option Selec
   pub layer : ℕ
   pub names : Names sh sel mip layer
   pub unfit : usesFit (s .flags) (usesAt s i mip layer ++ (st ∷ [])) ≡ false
+
+-- ---- the words of the claim `webgpu`: the same in the specification's own usages
+-- a state is the bits of a usage
+abbrev pub Rendered : (Usage → ℕ) → ℕ → Type 0
+Rendered bit st = (u : Usage) × (st ≡ bit u)
+
+-- what is asked of the state that a single merge is given; what a tracker is given reaches no scope
+abbrev pub MergeGiven : (ℕ → Type 0) → Call → Type 0
+MergeGiven W (callMergeSingle n i sh sel st) = W st
+MergeGiven W (callMergeUsageScope n m) = Unit {0}
+MergeGiven W (callSetSingle n i sh sel st) = Unit {0}
+MergeGiven W (callSetFromUsageScope n m) = Unit {0}
+MergeGiven W (callSetFromTracker n m) = Unit {0}
+MergeGiven W (callSetAndRemoveSparse n m is) = Unit {0}
+
+-- it is the bits of a usage
+abbrev pub GivenUsage : (Usage → ℕ) → Call → Type 0
+GivenUsage bit = MergeGiven (Rendered bit)
+
+-- the usages that some named subresource has taken and keeps, with the given one, are neither a compatible usage list nor all attachments
+pub record NotCompatible (bit : Usage → ℕ) (s : Set Histories) (i : ℕ) (sh : Extent) (sel : Option Selector) (u : Usage) : Type 0 where
+  pub mip : ℕ
+  pub layer : ℕ
+  pub names : Names sh sel mip layer
+  pub usages : List Usage
+  pub taken : usesAt s i mip layer ≡ map bit usages
+  pub unfit : compatibleList (usages ++ (u ∷ [])) || every isAttachment (usages ++ (u ∷ [])) ≡ false

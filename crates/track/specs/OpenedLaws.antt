@@ -21,12 +21,7 @@ use Rattle.agreement.specs.WellFormedSets.{All}
 use Rattle.agreement.specs.BoolLaws.{by-test, by-test₂, both, and-left}
 use Rattle.agreement.specs.ListLaws.{all-join}
 use Rattle.agreement.specs.CallsAgree.{opened-fits}
-use Rattle.track.specs.Trace.{LentScope, LentTracker, Lent, scopeIn, trackerIn, viewOf, scopeTest, trackerTest, ScopeOpening, TrackerOpening, scopeAsked, trackerAsked, isDone, openedSets}
-
--- every set is well formed, with its room
-pub record Ready (k : Lent) : Type 0 where
-  pub scopes : All (λ (s : LentScope). scopeTest s ≡ true) (k .scopes)
-  pub trackers : All (λ (t : LentTracker). trackerTest t ≡ true) (k .trackers)
+use Rattle.track.specs.Trace.{LentScope, LentTracker, scopeIn, trackerIn, viewOf, scopeTest, trackerTest, Ready, ScopeOpening, TrackerOpening, scopeAsked, trackerAsked, isDone, openedSets}
 
 -- an opening is done if and only if it is not refused
 done-opens : (o : Option Refusal) → isDone (verdict o) ≡ accepted o

@@ -27,13 +27,21 @@ use Rattle.setting.specs.Tracked.{logOf, Logs}
 use Rattle.storage.specs.Stays.{only}
 use Rattle.removing.specs.Removed.{Removed}
 use Rattle.agreement.specs.WellFormedSets.{All, Word, GivenWord}
-use Rattle.agreement.specs.LogBound.{entries, trackerCapacity, capacityOf}
+use Rattle.agreement.specs.LogBound.{entries, ownedStates, ofTracker, ownedOf}
 use Rattle.agreement.specs.BoolLaws.{by-test, both, and-left, and-right}
 use Rattle.agreement.specs.ListLaws.{all-set, AllO, all-elem, elem-map, set-map}
-use Rattle.agreement.specs.EachCall.{merge-single-fits, merge-usage-scope-fits, set-single-fits, set-from-usage-scope-fits, set-from-tracker-fits, sparse-fits, set-single-room, set-from-usage-scope-room, set-from-tracker-room, sparse-room}
-use Rattle.track.specs.Trace.{LentScope, LentTracker, Lent, scopeIn, trackerIn, viewOf, scopeTest, trackerTest, Step, selectionOf, MergeSingle, MergeUsageScope, TrackerCall, SetSingle, SetFromUsageScope, SetFromTracker, SetAndRemoveSparse, LogStays, NoCall, MergedAt, TrackedAt, RemovedAt, At₁, At₂, Ran, written}
+use Rattle.agreement.specs.EachCall.{merge-single-fits, merge-usage-scope-fits, set-single-fits, set-from-usage-scope-fits, set-from-tracker-fits, sparse-fits, set-single-owned, set-from-usage-scope-owned, set-from-tracker-owned, sparse-owned}
+use Rattle.track.specs.Trace.{LentScope, LentTracker, Lent, scopeIn, trackerIn, viewOf, scopeTest, trackerTest, Ready, Step, selectionOf, MergeSingle, MergeUsageScope, TrackerCall, SetSingle, SetFromUsageScope, SetFromTracker, SetAndRemoveSparse, LogStays, NoCall, MergedAt, TrackedAt, RemovedAt, At₁, At₂, Ran, written}
 use Rattle.track.specs.LogLaws.{Empty, AsOwn, as-own}
-use Rattle.track.specs.OpenedLaws.{Ready}
+
+-- ---- A set that passes its test is well formed
+pub scope-well : (a : LentScope) → scopeTest a ≡ true → scopeFits (scopeIn a) ≡ true
+scope-well a p = and-left (scopeFits (scopeIn a)) _ p
+
+pub tracker-well : (a : LentTracker) → trackerTest a ≡ true → trackerFits (trackerIn a) ≡ true
+tracker-well a p =
+    let c = capacity (trackerIn a .set .numbers) in
+    and-left (trackerFits (trackerIn a)) (leb c (length (a .starts) / 3)) (and-left (trackerFits (trackerIn a) && leb c (length (a .starts) / 3)) _ p)
 
 -- ---- A set that a call wrote: with the numbers and the room of before, it is well formed
 scope-again : (a b : LentScope) (x : Set Held) → scopeIn b ≡ x → length (b .ranges) ≡ length (a .ranges) → x .numbers ≡ scopeIn a .numbers → scopeFits x ≡ true
@@ -139,7 +147,7 @@ module _ (k : Lent) (ready : Ready k) (s : Step) (empty : Empty (logOf (s .log) 
   -- a call into a tracker a, at n
   tracked : {named : ℕ → Type 0} (n : ℕ) (a : LentTracker) (fits : Bool) (o : Option Refusal) (out : CallResult InvalidUse (List Entry) (Tracker Held)) → TrackerReady a → fits ≡ true
       → out .answer ≡ done → out .after .set .numbers ≡ trackerIn a .set .numbers → trackerFits (unless o (trackerIn a) out .after) ≡ true
-      → entries (unless o (trackerIn a) out .log) ≤ capacity (trackerIn a .set .numbers) → capacity (trackerIn a .set .numbers) ≤ s .emptied .head .free
+      → entries (unless o (trackerIn a) out .log) ≤ ownedStates (trackerIn a .set .slots) → ownedStates (trackerIn a .set .slots) ≤ s .emptied .head .free
       → TrackedAt n (TrackerCall named fits (unless o (trackerIn a) out) a) k s
       → Follows (into ranged (unless o (trackerIn a) out) (λ x. withTrackers ranged (viewOf k) (set (map trackerIn (k .trackers)) n x))) s
   tracked {named} n a fits o out test f d same well few room c =
@@ -163,7 +171,7 @@ module _ (k : Lent) (ready : Ready k) (s : Step) (empty : Empty (logOf (s .log) 
       → TrackerReady a → ScopeReady g → fits ≡ true
       → out .answer ≡ done → numbersIn (out .after) ≡ numbersIn (trackerIn a, scopeIn g)
       → (trackerFits (unless o (trackerIn a, scopeIn g) out .after .0) ≡ true) × (scopeFits (unless o (trackerIn a, scopeIn g) out .after .1) ≡ true)
-      → entries (unless o (trackerIn a, scopeIn g) out .log) ≤ capacity (trackerIn a .set .numbers) → capacity (trackerIn a .set .numbers) ≤ s .emptied .head .free
+      → entries (unless o (trackerIn a, scopeIn g) out .log) ≤ ownedStates (trackerIn a .set .slots) → ownedStates (trackerIn a .set .slots) ≤ s .emptied .head .free
       → RemovedAt n m g (Sparse is fits (unless o (trackerIn a, scopeIn g) out) a g) k s
       → Follows (into ranged (unless o (trackerIn a, scopeIn g) out) (λ x. record { scopes = set (map scopeIn (k .scopes)) m (x .1); trackers = set (map trackerIn (k .trackers)) n (x .0) })) s
   removed {is} n m a g fits o out test test′ f d same well few room c =
@@ -220,7 +228,7 @@ module _ (k : Lent) (ready : Ready k) (s : Step) (empty : Empty (logOf (s .log) 
   Nothing o = Unit {0}
 
   abbrev Room : Option (Tracker Held) → Type 0
-  Room o = trackerCapacity o ≤ s .emptied .head .free
+  Room o = ofTracker o ≤ s .emptied .head .free
 
   abbrev putScope : ℕ → CallResult InvalidUse (List Entry) (Set Held) → CallResult InvalidUse (List Entry) (Sets ranged)
   putScope n r = into ranged r (λ x. withScopes ranged (viewOf k) (set (map scopeIn (k .scopes)) n x))
@@ -233,48 +241,43 @@ module _ (k : Lent) (ready : Ready k) (s : Step) (empty : Empty (logOf (s .log) 
   merge-single n i sh sel st w a p c =
       let x = scopeIn a in let o = singleRefusal (headOf x) (i .0) sh sel st in
       merged n a (scopeTest a) (mergeSingle ranged x (i .0) sh sel st) p p (quiet o x _ refl) (kept o x _ (λ (y : Set Held). y .numbers) refl)
-      (merge-single-fits x (and-left _ _ p) (i .0) sh sel st w)
+      (merge-single-fits x (scope-well a p) (i .0) sh sel st w)
       (subst (λ (q : Option Selector). MergedAt n (λ y b. Merged (only (i .0)) (scopeTest a) (mergeSingle ranged x (i .0) sh q st) (a .table) (a .ranges) y (b .table) (b .ranges)) k s) (selector-back sel) c)
 
   merge-scope : (n : ℕ) (a g : LentScope) → ScopeReady a → ScopeReady g → MergedAt n (MergeUsageScope a g) k s → Follows (putScope n (mergeUsageScope ranged (scopeIn a) (scopeIn g))) s
   merge-scope n a g p q =
       let x = scopeIn a in let o = setRefusal (headOf x) (headOf (scopeIn g)) in
       merged n a (scopeTest a && scopeTest g) (mergeUsageScope ranged x (scopeIn g)) p (both p q) (quiet o x _ refl) (kept o x _ (λ (y : Set Held). y .numbers) refl)
-      (merge-usage-scope-fits x (and-left _ _ p) (scopeIn g) (and-left _ _ q))
-
-  fit : (a : LentTracker) → TrackerReady a → trackerFits (trackerIn a) ≡ true
-  fit a p =
-      let c = capacity (trackerIn a .set .numbers) in
-      and-left (trackerFits (trackerIn a)) (leb c (length (a .starts) / 3)) (and-left (trackerFits (trackerIn a) && leb c (length (a .starts) / 3)) _ p)
+      (merge-usage-scope-fits x (scope-well a p) (scopeIn g) (scope-well g q))
 
   set-single : (n : ℕ) (i : TrackerIndex) (sh : Extent) (sel : Selector) (st : ℕ) → Word st → (a : LentTracker) → TrackerReady a
-      → capacity (trackerIn a .set .numbers) ≤ s .emptied .head .free → TrackedAt n (SetSingle a i sh sel st) k s → Follows (putTracker n (setSingle ranged (trackerIn a) (i .0) sh sel st)) s
+      → ownedStates (trackerIn a .set .slots) ≤ s .emptied .head .free → TrackedAt n (SetSingle a i sh sel st) k s → Follows (putTracker n (setSingle ranged (trackerIn a) (i .0) sh sel st)) s
   set-single n i sh sel st w a p free =
       let x = trackerIn a in
       tracked n a (trackerTest a) (singleRefusal (headOf (x .set)) (i .0) sh (some sel) st) _ p p refl refl
-      (set-single-fits x (fit a p) (i .0) sh sel st w) (set-single-room x (fit a p) (i .0) sh sel st w) free
+      (set-single-fits x (tracker-well a p) (i .0) sh sel st w) (set-single-owned x (tracker-well a p) (i .0) sh sel st w) free
 
   set-from-scope : (n : ℕ) (a : LentTracker) (g : LentScope) → TrackerReady a → ScopeReady g
-      → capacity (trackerIn a .set .numbers) ≤ s .emptied .head .free → TrackedAt n (SetFromUsageScope a g) k s → Follows (putTracker n (setFromUsageScope ranged (trackerIn a) (scopeIn g))) s
+      → ownedStates (trackerIn a .set .slots) ≤ s .emptied .head .free → TrackedAt n (SetFromUsageScope a g) k s → Follows (putTracker n (setFromUsageScope ranged (trackerIn a) (scopeIn g))) s
   set-from-scope n a g p q free =
       let x = trackerIn a in let y = scopeIn g in
       tracked n a (trackerTest a && scopeTest g) (setRefusal (headOf (x .set)) (headOf y)) _ p (both p q) refl refl
-      (set-from-usage-scope-fits x (fit a p) y (and-left _ _ q)) (set-from-usage-scope-room x (fit a p) y (and-left _ _ q)) free
+      (set-from-usage-scope-fits x (tracker-well a p) y (scope-well g q)) (set-from-usage-scope-owned x (tracker-well a p) y (scope-well g q)) free
 
   set-from-tracker : (n : ℕ) (a g : LentTracker) → TrackerReady a → TrackerReady g
-      → capacity (trackerIn a .set .numbers) ≤ s .emptied .head .free → TrackedAt n (SetFromTracker a g) k s → Follows (putTracker n (setFromTracker ranged (trackerIn a) (trackerIn g))) s
+      → ownedStates (trackerIn a .set .slots) ≤ s .emptied .head .free → TrackedAt n (SetFromTracker a g) k s → Follows (putTracker n (setFromTracker ranged (trackerIn a) (trackerIn g))) s
   set-from-tracker n a g p q free =
       let x = trackerIn a in let y = trackerIn g in
       tracked n a (trackerTest a && trackerTest g) (setRefusal (headOf (x .set)) (headOf (y .set))) _ p (both p q) refl refl
-      (set-from-tracker-fits x (fit a p) y (fit g q)) (set-from-tracker-room x (fit a p) y (fit g q)) free
+      (set-from-tracker-fits x (tracker-well a p) y (tracker-well g q)) (set-from-tracker-owned x (tracker-well a p) y (tracker-well g q)) free
 
   sparse : (n m : ℕ) (is : List ℕ) (a : LentTracker) (g : LentScope) → TrackerReady a → ScopeReady g
-      → capacity (trackerIn a .set .numbers) ≤ s .emptied .head .free → RemovedAt n m g (SetAndRemoveSparse a g is) k s
+      → ownedStates (trackerIn a .set .slots) ≤ s .emptied .head .free → RemovedAt n m g (SetAndRemoveSparse a g is) k s
       → Follows (into ranged (setAndRemoveSparse ranged (trackerIn a) (scopeIn g) is) (λ x. record { scopes = set (map scopeIn (k .scopes)) m (x .1); trackers = set (map trackerIn (k .trackers)) n (x .0) })) s
   sparse n m is a g p q free =
       let x = trackerIn a in let y = scopeIn g in
       removed n m a g (trackerTest a && scopeTest g) (sparseRefusal (headOf (x .set)) (headOf y) is) (sparseAll ranged is (x, y)) p q (both p q) (sparse-done is (x, y)) (sparse-numbers is (x, y))
-      (sparse-fits x (fit a p) y (and-left _ _ q) is) (sparse-room x (fit a p) y (and-left _ _ q) is) free
+      (sparse-fits x (tracker-well a p) y (scope-well g q) is) (sparse-owned x (tracker-well a p) y (scope-well g q) is) free
 
   -- a call on two sets is none where they are one
   apart : (b : Bool) (call : Type 0) (r : CallResult InvalidUse (List Entry) (Sets ranged)) → (call → Follows r s)
@@ -282,7 +285,7 @@ module _ (k : Lent) (ready : Ready k) (s : Step) (empty : Empty (logOf (s .log) 
   apart true call r h c = no-call c
   apart false call r h c = h c
 
-  pub follows : (c : Call) → GivenWord c → capacityOf c (viewOf k) ≤ s .emptied .head .free → Ran c k s → Follows (step ranged c (viewOf k)) s
+  pub follows : (c : Call) → GivenWord c → ownedOf c (viewOf k) ≤ s .emptied .head .free → Ran c k s → Follows (step ranged c (viewOf k)) s
   unfolding step
   follows (callMergeSingle n i sh sel st) w room = at-one (k .scopes) scopeIn ScopeReady (ready .scopes) Nothing n _ _ (λ a p q. merge-single n i sh sel st w a p) tt
   follows (callMergeUsageScope n m) w room =

@@ -1,5 +1,5 @@
 -- Demand 3, over the numbers that callers lend and the public calls' own contracts: what a trace of calls is, and what is shared at each of
--- its steps. Definitions only; Demand3 states the theorem.
+-- its steps. Definitions only; Demand3 and Claims state the theorems.
 use mathlib.Core.Bool.{Bool, true, false, _&&_}
 use mathlib.Core.List.{List, [], _∷_, map}
 use mathlib.Core.Option.{Option, none, some}
@@ -27,15 +27,15 @@ use Rattle.model.specs.Calls.{Answer, done, refused, inConflict, CallResult, Ca
 use Rattle.model.specs.StateRules.{Move}
 use Rattle.model.specs.Texture.{Held, Entry, ranged}
 use Rattle.model.specs.WellFormed.{wellFormedScope, wellFormedTracker}
-use Rattle.model.specs.Log.{emptying}
+use Rattle.model.specs.Log.{emptying, outcomeOf, pending}
 use Rattle.storage.specs.Storage.{scopeOf, trackerOf}
 use Rattle.storage.specs.Stays.{only, ownedBy}
 use Rattle.barrier.specs.Entries.{entriesOf}
 use Rattle.checks.specs.Head.{selectorOf}
 use Rattle.agreement.specs.Grid.{Grid, SubresourceConflict, grid}
 use Rattle.agreement.specs.Shared.{gridOf, gridEnds, firstOf, seen, itself, movedAt}
-use Rattle.agreement.specs.WellFormedSets.{GivenWord}
-use Rattle.agreement.specs.LogBound.{capacityOf}
+use Rattle.agreement.specs.WellFormedSets.{All, GivenWord}
+use Rattle.agreement.specs.LogBound.{ownedOf, listed}
 use Rattle.opening.specs.Open.{OpenedScope, OpenedTracker, asked}
 use Rattle.merging.specs.Merged.{Merged}
 use Rattle.setting.specs.declared.Answered.{Answered}
@@ -78,6 +78,11 @@ scopeTest s = wellFormedScope (length (s .ranges) / 3) (scopeIn s)
 -- and a tracker
 abbrev pub trackerTest : LentTracker → Bool
 trackerTest t = wellFormedTracker (length (t .starts) / 3) (length (t .ends) / 3) (trackerIn t)
+
+-- every set is well formed, with its room
+pub record Ready (k : Lent) : Type 0 where
+  pub scopes : All (λ (s : LentScope). scopeTest s ≡ true) (k .scopes)
+  pub trackers : All (λ (t : LentTracker). trackerTest t ≡ true) (k .trackers)
 
 -- ---- "newly opened", "opened alike": each set came out of the call that opens it, from any numbers
 -- a call of `open_scope`: what it was lent and given, its answer, the table that it left, and that its contract holds of them
@@ -246,14 +251,23 @@ pub record Meets (k : Lent) (s : Step) : Type 0 where
   -- "Before each call the logs are emptied", by the call that does it, at a head that tells no more entries than are lent
   pub lent : s .told .written + s .told .free ≤ length (entriesOf (s .log))
   pub emptied : Emptying (s .told) (s .log) (s .emptied)
-  -- "and given a free entry for every cell": N × M × W of the tracker that is written
-  pub free : capacityOf (s .call) (viewOf k) ≤ s .emptied .head .free
+  -- "and given a free entry for every cell": of the textures that the tracker owns that is written; no other cell gets a transition
+  pub free : ownedOf (s .call) (viewOf k) ≤ s .emptied .head .free
   pub ran : Ran (s .call) k s
 
 -- "A call gets the sets as the last one left them"
 abbrev pub Trace : Lent → List Step → Type 0
 Trace k [] = Unit {0}
 Trace k (s ∷ steps) = Meets k s × Trace (s .sets) steps
+
+-- the calls of its steps
+abbrev pub callsOf : List Step → List Call
+callsOf steps = map (λ (s : Step). s .call) steps
+
+-- the sets as its last step left them
+abbrev pub setsAfter : Lent → List Step → Lent
+setsAfter k [] = k
+setsAfter k (s ∷ steps) = setsAfter (s .sets) steps
 
 -- ---- What is shared
 -- "the refusal, or the clash with its texture, first cell and two states"
@@ -279,11 +293,24 @@ pub record SharedAt (s : Step) (r : CallResult SubresourceConflict (List (List (
   -- "and each cell's transition, at most one a call"
   pub transitions : (i m l : ℕ) → transitionsAt i m l (written s) ≡ movedAt i m l (r .log)
   pub once : (i m l : ℕ) → length (transitionsAt i m l (written s)) ≤ 1
-  -- "4, 5 and 15 cannot arise in these calls": a refusal is 6 to 13, and emptying is not refused
-  pub refusals : (x : Refusal) → s .answered .outcome ≡ Refused x → (6 ≤ numberOf x) × (numberOf x ≤ 13)
+  -- "4, 5 and 15 cannot arise in these calls"; nor do 1, 2 and 3, of opening, and 14, of strips; and emptying is not refused
+  pub refusals : (x : Refusal) → s .answered .outcome ≡ Refused x → listed (numberOf x) (4 ∷ 5 ∷ 15 ∷ []) ≡ false
+  pub others : (x : Refusal) → s .answered .outcome ≡ Refused x → listed (numberOf x) (1 ∷ 2 ∷ 3 ∷ 14 ∷ []) ≡ false
   pub emptied : s .emptied .outcome ≡ Done
 
 -- at every step, with the grid's own sets g in place of the lent ones
 abbrev pub SharedAlong : List Step → Sets grid → Type 0
 SharedAlong [] g = Unit {0}
 SharedAlong (s ∷ steps) g = SharedAt s (step grid (s .call) g) × SharedAlong steps (step grid (s .call) g .after)
+
+-- ---- The ranged model's run of the same calls
+-- a step is a call of the model: its answer, the sets that the numbers hold after it, and the entries that it wrote, in their order
+pub record IsModel (s : Step) (r : CallResult InvalidUse (List Entry) (Sets ranged)) : Type 0 where
+  pub answer : s .answered .outcome ≡ outcomeOf (r .answer)
+  pub after : viewOf (s .sets) ≡ r .after
+  pub entries : written s ≡ pending (r .log)
+
+-- at every step, from the model's sets m
+abbrev pub ModelAlong : List Step → Sets ranged → Type 0
+ModelAlong [] m = Unit {0}
+ModelAlong (s ∷ steps) m = IsModel s (step ranged (s .call) m) × ModelAlong steps (step ranged (s .call) m .after)

@@ -1,28 +1,37 @@
--- Every trace from newly opened storage shares at each step what the grid's run gives: step by step it is the ranged model's run, which agrees with the grid's.
+-- Every trace from well-formed storage is, step by step, the ranged model's run, and so shares with the grid's what demand 3 lists.
+use mathlib.Core.Bool.{true, false}
 use mathlib.Core.List.{List, [], _∷_, map}
 use mathlib.Core.Option.{Option}
 use mathlib.Core.Path.{_≡_, refl, sym, ap, subst, _∙_}
-use Prim.Native.Nat.{ℕ}
+use Prim.Native.Nat.{ℕ, _≤_}
 use native.Mathlib.Omega.{arith}
+use borrow.Author.Tests.{ne-eqb}
 use Rattle.model.specs.declared.InvalidUse.{InvalidUse}
 use Rattle.model.specs.declared.Outcome.the-variants.{Done, Refused}
 use Rattle.model.specs.declared.Refusal.{Refusal}
-use Rattle.model.specs.Sets.{Tracker}
-use Rattle.model.specs.Calls.{Answer, done, refused, inConflict, CallResult, Call, Sets, step, newly}
+use Rattle.model.specs.Sets.{Set, Tracker}
+use Rattle.model.specs.Refusals.{numberOf}
+use Rattle.model.specs.Calls.{Answer, done, refused, inConflict, CallResult, Sets, step, newly}
 use Rattle.model.specs.StateRules.{Move}
 use Rattle.model.specs.Texture.{Held, ranged}
+use Rattle.model.specs.WellFormed.{scopeFits, trackerFits}
 use Rattle.model.specs.Log.{outcomeOf}
 use Rattle.agreement.specs.Grid.{SubresourceConflict, grid}
-use Rattle.agreement.specs.Shared.{gridOf, gridEnds, seenAnswer, seen, Shares, Agree}
-use Rattle.agreement.specs.Agree.{agree}
+use Rattle.agreement.specs.Shared.{gridOf, gridEnds, toGrids, seenAnswer, seen, Shares, Agree, afterCalls}
+use Rattle.agreement.specs.WellFormedSets.{wellFormed}
+use Rattle.agreement.specs.LogBound.{listed}
+use Rattle.agreement.specs.BoolLaws.{both, all-every}
+use Rattle.agreement.specs.ListLaws.{all-map}
+use Rattle.agreement.specs.Agree.{opened-grids}
+use Rattle.agreement.specs.CallsAgree.{agrees-from}
 use Rattle.agreement.specs.OwnRefusals.{own-refusals}
-use Rattle.track.specs.Trace.{Lent, viewOf, ScopeOpening, TrackerOpening, scopeAsked, trackerAsked, openedSets, Step, Trace, seenOutcome, SharedAt, SharedAlong}
+use Rattle.track.specs.Trace.{LentScope, LentTracker, Lent, scopeIn, trackerIn, viewOf, scopeTest, trackerTest, Ready, ScopeOpening, TrackerOpening, scopeAsked, trackerAsked, openedSets, Step, Meets, Trace, callsOf, setsAfter, seenOutcome, SharedAt, SharedAlong, IsModel, ModelAlong}
 use Rattle.track.specs.LogLaws.{empty-log, transitions-logged}
-use Rattle.track.specs.OpenedLaws.{Ready, opened-view, opened-ready}
-use Rattle.track.specs.StepLaws.{Follows, follows}
+use Rattle.track.specs.OpenedLaws.{opened-view, opened-ready}
+use Rattle.track.specs.StepLaws.{scope-well, tracker-well, Follows, follows}
 
 -- an answer as a public call tells it, seen as the model's
-told-seen : (a : Answer InvalidUse) → seenOutcome (outcomeOf a) ≡ seenAnswer a
+pub told-seen : (a : Answer InvalidUse) → seenOutcome (outcomeOf a) ≡ seenAnswer a
 told-seen done = refl
 told-seen (refused r) = refl
 told-seen (inConflict c) = refl
@@ -32,7 +41,22 @@ told-refused done x e = absurd (let z : _≡_ {A = ℕ} 0 1 = cc in omega arith)
 told-refused (refused r) x e = let y : r ≡ x = cc in rw y
 told-refused (inConflict c) x e = absurd (let z : _≡_ {A = ℕ} 0 1 = cc in omega arith)
 
--- ---- One step: what it shares with the grid's
+-- ---- One step: it is the model's
+pub steps-on : (k : Lent) → Ready k → (s : Step) → Meets k s → (s .emptied .outcome ≡ Done) × Follows (step ranged (s .call) (viewOf k)) s
+steps-on k ready s m =
+    let e = empty-log (s .log) (s .told) (s .emptied) (m .lent) (m .emptied) in (e .0, follows k ready s (e .1) (s .call) (m .word) (m .free) (m .ran))
+
+is-model : (s : Step) (m : Sets ranged) → Follows (step ranged (s .call) m) s → IsModel s (step ranged (s .call) m)
+is-model s m f = record { answer = f .answer; after = f .after; entries = f .entries }
+
+-- a number from 6 to 13 is none of these
+not-lent : (n : ℕ) → (6 ≤ n) × (n ≤ 13) → listed n (4 ∷ 5 ∷ 15 ∷ []) ≡ false
+not-lent n h = rw (ne-eqb 4 n (λ e. omega (arith, h .0)), ne-eqb 5 n (λ e. omega (arith, h .0)), ne-eqb 15 n (λ e. omega (arith, h .1)))
+
+not-opening : (n : ℕ) → (6 ≤ n) × (n ≤ 13) → listed n (1 ∷ 2 ∷ 3 ∷ 14 ∷ []) ≡ false
+not-opening n h = rw (ne-eqb 1 n (λ e. omega (arith, h .0)), ne-eqb 2 n (λ e. omega (arith, h .0)), ne-eqb 3 n (λ e. omega (arith, h .0)), ne-eqb 14 n (λ e. omega (arith, h .1)))
+
+-- and what it shares with the grid's
 share-step : (k : Lent) (s : Step) (g : CallResult SubresourceConflict (List (List (Option Move))) (Sets grid)) → s .emptied .outcome ≡ Done
     → Follows (step ranged (s .call) (viewOf k)) s → Shares (step ranged (s .call) (viewOf k)) g → SharedAt s g
 share-step k s g e f a =
@@ -43,26 +67,56 @@ share-step k s g e f a =
       trackers = ap (λ (x : Sets ranged). map (λ (t : Tracker Held). seen gridEnds (t .set)) (x .trackers)) (f .after) ∙ a .trackers;
       transitions = λ i m l. rw (f .entries, transitions-logged i m l (r .log)) (a .moves i m l);
       once = λ i m l. rw (f .entries, transitions-logged i m l (r .log)) (a .once i m l);
-      refusals = λ x h. own-refusals ranged (s .call) (viewOf k) x (told-refused (r .answer) x (sym (f .answer) ∙ h));
+      refusals = λ x h. not-lent (numberOf x) (own x h);
+      others = λ x h. not-opening (numberOf x) (own x h);
       emptied = e;
     }
+  where
+    own : (x : Refusal) → s .answered .outcome ≡ Refused x → (6 ≤ numberOf x) × (numberOf x ≤ 13)
+    own x h = own-refusals ranged (s .call) (viewOf k) x (told-refused (step ranged (s .call) (viewOf k) .answer) x (sym (f .answer) ∙ h))
 
 -- ---- Every step, from well-formed sets
-abbrev callsOf : List Step → List Call
-callsOf steps = map (λ (s : Step). s .call) steps
-
 along : (steps : List Step) (k : Lent) (g : Sets grid) → Ready k → Agree (viewOf k) g (callsOf steps) → Trace k steps → SharedAlong steps g
 along [] k g ready a t = tt
 along (s ∷ steps) k g ready a t =
-    let m = t .0 in
-    let e = empty-log (s .log) (s .told) (s .emptied) (m .lent) (m .emptied) in
-    let f = follows k ready s (e .1) (s .call) (m .word) (m .free) (m .ran) in (
-      share-step k s (step grid (s .call) g) (e .0) f (a .0),
-      along steps (s .sets) (step grid (s .call) g .after) (f .ready) (subst (λ (x : Sets ranged). Agree x (step grid (s .call) g .after) (callsOf steps)) (sym (f .after)) (a .1)) (t .1),
+    let f = steps-on k ready s (t .0) in (
+      share-step k s (step grid (s .call) g) (f .0) (f .1) (a .0),
+      along steps (s .sets) (step grid (s .call) g .after) (f .1 .ready) (subst (λ (x : Sets ranged). Agree x (step grid (s .call) g .after) (callsOf steps)) (sym (f .1 .after)) (a .1)) (t .1),
     )
 
-pub trace-shares : (scopes : List ScopeOpening) (trackers : List TrackerOpening) (steps : List Step) → Trace (openedSets scopes trackers) steps
-    → SharedAlong steps (newly grid (map scopeAsked scopes) (map trackerAsked trackers))
-trace-shares ss ts steps t =
-    along steps (openedSets ss ts) (newly grid (map scopeAsked ss) (map trackerAsked ts)) (opened-ready ss ts)
-    (subst (λ (x : Sets ranged). Agree x (newly grid (map scopeAsked ss) (map trackerAsked ts)) (callsOf steps)) (sym (opened-view ss ts)) (agree (map scopeAsked ss) (map trackerAsked ts) (callsOf steps))) t
+model-along : (steps : List Step) (k : Lent) (m : Sets ranged) → Ready k → viewOf k ≡ m → Trace k steps
+    → ModelAlong steps m × (viewOf (setsAfter k steps) ≡ afterCalls ranged (callsOf steps) m)
+model-along [] k m ready e t = (tt, e)
+model-along (s ∷ steps) k m ready e t =
+    let f = subst (λ (x : Sets ranged). Follows (step ranged (s .call) x) s) e (steps-on k ready s (t .0) .1) in
+    let ih = model-along steps (s .sets) (step ranged (s .call) m .after) (f .ready) (f .after) (t .1) in
+    ((is-model s m f, ih .0), ih .1)
+
+-- the sets stay ready
+pub ready-after : (steps : List Step) (k : Lent) → Ready k → Trace k steps → Ready (setsAfter k steps)
+ready-after [] k ready t = ready
+ready-after (s ∷ steps) k ready t = ready-after steps (s .sets) (steps-on k ready s (t .0) .1 .ready) (t .1)
+
+-- what is ready is well formed
+ready-fits : (k : Lent) → Ready k → wellFormed (viewOf k) ≡ true
+ready-fits k r = both
+    (all-every (λ (x : Set Held). scopeFits x ≡ true) scopeFits (λ x e. e) (map scopeIn (k .scopes)) (all-map (λ (s : LentScope). scopeTest s ≡ true) (λ (x : Set Held). scopeFits x ≡ true) scopeIn scope-well (k .scopes) (r .scopes)))
+    (all-every (λ (x : Tracker Held). trackerFits x ≡ true) trackerFits (λ x e. e) (map trackerIn (k .trackers)) (all-map (λ (t : LentTracker). trackerTest t ≡ true) (λ (x : Tracker Held). trackerFits x ≡ true) trackerIn tracker-well (k .trackers) (r .trackers)))
+
+-- ---- The theorems
+pub shares-from : (k : Lent) → Ready k → (steps : List Step) → Trace k steps → SharedAlong steps (toGrids (viewOf k))
+shares-from k ready steps = along steps k (toGrids (viewOf k)) ready (agrees-from (viewOf k) (ready-fits k ready) (callsOf steps))
+
+-- the grids of newly opened storage are newly opened grids
+pub opened-as-grids : (scopes : List ScopeOpening) (trackers : List TrackerOpening)
+    → toGrids (viewOf (openedSets scopes trackers)) ≡ newly grid (map scopeAsked scopes) (map trackerAsked trackers)
+opened-as-grids ss ts = ap toGrids (opened-view ss ts) ∙ opened-grids (map scopeAsked ss) (map trackerAsked ts)
+
+pub model-runs : (k : Lent) → Ready k → (steps : List Step) → Trace k steps
+    → ModelAlong steps (viewOf k) × (viewOf (setsAfter k steps) ≡ afterCalls ranged (callsOf steps) (viewOf k))
+model-runs k ready steps = model-along steps k (viewOf k) ready refl
+
+pub trace-runs : (scopes : List ScopeOpening) (trackers : List TrackerOpening) (steps : List Step) → Trace (openedSets scopes trackers) steps
+    → ModelAlong steps (newly ranged (map scopeAsked scopes) (map trackerAsked trackers))
+    × (viewOf (setsAfter (openedSets scopes trackers) steps) ≡ afterCalls ranged (callsOf steps) (newly ranged (map scopeAsked scopes) (map trackerAsked trackers)))
+trace-runs ss ts steps = model-along steps (openedSets ss ts) (newly ranged (map scopeAsked ss) (map trackerAsked ts)) (opened-ready ss ts) (opened-view ss ts)

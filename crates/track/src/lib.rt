@@ -3,15 +3,16 @@
 // Place in the picture: the top of the calls by value; `exports` and `heads` stand on it. Each call is proved equal to the ranged model on the view of the lent numbers, in the crate that it is
 // handed on to (`opening`, `merging`, `setting`, `joining`, `removing`), and the ranged model agrees with the grid (crate `agreement`);
 // here the two meet. The `ensures` below are the definitions that specs/Trace makes traces of: a trace is any list of calls whose steps
-// meet these contracts, from newly opened storage; at each of its steps the lent numbers show what the grid's run gives, and no step is
-// refused because of what it was lent (4, 5 and 15). So nothing but contracts stands between demand 3 and the code.
+// meet these contracts, from newly opened storage or any that is well formed; at each of its steps the lent numbers show what the grid's run
+// gives, and no step is refused because of what it was lent (4, 5 and 15). So nothing but contracts stands between demand 3 and the code.
 //
 // What holds of every call: nothing is required. Any argument, any numbers in the lent storage and any head of the log get an answer,
 // and a refusal leaves every number as it was.
 //
-// Reading order, in specs/: Trace (definitions alone: what is lent, opened, called and shared) and Demand3 (the theorem). Below them are
-// proofs: LogLaws (an emptied log never refuses, and its entries tell the model's transitions), OpenedLaws (opened storage is the
-// model's, and well formed), StepLaws (a step that meets its contract is the model's) and TraceLaws (step by step, for every trace).
+// Reading order, in specs/: Trace (definitions alone: what is lent, opened, called and shared), Demand3 (the theorem) and Claims (that every
+// trace is the ranged model's run, and the WebGPU rule at its last step). Below them are proofs: LogLaws (an emptied log never refuses, and its
+// entries tell the model's transitions), OpenedLaws (opened storage is the model's, and well formed), StepLaws (a step that meets its contract
+// is the model's), TraceLaws (step by step, for every trace) and UsageLaws (a last step that merges a usage).
 use model::Extent;
 use model::LogHead;
 use model::Outcome;

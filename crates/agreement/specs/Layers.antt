@@ -1,0 +1,30 @@
+-- The layers of a list of ranges: how many they are, and those that it covers; and a texture whose ranges add up, mip by mip, to its layers.
+use mathlib.Core.Bool.{Bool, false, _&&_, _||_}
+use mathlib.Core.List.{List, [], _∷_}
+use mathlib.Core.Path.{_≡_}
+use Prim.Native.Nat.{ℕ, _+_, _-_}
+use lib.Dec.{leb, ltb}
+use Rattle.model.specs.declared.Extent.{Extent}
+use Rattle.model.specs.declared.Range.{Range}
+use Rattle.model.specs.Texture.{Held, single, many}
+use Rattle.agreement.specs.WellFormedSets.{All}
+use Rattle.agreement.specs.LogBound.{sumFrom, oneIf}
+
+-- a layer lies in a range of the list
+abbrev pub covers : List Range → ℕ → Bool
+covers [] l = false
+covers (r ∷ s) l = (leb (r .start) l && ltb l (r .end)) || covers s l
+
+-- the layers below w that the list covers
+abbrev pub covered : List Range → ℕ → ℕ
+covered s w = sumFrom (λ l. oneIf (covers s l)) 0 w
+
+-- the lengths of the ranges, added up
+abbrev pub lengths : List Range → ℕ
+lengths [] = 0
+lengths (r ∷ s) = (r .end - r .start) + lengths s
+
+-- of a texture: the ranges of each mip add up to the layers of its extent
+abbrev pub AddUp : Extent → Held → Type 0
+AddUp sh (single st) = Unit {0}
+AddUp sh (many ss) = All (λ (s : List Range). lengths s ≡ sh .layers) ss

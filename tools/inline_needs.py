@@ -1,0 +1,59 @@
+#!/usr/bin/env python3
+"""inline_needs.py [FILE..]: shortens proof files (default: every crates/*/proofs/**/Proof.antt).
+
+A need that is only `search needs` goes into the call of `tie.spec`, as `(λ c. search needs)`, and the call is laid out on full lines.
+Needs that say more keep their names. Running it twice changes nothing more.
+"""
+import glob
+import re
+import sys
+
+WIDTH = 120
+
+
+def inlined(text):
+    """Every need that is only `search needs` stands where it is used."""
+    for found in list(re.finditer(r'^(\S+) : tie\.Need-[^\n]*\n\1 c( κs)? = search needs\n\n?', text, flags=re.M)):
+        name, more = re.escape(found.group(1)), found.group(2) or ''
+        rest = re.sub(rf'^{name} : tie\.Need-[^\n]*\n{name} c( κs)? = search needs\n\n?', '', text, count=1, flags=re.M)
+        rest, uses = re.subn(rf'(?<=[\s(]){name}(?=[\s)]|$)', f'(λ c{more}. search needs)', rest, flags=re.M)
+        if uses == 1:
+            text = rest
+    return text
+
+
+def words(term):
+    """The arguments of a call: names, and what stands in parentheses."""
+    found, depth, word = [], 0, ''
+    for sign in term:
+        depth += (sign == '(') - (sign == ')')
+        if sign.isspace() and depth == 0:
+            found += [word] if word else []
+            word = ''
+        else:
+            word += sign
+    return found + ([word] if word else [])
+
+
+def laid_out(text):
+    """The call of `tie.spec` on full lines."""
+    def lines(found):
+        args = words(re.sub(r'\s+', ' ', found.group(2)))
+        out, line = [], '(tie.spec'
+        for arg in args:
+            if len(line) + 1 + len(arg) > WIDTH - 4:
+                out.append(line)
+                line = arg
+            else:
+                line += ' ' + arg
+        return found.group(1) + '\n    tie.close\n    ' + '\n    '.join(out + [line + ')']) + '\n'
+    return re.sub(r'(-spec =)\s+tie\.close\s+\(tie\.spec\s+(.*)\)\s*\Z', lines, text, flags=re.S)
+
+
+for path in sys.argv[1:] or glob.glob('crates/*/proofs/**/Proof.antt', recursive=True):
+    with open(path) as file:
+        before = file.read()
+    after = laid_out(inlined(before))
+    if after != before:
+        with open(path, 'w') as file:
+            file.write(after)
