@@ -28,4 +28,6 @@ unfolding selectorRefusal firstFailing
 returns-5 c = record { is = search tests }
 
 pub check-selector-spec : {M : Type 1} → statement M
-check-selector-spec = tie.close (tie.spec returns returns-2 returns-3 returns-4 returns-5)
+check-selector-spec =
+    tie.close
+    (tie.spec returns returns-2 returns-3 returns-4 returns-5)

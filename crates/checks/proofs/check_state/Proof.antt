@@ -7,15 +7,9 @@ use borrow.Author.Needs.{needs}
 use Rattle.checks.proofs.check_state.Statement.{statement}
 use Rattle.checks.proofs.check_state.Tie as tie
 
-state-reserved-requires : tie.Need-state-reserved-requires
-state-reserved-requires c κs = search needs
-
 returns : tie.Need-returns
 unfolding stateRefusal firstFailing
 returns c = let e = sym (c .before .state-reserved .ensures) ∙ (c .if1 .taken) in record { is = rw e }
-
-incompatible-requires : tie.Need-incompatible-requires
-incompatible-requires c κs = search needs
 
 returns-2 : tie.Need-returns-2
 unfolding stateRefusal firstFailing
@@ -27,4 +21,5 @@ returns-3 c = let e = sym (c .before .before .before .state-reserved .ensures) �
 
 pub check-state-spec : {M : Type 1} → statement M
 check-state-spec =
-    tie.close (tie.spec state-reserved-requires returns incompatible-requires returns-2 returns-3)
+    tie.close
+    (tie.spec (λ c κs. search needs) returns (λ c κs. search needs) returns-2 returns-3)

@@ -9,9 +9,6 @@ use borrow.Author.Needs.{needs}
 use Rattle.checks.proofs.check_texture.Statement.{statement}
 use Rattle.checks.proofs.check_texture.Tie as tie
 
-element-copy-out-if1 : tie.Need-element-copy-out-if1
-element-copy-out-if1 c = search needs
-
 returns : tie.Need-returns
 unfolding textureRefusal firstFailing
 returns c = record { is = search tests }
@@ -19,9 +16,6 @@ returns c = record { is = search tests }
 returns-2 : tie.Need-returns-2
 unfolding textureRefusal firstFailing
 returns-2 c = record { is = search tests }
-
-element-copy-out-if3 : tie.Need-element-copy-out-if3
-element-copy-out-if3 c = search needs
 
 returns-3 : tie.Need-returns-3
 unfolding textureRefusal firstFailing
@@ -31,15 +25,9 @@ returns-4 : tie.Need-returns-4
 unfolding textureRefusal firstFailing
 returns-4 c = record { is = search tests }
 
-element-copy-out-if5 : tie.Need-element-copy-out-if5
-element-copy-out-if5 c = search needs
-
 returns-5 : tie.Need-returns-5
 unfolding textureRefusal firstFailing
 returns-5 c = record { is = search tests }
-
-wide-requires : tie.Need-wide-requires
-wide-requires c κs = search needs
 
 other-extent-requires : tie.Need-other-extent-requires
 other-extent-requires c κs = rw ((c .wide .ensures) .0) (omega (arith, (c .before .before .before .before .before .before .before .before .before .before .before .before .before .pre), (c .before .before .before .before .before .before .before .before .before .before .before .if1 .left)))
@@ -53,16 +41,5 @@ returns-7 c = let w = (c .before .before .wide .ensures) .0 in extent-tells _ _ 
 pub check-texture-spec : {M : Type 1} → statement M
 check-texture-spec =
     tie.close
-    (tie.spec
-    element-copy-out-if1
-    returns
-    returns-2
-    element-copy-out-if3
-    returns-3
-    returns-4
-    element-copy-out-if5
-    returns-5
-    wide-requires
-    other-extent-requires
-    returns-6
-    returns-7)
+    (tie.spec (λ c. search needs) returns returns-2 (λ c. search needs) returns-3 returns-4 (λ c. search needs)
+    returns-5 (λ c κs. search needs) other-extent-requires returns-6 returns-7)

@@ -8,31 +8,16 @@ use borrow.Author.Needs.{needs}
 use Rattle.opening.proofs.check.Statement.{statement}
 use Rattle.opening.proofs.check.Tie as tie
 
-numbers-fit-requires : tie.Need-numbers-fit-requires
-numbers-fit-requires c κs = search needs
-
 returns : tie.Need-returns
 unfolding openingRefusal firstFailing
 returns c = let e = sym (c .before .numbers-fit .ensures) ∙ not-true _ (c .if1 .taken) in rw e
-
-flags-fit-requires : tie.Need-flags-fit-requires
-flags-fit-requires c κs = search needs
 
 returns-2 : tie.Need-returns-2
 unfolding openingRefusal firstFailing
 returns-2 c = let n = (sym (c .before .before .before .numbers-fit .ensures) ∙ not-false _ (c .before .before .if1 .left)) in let e = sym (c .before .flags-fit .ensures) ∙ not-true _ (c .if2 .taken) in rw (n, e)
 
-wide-requires : tie.Need-wide-requires
-wide-requires c κs = search needs
-
-wide-requires-2 : tie.Need-wide-requires-2
-wide-requires-2 c κs = search needs
-
 mul-if3 : tie.Need-mul-if3
 mul-if3 c = let k = numbers-in (c .before .before .before .before .before .before .args .n) (c .before .before .before .before .before .before .args .m) (c .before .before .before .before .before .before .args .w) (sym (c .before .before .before .before .before .numbers-fit .ensures) ∙ not-false _ (c .before .before .before .before .if1 .left)) in let s = small (c .before .before .before .before .before .before .args .n) (c .before .before .before .before .before .before .args .m) (c .before .before .before .before .before .before .args .w) (k .textures .high, (k .mips .high, k .layers .high)) in let a = (c .before .wide .ensures) .0 in let b = (c .wide2 .ensures) .0 in record { fits = rw (a, b) (omega (arith, s .two)) }
-
-wide-requires-3 : tie.Need-wide-requires-3
-wide-requires-3 c κs = search needs
 
 mul-if3-2 : tie.Need-mul-if3-2
 mul-if3-2 c = let k = numbers-in (c .before .before .before .before .before .before .before .args .n) (c .before .before .before .before .before .before .before .args .m) (c .before .before .before .before .before .before .before .args .w) (sym (c .before .before .before .before .before .before .numbers-fit .ensures) ∙ not-false _ (c .before .before .before .before .before .if1 .left)) in let s = small (c .before .before .before .before .before .before .before .args .n) (c .before .before .before .before .before .before .before .args .m) (c .before .before .before .before .before .before .before .args .w) (k .textures .high, (k .mips .high, k .layers .high)) in let a = (c .before .before .wide .ensures) .0 in let b = (c .before .wide2 .ensures) .0 in let d = (c .wide3 .ensures) .0 in record { fits = rw (a, b, d) (omega (arith, s .three)) }
@@ -48,15 +33,5 @@ returns-4 c = let n = (sym (c .before .before .before .before .before .before .b
 pub check-spec : {M : Type 1} → statement M
 check-spec =
     tie.close
-    (tie.spec
-    numbers-fit-requires
-    returns
-    flags-fit-requires
-    returns-2
-    wide-requires
-    wide-requires-2
-    mul-if3
-    wide-requires-3
-    mul-if3-2
-    returns-3
-    returns-4)
+    (tie.spec (λ c κs. search needs) returns (λ c κs. search needs) returns-2 (λ c κs. search needs)
+    (λ c κs. search needs) mul-if3 (λ c κs. search needs) mul-if3-2 returns-3 returns-4)

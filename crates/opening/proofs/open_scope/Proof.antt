@@ -5,29 +5,8 @@ use borrow.Author.Needs.{needs}
 use Rattle.opening.proofs.open_scope.Statement.{statement}
 use Rattle.opening.proofs.open_scope.Tie as tie
 
-table-len-requires : tie.Need-table-len-requires
-table-len-requires c κs = search needs
-
-check-requires : tie.Need-check-requires
-check-requires c κs = search needs
-
-enum-told : tie.Need-enum-told
-enum-told c = search needs
-
-write-head-requires : tie.Need-write-head-requires
-write-head-requires c κs = search needs
-
-wide-requires : tie.Need-wide-requires
-wide-requires c κs = search needs
-
 clear-requires : tie.Need-clear-requires
 clear-requires c κs = rw ((c .wide .ensures) .0) (few-of (c .before .before .before .before .before .before .before .before .before .before .args .n) (c .before .before .before .before .before .before .before .before .before .before .args .m) (c .before .before .before .before .before .before .before .before .before .before .args .w) (c .before .before .before .before .before .before .before .before .before .before .args .p) _ _ (rw ((c .before .before .before .before .enum-told .given) .1) at (c .before .before .before .before .before .before .check .ensures)))
-
-enum-known-r : tie.Need-enum-known-r
-enum-known-r c = search needs
-
-enum-known-k : tie.Need-enum-known-k
-enum-known-k c = search needs
 
 returns : tie.Need-returns
 returns c = let e = (rw ((c .before .before .before .before .before .enum-told .given) .1) at (c .before .before .before .before .before .before .before .check .ensures)) in rw ((c .clear .ensures), (c .before .before .before .write-head .ensures), (c .before .wide .ensures) .0) (scope-done _ _ _ _ _ _ ((c .before .before .before .before .before .before .before .before .table-len .ensures) .1) e)
@@ -41,15 +20,5 @@ returns-3 c = scope-conflict _ _ _ _ _ _ _ (rw ((c .before .k .given) .1) at (c 
 pub open-scope-spec : {M : Type 1} → statement M
 open-scope-spec =
     tie.close
-    (tie.spec
-    table-len-requires
-    check-requires
-    enum-told
-    write-head-requires
-    wide-requires
-    clear-requires
-    enum-known-r
-    enum-known-k
-    returns
-    returns-2
-    returns-3)
+    (tie.spec (λ c κs. search needs) (λ c κs. search needs) (λ c. search needs) (λ c κs. search needs)
+    (λ c κs. search needs) clear-requires (λ c. search needs) (λ c. search needs) returns returns-2 returns-3)

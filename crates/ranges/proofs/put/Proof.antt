@@ -6,29 +6,8 @@ use Rattle.ranges.specs.View.{puts}
 use Rattle.ranges.proofs.put.Statement.{statement}
 use Rattle.ranges.proofs.put.Tie as tie
 
-mul-at : tie.Need-mul-at
-mul-at c = search needs
-
-mul-s : tie.Need-mul-s
-mul-s c = search needs
-
-slice-write-s : tie.Need-slice-write-s
-slice-write-s c = search needs
-
-add-s : tie.Need-add-s
-add-s c = search needs
-
-mul-s-2 : tie.Need-mul-s-2
-mul-s-2 c = search needs
-
 slice-write-s-2 : tie.Need-slice-write-s-2
 slice-write-s-2 c = simp length-set (omega arith)
-
-add-s-2 : tie.Need-add-s-2
-add-s-2 c = search needs
-
-mul-s-3 : tie.Need-mul-s-3
-mul-s-3 c = search needs
 
 slice-write-s-3 : tie.Need-slice-write-s-3
 slice-write-s-3 c = simp length-set (omega arith)
@@ -42,15 +21,5 @@ returns c = puts (c .args .s .now) (c .args .k) (c .args .r) (omega arith)
 pub put-spec : {M : Type 1} → statement M
 put-spec =
     tie.close
-    (tie.spec
-    mul-at
-    mul-s
-    slice-write-s
-    add-s
-    mul-s-2
-    slice-write-s-2
-    add-s-2
-    mul-s-3
-    slice-write-s-3
-    same-length
-    returns)
+    (tie.spec (λ c. search needs) (λ c. search needs) (λ c. search needs) (λ c. search needs) (λ c. search needs)
+    slice-write-s-2 (λ c. search needs) (λ c. search needs) slice-write-s-3 same-length returns)

@@ -16,4 +16,6 @@ returns-4 : tie.Need-returns-4
 returns-4 c = rw (eq-eqb _ _ (c .before .before .before .before .before .before .before .if1 .left), eq-eqb _ _ (c .before .before .before .before .if2 .left), eq-eqb _ _ (c .before .before .if3 .left))
 
 pub is-full-spec : {M : Type 1} → statement M
-is-full-spec = tie.close (tie.spec returns returns-2 returns-3 returns-4)
+is-full-spec =
+    tie.close
+    (tie.spec returns returns-2 returns-3 returns-4)

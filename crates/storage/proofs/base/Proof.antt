@@ -25,4 +25,6 @@ unfolding baseOf
 returns c = (refl, known c .end)
 
 pub base-spec : {M : Type 1} → statement M
-base-spec = tie.close (tie.spec mul-result add-result mul-result-2 mul-result-3 returns)
+base-spec =
+    tie.close
+    (tie.spec mul-result add-result mul-result-2 mul-result-3 returns)

@@ -4,15 +4,11 @@ use borrow.Author.Needs.{needs}
 use Rattle.usage.proofs.incompatible.Statement.{statement}
 use Rattle.usage.proofs.incompatible.Tie as tie
 
-meets-requires : tie.Need-meets-requires
-meets-requires c κs = search needs
-
-one-bit-requires : tie.Need-one-bit-requires
-one-bit-requires c κs = search needs
-
 returns : tie.Need-returns
 unfolding incompatible
 returns c = rw (c .before .meets .ensures, c .one-bit .ensures)
 
 pub incompatible-spec : {M : Type 1} → statement M
-incompatible-spec = tie.close (tie.spec meets-requires one-bit-requires returns)
+incompatible-spec =
+    tie.close
+    (tie.spec (λ c κs. search needs) (λ c κs. search needs) returns)

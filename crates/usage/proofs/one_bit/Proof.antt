@@ -7,4 +7,6 @@ returns : tie.Need-returns
 returns c = rw (ones-masked 16 (c .args .s))
 
 pub one-bit-spec : {M : Type 1} → statement M
-one-bit-spec = tie.close (tie.spec returns)
+one-bit-spec =
+    tie.close
+    (tie.spec returns)

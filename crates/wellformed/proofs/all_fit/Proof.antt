@@ -23,4 +23,5 @@ returns-3 c = (c .slots-fit .ensures)
 
 pub all-fit-spec : {M : Type 1} → statement M
 all-fit-spec =
-    tie.close (tie.spec scope-words-requires returns returns-2 slots-fit-requires returns-3)
+    tie.close
+    (tie.spec scope-words-requires returns returns-2 slots-fit-requires returns-3)

@@ -28,12 +28,6 @@ mip-fits-requires c κs = let q = (c .before .before .before .pre) in (mip-ready
 returns : tie.Need-returns Inv-loop μ-loop
 returns c = let q = (c .before .before .before .before .before .pre) in rw (mips-told _ (q .0) (q .1 .0) (q .1 .1 .0)) (sym (every-stop _ _ _ _ (c .before .before .before .loop .inv .1) (sym (c .before .mip-fits .ensures) ∙ not-true _ (c .if1 .taken)) (c .before .before .loop-test .taken)))
 
-add-m : tie.Need-add-m Inv-loop μ-loop
-add-m c = search needs
-
-loop-less : tie.Need-loop-less Inv-loop μ-loop
-loop-less c = search needs
-
 loop-again : tie.Need-loop-again Inv-loop μ-loop
 loop-again c = (omega arith, every-more _ _ _ (c .before .before .before .loop .inv .1) (sym (c .before .mip-fits .ensures) ∙ not-false _ (c .if1 .left)))
 
@@ -43,13 +37,5 @@ returns-2 c = let q = (c .before .before .before .pre) in let z : (c .before .lo
 pub mips-fit-spec : {M : Type 1} → statement M
 mips-fit-spec =
     tie.close
-    (tie.spec
-    Inv-loop
-    μ-loop
-    loop-holds
-    mip-fits-requires
-    returns
-    add-m
-    loop-less
-    loop-again
+    (tie.spec Inv-loop μ-loop loop-holds mip-fits-requires returns (λ c. search needs) (λ c. search needs) loop-again
     returns-2)

@@ -16,26 +16,14 @@ abbrev μ-loop : tie.MeasureT-loop
 loop-holds : tie.Need-loop-holds Inv-loop μ-loop
 loop-holds c = tiling-start _ _ _ _
 
-get-requires : tie.Need-get-requires Inv-loop μ-loop
-get-requires c κs = search needs
-
 returns : tie.Need-returns Inv-loop μ-loop
 returns c = bad-start (c .before .before .before .before .before .before .pre) (c .before .before .before .before .loop .inv) (c .before .before .before .loop-test .taken) (c .before .before .get .ensures) (c .if1 .taken)
 
 returns-2 : tie.Need-returns-2 Inv-loop μ-loop
 returns-2 c = bad-end (c .before .before .before .before .before .before .before .before .pre) (c .before .before .before .before .before .before .loop .inv) (c .before .before .before .before .before .loop-test .taken) (c .before .before .before .before .get .ensures) (c .before .before .if1 .left) (c .if2 .taken)
 
-state-fits-requires : tie.Need-state-fits-requires Inv-loop μ-loop
-state-fits-requires c κs = search needs
-
 returns-3 : tie.Need-returns-3 Inv-loop μ-loop
 returns-3 c = bad-state (c .before .before .before .before .before .before .before .before .before .before .pre) (c .before .before .before .before .before .before .before .before .loop .inv) (c .before .before .before .before .before .before .before .loop-test .taken) (c .before .before .before .before .before .before .get .ensures) (c .before .before .before .before .if1 .left) (c .before .before .if2 .left) (sym (c .before .state-fits .ensures) ∙ not-true _ (c .if3 .taken))
-
-add-k : tie.Need-add-k Inv-loop μ-loop
-add-k c = search needs
-
-loop-less : tie.Need-loop-less Inv-loop μ-loop
-loop-less c = search needs
 
 loop-again : tie.Need-loop-again Inv-loop μ-loop
 loop-again c = tiling-turn (c .before .before .before .before .before .before .before .before .before .before .pre) (c .before .before .before .before .before .before .before .before .loop .inv) (c .before .before .before .before .before .before .before .loop-test .taken) (c .before .before .before .before .before .before .get .ensures) (c .before .before .before .before .if1 .left) (c .before .before .if2 .left) (sym (c .before .state-fits .ensures) ∙ not-false _ (c .if3 .left))
@@ -46,16 +34,5 @@ returns-4 c = tiling-end (c .before .loop .inv) (c .loop-test .left)
 pub ranges-fit-spec : {M : Type 1} → statement M
 ranges-fit-spec =
     tie.close
-    (tie.spec
-    Inv-loop
-    μ-loop
-    loop-holds
-    get-requires
-    returns
-    returns-2
-    state-fits-requires
-    returns-3
-    add-k
-    loop-less
-    loop-again
-    returns-4)
+    (tie.spec Inv-loop μ-loop loop-holds (λ c κs. search needs) returns returns-2 (λ c κs. search needs) returns-3
+    (λ c. search needs) (λ c. search needs) loop-again returns-4)

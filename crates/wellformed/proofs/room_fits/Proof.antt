@@ -4,17 +4,8 @@ use borrow.Author.Needs.{needs}
 use Rattle.wellformed.proofs.room_fits.Statement.{statement}
 use Rattle.wellformed.proofs.room_fits.Tie as tie
 
-wide-requires : tie.Need-wide-requires
-wide-requires c κs = search needs
-
-wide-requires-2 : tie.Need-wide-requires-2
-wide-requires-2 c κs = search needs
-
 mul-result : tie.Need-mul-result
 mul-result c = let s = small _ _ _ (c .before .before .pre) in rw ((c .before .wide .ensures .0), (c .wide2 .ensures .0)) (search needs)
-
-wide-requires-3 : tie.Need-wide-requires-3
-wide-requires-3 c κs = search needs
 
 mul-result-2 : tie.Need-mul-result-2
 mul-result-2 c = let s = small _ _ _ (c .before .before .before .pre) in rw ((c .before .before .wide .ensures .0), (c .before .wide2 .ensures .0), (c .wide3 .ensures .0)) (search needs)
@@ -25,4 +16,4 @@ returns c = rw ((c .before .before .wide .ensures .0), (c .before .wide2 .ensure
 pub room-fits-spec : {M : Type 1} → statement M
 room-fits-spec =
     tie.close
-    (tie.spec wide-requires wide-requires-2 mul-result wide-requires-3 mul-result-2 returns)
+    (tie.spec (λ c κs. search needs) (λ c κs. search needs) mul-result (λ c κs. search needs) mul-result-2 returns)

@@ -7,23 +7,8 @@ use borrow.Author.Needs.{needs}
 use Rattle.wellformed.proofs.scope_fits.Statement.{statement}
 use Rattle.wellformed.proofs.scope_fits.Tie as tie
 
-table-len-requires : tie.Need-table-len-requires
-table-len-requires c κs = search needs
-
-head-fits-requires : tie.Need-head-fits-requires
-head-fits-requires c κs = search needs
-
 returns : tie.Need-returns
 returns c = rw (scope-is ((c .before .before .before .before .args) .table .now) ((c .before .before .before .before .args) .ranges .now), sym (c .before .head-fits .ensures) ∙ not-true _ (c .if1 .taken))
-
-element-copy-out-wide : tie.Need-element-copy-out-wide
-element-copy-out-wide c = search needs
-
-wide-requires : tie.Need-wide-requires
-wide-requires c κs = search needs
-
-flags-of-requires : tie.Need-flags-of-requires
-flags-of-requires c κs = search needs
 
 all-fit-requires : tie.Need-all-fit-requires
 all-fit-requires c κs = (head-measured _ _ (c .before .before .before .before .before .table-len .ensures .1) (sym (c .before .before .before .before .head-fits .ensures) ∙ not-false _ (c .before .before .before .if1 .left)), ((c .before .wide .ensures .0), (c .flags-of .ensures)))
@@ -34,12 +19,5 @@ returns-2 c = rw (scope-is ((c .before .before .before .before .before .before .
 pub scope-fits-spec : {M : Type 1} → statement M
 scope-fits-spec =
     tie.close
-    (tie.spec
-    table-len-requires
-    head-fits-requires
-    returns
-    element-copy-out-wide
-    wide-requires
-    flags-of-requires
-    all-fit-requires
-    returns-2)
+    (tie.spec (λ c κs. search needs) (λ c κs. search needs) returns (λ c. search needs) (λ c κs. search needs)
+    (λ c κs. search needs) all-fit-requires returns-2)

@@ -3,14 +3,10 @@ use borrow.Author.Needs.{needs}
 use Rattle.wellformed.proofs.single_fits.Statement.{statement}
 use Rattle.wellformed.proofs.single_fits.Tie as tie
 
-state-fits-requires : tie.Need-state-fits-requires
-state-fits-requires c κs = search needs
-
-meets-requires : tie.Need-meets-requires
-meets-requires c κs = search needs
-
 returns : tie.Need-returns
 returns c = rw (c .before .state-fits .ensures, c .meets .ensures)
 
 pub single-fits-spec : {M : Type 1} → statement M
-single-fits-spec = tie.close (tie.spec state-fits-requires meets-requires returns)
+single-fits-spec =
+    tie.close
+    (tie.spec (λ c κs. search needs) (λ c κs. search needs) returns)

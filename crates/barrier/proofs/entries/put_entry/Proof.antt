@@ -8,71 +8,23 @@ use borrow.Author.Needs.{needs}
 use Rattle.barrier.proofs.entries.put_entry.Statement.{statement}
 use Rattle.barrier.proofs.entries.put_entry.Tie as tie
 
-mul-at : tie.Need-mul-at
-mul-at c = search needs
-
-mul-log : tie.Need-mul-log
-mul-log c = search needs
-
-slice-write-log : tie.Need-slice-write-log
-slice-write-log c = search needs
-
-add-log : tie.Need-add-log
-add-log c = search needs
-
-mul-log-2 : tie.Need-mul-log-2
-mul-log-2 c = search needs
-
 slice-write-log-2 : tie.Need-slice-write-log-2
 slice-write-log-2 c = simp length-set (omega arith)
-
-add-log-2 : tie.Need-add-log-2
-add-log-2 c = search needs
-
-mul-log-3 : tie.Need-mul-log-3
-mul-log-3 c = search needs
 
 slice-write-log-3 : tie.Need-slice-write-log-3
 slice-write-log-3 c = simp length-set (omega arith)
 
-add-log-3 : tie.Need-add-log-3
-add-log-3 c = search needs
-
-mul-log-4 : tie.Need-mul-log-4
-mul-log-4 c = search needs
-
 slice-write-log-4 : tie.Need-slice-write-log-4
 slice-write-log-4 c = simp length-set (omega arith)
-
-add-log-4 : tie.Need-add-log-4
-add-log-4 c = search needs
-
-mul-log-5 : tie.Need-mul-log-5
-mul-log-5 c = search needs
 
 slice-write-log-5 : tie.Need-slice-write-log-5
 slice-write-log-5 c = simp length-set (omega arith)
 
-add-log-5 : tie.Need-add-log-5
-add-log-5 c = search needs
-
-mul-log-6 : tie.Need-mul-log-6
-mul-log-6 c = search needs
-
 slice-write-log-6 : tie.Need-slice-write-log-6
 slice-write-log-6 c = simp length-set (omega arith)
 
-add-log-6 : tie.Need-add-log-6
-add-log-6 c = search needs
-
-mul-log-7 : tie.Need-mul-log-7
-mul-log-7 c = search needs
-
 slice-write-log-7 : tie.Need-slice-write-log-7
 slice-write-log-7 c = simp length-set (omega arith)
-
-same-length : tie.Need-same-length
-same-length c = search needs
 
 returns : tie.Need-returns
 returns c =
@@ -87,27 +39,7 @@ returns c =
 pub put-entry-spec : {M : Type 1} → statement M
 put-entry-spec =
     tie.close
-    (tie.spec
-    mul-at
-    mul-log
-    slice-write-log
-    add-log
-    mul-log-2
-    slice-write-log-2
-    add-log-2
-    mul-log-3
-    slice-write-log-3
-    add-log-3
-    mul-log-4
-    slice-write-log-4
-    add-log-4
-    mul-log-5
-    slice-write-log-5
-    add-log-5
-    mul-log-6
-    slice-write-log-6
-    add-log-6
-    mul-log-7
-    slice-write-log-7
-    same-length
-    returns)
+    (tie.spec (λ c. search needs) (λ c. search needs) (λ c. search needs) (λ c. search needs) (λ c. search needs)
+    slice-write-log-2 (λ c. search needs) (λ c. search needs) slice-write-log-3 (λ c. search needs) (λ c. search needs)
+    slice-write-log-4 (λ c. search needs) (λ c. search needs) slice-write-log-5 (λ c. search needs) (λ c. search needs)
+    slice-write-log-6 (λ c. search needs) (λ c. search needs) slice-write-log-7 (λ c. search needs) returns)

@@ -19,14 +19,8 @@ abbrev μ-loop : tie.MeasureT-loop
 loop-holds : tie.Need-loop-holds Inv-loop μ-loop
 loop-holds c = mips-start _ _ _ _ _ 0 _ _ _ (omega arith)
 
-wide-requires : tie.Need-wide-requires Inv-loop μ-loop
-wide-requires c κs = search needs
-
 locate-requires : tie.Need-locate-requires Inv-loop μ-loop
 locate-requires c κs = rw ((c .wide .ensures .0)) (locates (mip-ready ((c .before .before .before .before .before .before .pre) .0) (c .before .loop-test .taken)))
-
-mul-part : tie.Need-mul-part Inv-loop μ-loop
-mul-part c = search needs
 
 sub-part : tie.Need-sub-part Inv-loop μ-loop
 sub-part c = (c .locate .ensures) .order
@@ -37,14 +31,8 @@ part-part-start c = (c .locate .ensures) .order
 part-part-end : tie.Need-part-part-end Inv-loop μ-loop
 part-part-end c = (c .locate .ensures) .end
 
-wide-requires-2 : tie.Need-wide-requires-2 Inv-loop μ-loop
-wide-requires-2 c κs = search needs
-
 locate-requires-2 : tie.Need-locate-requires-2 Inv-loop μ-loop
 locate-requires-2 c κs = rw ((c .wide2 .ensures .0)) (locates (mip-ready ((c .before .before .before .before .before .before .before .before .before .pre) .1 .0) (c .before .before .before .before .loop-test .taken)))
-
-mul-by : tie.Need-mul-by Inv-loop μ-loop
-mul-by c = search needs
 
 sub-by : tie.Need-sub-by Inv-loop μ-loop
 sub-by c = (c .locate2 .ensures) .order
@@ -73,36 +61,12 @@ loop-less c = omega arith
 loop-again : tie.Need-loop-again Inv-loop μ-loop
 loop-again c = let f = (rw ((c .before .before .before .before .before .before .before .before .before .wide .ensures .0)) at (c .before .before .before .before .before .before .before .before .locate .ensures)) in let g = (rw ((c .before .before .before .before .before .before .wide2 .ensures .0)) at (c .before .before .before .before .before .locate2 .ensures)) in mips-turn _ _ (c .before .before .before .before .before .before .before .before .before .before .before .loop .inv) ((c .before .before .before .before .before .before .before .before .before .before .before .before .before .before .before .pre) .1 .1 .1) (c .before .before .before .before .before .before .before .before .before .before .loop-test .taken) (omega arith) (rw (run-is ((c .before .before .before .before .before .before .before .before .before .before .before .before .before .before .before .pre) .0) (c .before .before .before .before .before .before .before .before .before .before .loop-test .taken) f, run-is ((c .before .before .before .before .before .before .before .before .before .before .before .before .before .before .before .pre) .1 .0) (c .before .before .before .before .before .before .before .before .before .before .loop-test .taken) g) at (c .before .before .log-pairs .ensures))
 
-same-length : tie.Need-same-length Inv-loop μ-loop
-same-length c = search needs
-
 returns : tie.Need-returns Inv-loop μ-loop
 returns c = mips-end _ _ (c .before .loop .inv) (omega (arith, (c .before .before .before .before .before .pre) .0 .top, (c .before .loop .inv) .high)) (c .loop-test .left)
 
 pub log-mip-pairs-spec : {M : Type 1} → statement M
 log-mip-pairs-spec =
     tie.close
-    (tie.spec
-    Inv-loop
-    μ-loop
-    loop-holds
-    wide-requires
-    locate-requires
-    mul-part
-    sub-part
-    part-part-start
-    part-part-end
-    wide-requires-2
-    locate-requires-2
-    mul-by
-    sub-by
-    part-by-start
-    part-by-end
-    add-log-pairs
-    log-pairs-requires
-    add-x
-    add-m
-    loop-less
-    loop-again
-    same-length
-    returns)
+    (tie.spec Inv-loop μ-loop loop-holds (λ c κs. search needs) locate-requires (λ c. search needs) sub-part
+    part-part-start part-part-end (λ c κs. search needs) locate-requires-2 (λ c. search needs) sub-by part-by-start
+    part-by-end add-log-pairs log-pairs-requires add-x add-m loop-less loop-again (λ c. search needs) returns)

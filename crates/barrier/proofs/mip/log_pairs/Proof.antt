@@ -20,29 +20,11 @@ abbrev μ-loop : tie.MeasureT-loop
 loop-holds : tie.Need-loop-holds Inv-loop μ-loop
 loop-holds c = run-start _ _ _ _ _ _ _
 
-get-requires : tie.Need-get-requires Inv-loop μ-loop
-get-requires c κs = search needs
-
-add-log-run : tie.Need-add-log-run Inv-loop μ-loop
-add-log-run c = search needs
-
 log-run-requires : tie.Need-log-run-requires Inv-loop μ-loop
 log-run-requires c κs = (record { room = (c .before .before .before .before .before .before .before .pre) .0 .held .room; few = (c .before .before .before .before .before .before .before .pre) .0 .held .few; level = (c .before .before .before .before .before .before .before .pre) .0 .held .level; low = omega arith }, run-room _ (c .before .before .before .loop .inv) ((c .before .before .before .before .before .before .before .pre) .0 .room) ((c .before .before .before .before .before .before .before .pre) .1) (c .before .before .loop-test .taken) (c .before .get .ensures))
 
-add-x : tie.Need-add-x Inv-loop μ-loop
-add-x c = search needs
-
-add-k : tie.Need-add-k Inv-loop μ-loop
-add-k c = search needs
-
-loop-less : tie.Need-loop-less Inv-loop μ-loop
-loop-less c = search needs
-
 loop-again : tie.Need-loop-again Inv-loop μ-loop
 loop-again c = run-turn _ (c .before .before .before .before .before .before .loop .inv) ((c .before .before .before .before .before .before .before .before .before .before .pre) .0 .room) ((c .before .before .before .before .before .before .before .before .before .before .pre) .1) (c .before .before .before .before .before .loop-test .taken) (c .before .before .before .before .get .ensures) (omega arith) (c .before .before .log-run .ensures)
-
-same-length : tie.Need-same-length Inv-loop μ-loop
-same-length c = search needs
 
 returns : tie.Need-returns Inv-loop μ-loop
 returns c = run-end _ (c .before .loop .inv) (omega arith) (c .loop-test .left)
@@ -50,16 +32,5 @@ returns c = run-end _ (c .before .loop .inv) (omega arith) (c .loop-test .left)
 pub log-pairs-spec : {M : Type 1} → statement M
 log-pairs-spec =
     tie.close
-    (tie.spec
-    Inv-loop
-    μ-loop
-    loop-holds
-    get-requires
-    add-log-run
-    log-run-requires
-    add-x
-    add-k
-    loop-less
-    loop-again
-    same-length
-    returns)
+    (tie.spec Inv-loop μ-loop loop-holds (λ c κs. search needs) (λ c. search needs) log-run-requires (λ c. search needs)
+    (λ c. search needs) (λ c. search needs) loop-again (λ c. search needs) returns)

@@ -6,22 +6,13 @@ use borrow.Author.Needs.{needs}
 use Rattle.barrier.proofs.mip.log_range.Statement.{statement}
 use Rattle.barrier.proofs.mip.log_range.Tie as tie
 
-change-of-requires : tie.Need-change-of-requires
-change-of-requires c κs = search needs
-
 returns : tie.Need-returns
 returns c = rw (change-none _ _ _ _ _ (c .before .before .change-of .ensures) (not-true _ (c .if1 .taken))) (logged-none _ _ _ _ _)
-
-on-mip-requires : tie.Need-on-mip-requires
-on-mip-requires c κs = search needs
 
 log-move-requires : tie.Need-log-move-requires
 log-move-requires c κs =
     let a = (c .before .before .before .before .before .before .args) in
     rw (← change-one (a .t .unknown) (a .t .mask) (a .mip) (a .step) (a .r) (c .before .before .before .before .change-of .ensures) (not-false _ (c .before .before .if1 .left)) (c .before .on-mip .ensures)) ((c .before .before .before .before .before .before .pre) .1)
-
-same-length : tie.Need-same-length
-same-length c = search needs
 
 returns-2 : tie.Need-returns-2
 returns-2 c = rw (change-one _ _ _ _ _ (c .before .before .before .before .before .before .before .change-of .ensures) (not-false _ (c .before .before .before .before .before .if1 .left)) (c .before .before .before .before .on-mip .ensures)) (c .before .before .log-move .ensures)
@@ -29,4 +20,4 @@ returns-2 c = rw (change-one _ _ _ _ _ (c .before .before .before .before .befor
 pub log-range-spec : {M : Type 1} → statement M
 log-range-spec =
     tie.close
-    (tie.spec change-of-requires returns on-mip-requires log-move-requires same-length returns-2)
+    (tie.spec (λ c κs. search needs) returns (λ c κs. search needs) log-move-requires (λ c. search needs) returns-2)

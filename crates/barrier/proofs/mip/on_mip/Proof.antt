@@ -4,11 +4,10 @@ use borrow.Author.Needs.{needs}
 use Rattle.barrier.proofs.mip.on_mip.Statement.{statement}
 use Rattle.barrier.proofs.mip.on_mip.Tie as tie
 
-add-t5 : tie.Need-add-t5
-add-t5 c = search needs
-
 returns : tie.Need-returns
 returns c = rw add-one
 
 pub on-mip-spec : {M : Type 1} → statement M
-on-mip-spec = tie.close (tie.spec add-t5 returns)
+on-mip-spec =
+    tie.close
+    (tie.spec (λ c. search needs) returns)

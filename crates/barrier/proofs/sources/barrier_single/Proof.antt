@@ -3,21 +3,13 @@ use borrow.Author.Needs.{needs}
 use Rattle.barrier.proofs.sources.barrier_single.Statement.{statement}
 use Rattle.barrier.proofs.sources.barrier_single.Tie as tie
 
-task-of-requires : tie.Need-task-of-requires
-task-of-requires c κs = search needs
-
-full-requires : tie.Need-full-requires
-full-requires c κs = search needs
-
 log-move-requires : tie.Need-log-move-requires
 log-move-requires c κs = rw ((c .before .full .ensures), (c .before .before .task-of .ensures)) ((c .before .before .before .before .pre) .1)
-
-same-length : tie.Need-same-length
-same-length c = search needs
 
 returns : tie.Need-returns
 returns c = rw ((c .before .before .before .before .full .ensures), (c .before .before .before .before .before .task-of .ensures)) at (c .before .before .log-move .ensures)
 
 pub barrier-single-spec : {M : Type 1} → statement M
 barrier-single-spec =
-    tie.close (tie.spec task-of-requires full-requires log-move-requires same-length returns)
+    tie.close
+    (tie.spec (λ c κs. search needs) (λ c κs. search needs) log-move-requires (λ c. search needs) returns)

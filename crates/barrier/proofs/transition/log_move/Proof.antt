@@ -6,9 +6,6 @@ use borrow.Author.Needs.{needs}
 use Rattle.barrier.proofs.transition.log_move.Statement.{statement}
 use Rattle.barrier.proofs.transition.log_move.Tie as tie
 
-moves-requires : tie.Need-moves-requires
-moves-requires c κs = search needs
-
 returns : tie.Need-returns
 returns c = move-none _ _ _ _ _ _ _ _ _ (sym (c .before .moves .ensures) ∙ not-true _ (c .if1 .taken))
 
@@ -20,12 +17,10 @@ put-entry-requires c κs =
     let a = (c .before .before .before .before .before .before .before .args) in
     move-room (a .selector) (a .t .unknown) (a .t .mask) (a .old) (a .new) (a .t .index .0) (a .t .write) (a .log .now) (a .at) (sym (c .before .before .before .before .before .moves .ensures) ∙ not-false _ (c .before .before .before .before .if1 .left)) (not-false _ (c .before .before .if2 .left)) (c .before .before .before .before .before .before .before .pre)
 
-same-length : tie.Need-same-length
-same-length c = search needs
-
 returns-3 : tie.Need-returns-3
 returns-3 c = move-written _ _ _ _ _ _ _ _ _ (sym (c .before .before .before .before .before .before .before .before .moves .ensures) ∙ not-false _ (c .before .before .before .before .before .before .before .if1 .left)) (not-false _ (c .before .before .before .before .before .if2 .left)) (c .before .before .put-entry .ensures)
 
 pub log-move-spec : {M : Type 1} → statement M
 log-move-spec =
-    tie.close (tie.spec moves-requires returns returns-2 put-entry-requires same-length returns-3)
+    tie.close
+    (tie.spec (λ c κs. search needs) returns returns-2 put-entry-requires (λ c. search needs) returns-3)

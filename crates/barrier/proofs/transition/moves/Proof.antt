@@ -11,11 +11,10 @@ returns c = rw moves-is (search tests)
 returns-2 : tie.Need-returns-2
 returns-2 c = rw moves-is (search tests)
 
-skips-requires : tie.Need-skips-requires
-skips-requires c κs = search needs
-
 returns-3 : tie.Need-returns-3
 returns-3 c = rw (moves-is, c .skips .ensures) (search tests)
 
 pub moves-spec : {M : Type 1} → statement M
-moves-spec = tie.close (tie.spec returns returns-2 skips-requires returns-3)
+moves-spec =
+    tie.close
+    (tie.spec returns returns-2 (λ c κs. search needs) returns-3)

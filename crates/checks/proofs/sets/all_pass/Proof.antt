@@ -18,15 +18,6 @@ abbrev μ-loop : tie.MeasureT-loop
 loop-holds : tie.Need-loop-holds Inv-loop μ-loop
 loop-holds c = (omega arith, λ z. passes-nothing _ _)
 
-owned-passes-requires : tie.Need-owned-passes-requires Inv-loop μ-loop
-owned-passes-requires c κs = search needs
-
-add-i : tie.Need-add-i Inv-loop μ-loop
-add-i c = search needs
-
-loop-less : tie.Need-loop-less Inv-loop μ-loop
-loop-less c = search needs
-
 loop-again : tie.Need-loop-again Inv-loop μ-loop
 loop-again c = (omega arith, passes-more _ _ (c .before .before .loop .inv .1) (c .owned-passes .ensures))
 
@@ -36,4 +27,5 @@ returns c = let z : (c .before .loop .i) ≡ ((c .before .before .args) .n) = om
 pub all-pass-spec : {M : Type 1} → statement M
 all-pass-spec =
     tie.close
-    (tie.spec Inv-loop μ-loop loop-holds owned-passes-requires add-i loop-less loop-again returns)
+    (tie.spec Inv-loop μ-loop loop-holds (λ c κs. search needs) (λ c. search needs) (λ c. search needs) loop-again
+    returns)

@@ -14,35 +14,14 @@ Inv-loop table given n i₀ i = Left (ownedRefusal table given) n (setRefusal (h
 abbrev μ-loop : tie.MeasureT-loop
 μ-loop table given n i₀ i = n - i
 
-element-copy-out-n : tie.Need-element-copy-out-n Inv-loop μ-loop
-element-copy-out-n c = search needs
-
 loop-holds : tie.Need-loop-holds Inv-loop μ-loop
 loop-holds c = set-begins _ _ (c .before .pre .1)
-
-check-owned-requires : tie.Need-check-owned-requires Inv-loop μ-loop
-check-owned-requires c κs = search needs
-
-enum-told : tie.Need-enum-told Inv-loop μ-loop
-enum-told c = search needs
-
-add-i : tie.Need-add-i Inv-loop μ-loop
-add-i c = search needs
-
-loop-less : tie.Need-loop-less Inv-loop μ-loop
-loop-less c = search needs
 
 loop-again : tie.Need-loop-again Inv-loop μ-loop
 loop-again c = turn (c .before .before .before .before .loop .inv) (c .before .before .before .loop-test .taken) ((c .before .before .check-owned .ensures) .is) ((c .enum-told .given) .1)
 
-enum-known-r : tie.Need-enum-known-r Inv-loop μ-loop
-enum-known-r c = search needs
-
 returns : tie.Need-returns Inv-loop μ-loop
 returns c = record { is = stop (c .before .before .before .before .before .loop .inv) (c .before .before .before .before .loop-test .taken) ((c .before .before .before .check-owned .ensures) .is) ((c .before .r .given) .1) }
-
-enum-known-k : tie.Need-enum-known-k Inv-loop μ-loop
-enum-known-k c = search needs
 
 returns-2 : tie.Need-returns-2 Inv-loop μ-loop
 returns-2 c = absurd (never (c .before .before .before .before .before .loop .inv) ((c .before .before .before .check-owned .ensures) .is) ((c .before .k .given) .1))
@@ -53,18 +32,6 @@ returns-3 c = record { is = end (c .before .loop .inv) (c .loop-test .left) }
 pub check-each-spec : {M : Type 1} → statement M
 check-each-spec =
     tie.close
-    (tie.spec
-    Inv-loop
-    μ-loop
-    element-copy-out-n
-    loop-holds
-    check-owned-requires
-    enum-told
-    add-i
-    loop-less
-    loop-again
-    enum-known-r
-    returns
-    enum-known-k
-    returns-2
+    (tie.spec Inv-loop μ-loop (λ c. search needs) loop-holds (λ c κs. search needs) (λ c. search needs)
+    (λ c. search needs) (λ c. search needs) loop-again (λ c. search needs) returns (λ c. search needs) returns-2
     returns-3)

@@ -17,44 +17,17 @@ Inv-loop table given indices k₀ k = Left (listedAt table given indices) (lengt
 abbrev μ-loop : tie.MeasureT-loop
 μ-loop table given indices k₀ k = length indices - k
 
-same-flags-requires : tie.Need-same-flags-requires Inv-loop μ-loop
-same-flags-requires c κs = search needs
-
 returns : tie.Need-returns Inv-loop μ-loop
 returns c = sparse-differs _ _ _ (sym (c .before .same-flags .ensures) ∙ not-true _ (c .if1 .taken))
 
 loop-holds : tie.Need-loop-holds Inv-loop μ-loop
 loop-holds c = sparse-begins _ _ (c .before .before .before .args .indices .now) (sym (c .before .same-flags .ensures) ∙ not-false _ (c .if1 .left))
 
-mul-i : tie.Need-mul-i Inv-loop μ-loop
-mul-i c = search needs
-
-shared-slice-read-i : tie.Need-shared-slice-read-i Inv-loop μ-loop
-shared-slice-read-i c = search needs
-
-check-listed-requires : tie.Need-check-listed-requires Inv-loop μ-loop
-check-listed-requires c κs = search needs
-
-enum-told : tie.Need-enum-told Inv-loop μ-loop
-enum-told c = search needs
-
-add-k : tie.Need-add-k Inv-loop μ-loop
-add-k c = search needs
-
-loop-less : tie.Need-loop-less Inv-loop μ-loop
-loop-less c = search needs
-
 loop-again : tie.Need-loop-again Inv-loop μ-loop
 loop-again c = turn (c .before .before .before .before .before .loop .inv) (c .before .before .before .before .loop-test .taken) ((c .before .before .check-listed .ensures) .is) ((c .enum-told .given) .1)
 
-enum-known-r : tie.Need-enum-known-r Inv-loop μ-loop
-enum-known-r c = search needs
-
 returns-2 : tie.Need-returns-2 Inv-loop μ-loop
 returns-2 c = record { is = stop (c .before .before .before .before .before .before .loop .inv) (c .before .before .before .before .before .loop-test .taken) ((c .before .before .before .check-listed .ensures) .is) ((c .before .r .given) .1) }
-
-enum-known-c : tie.Need-enum-known-c Inv-loop μ-loop
-enum-known-c c = search needs
 
 returns-3 : tie.Need-returns-3 Inv-loop μ-loop
 returns-3 c = absurd (never (c .before .before .before .before .before .before .loop .inv) ((c .before .before .before .check-listed .ensures) .is) ((c .before .c .given) .1))
@@ -65,21 +38,6 @@ returns-4 c = record { is = end (c .before .loop .inv) (c .loop-test .left) }
 pub check-sparse-spec : {M : Type 1} → statement M
 check-sparse-spec =
     tie.close
-    (tie.spec
-    Inv-loop
-    μ-loop
-    same-flags-requires
-    returns
-    loop-holds
-    mul-i
-    shared-slice-read-i
-    check-listed-requires
-    enum-told
-    add-k
-    loop-less
-    loop-again
-    enum-known-r
-    returns-2
-    enum-known-c
-    returns-3
-    returns-4)
+    (tie.spec Inv-loop μ-loop (λ c κs. search needs) returns loop-holds (λ c. search needs) (λ c. search needs)
+    (λ c κs. search needs) (λ c. search needs) (λ c. search needs) (λ c. search needs) loop-again (λ c. search needs)
+    returns-2 (λ c. search needs) returns-3 returns-4)

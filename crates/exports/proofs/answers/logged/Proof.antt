@@ -3,11 +3,10 @@ use borrow.Author.Needs.{needs}
 use Rattle.exports.proofs.answers.logged.Statement.{statement}
 use Rattle.exports.proofs.answers.logged.Tie as tie
 
-flat-requires : tie.Need-flat-requires
-flat-requires c κs = search needs
-
 returns : tie.Need-returns
 returns c = rw (c .flat .ensures)
 
 pub logged-spec : {M : Type 1} → statement M
-logged-spec = tie.close (tie.spec flat-requires returns)
+logged-spec =
+    tie.close
+    (tie.spec (λ c κs. search needs) returns)

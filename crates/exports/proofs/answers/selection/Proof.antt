@@ -10,4 +10,6 @@ returns-2 : tie.Need-returns-2
 returns-2 c = search ne-eqb
 
 pub selection-spec : {M : Type 1} → statement M
-selection-spec = tie.close (tie.spec returns returns-2)
+selection-spec =
+    tie.close
+    (tie.spec returns returns-2)

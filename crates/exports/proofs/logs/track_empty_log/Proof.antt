@@ -5,14 +5,10 @@ use borrow.Author.Needs.{needs}
 use Rattle.exports.proofs.logs.track_empty_log.Statement.{statement}
 use Rattle.exports.proofs.logs.track_empty_log.Tie as tie
 
-empty-log-requires : tie.Need-empty-log-requires
-empty-log-requires c κs = search needs
-
-logged-requires : tie.Need-logged-requires
-logged-requires c κs = search needs
-
 returns : tie.Need-returns
 returns c = rw (c .logged .ensures, outcome-told _) (refl, c .before .empty-log .ensures)
 
 pub track-empty-log-spec : {M : Type 1} → statement M
-track-empty-log-spec = tie.close (tie.spec empty-log-requires logged-requires returns)
+track-empty-log-spec =
+    tie.close
+    (tie.spec (λ c κs. search needs) (λ c κs. search needs) returns)

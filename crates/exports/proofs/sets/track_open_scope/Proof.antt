@@ -5,14 +5,10 @@ use borrow.Author.Needs.{needs}
 use Rattle.exports.proofs.sets.track_open_scope.Statement.{statement}
 use Rattle.exports.proofs.sets.track_open_scope.Tie as tie
 
-open-scope-requires : tie.Need-open-scope-requires
-open-scope-requires c κs = search needs
-
-flat-requires : tie.Need-flat-requires
-flat-requires c κs = search needs
-
 returns : tie.Need-returns
 returns c = rw (c .flat .ensures, outcome-told _) (refl, c .before .open-scope .ensures)
 
 pub track-open-scope-spec : {M : Type 1} → statement M
-track-open-scope-spec = tie.close (tie.spec open-scope-requires flat-requires returns)
+track-open-scope-spec =
+    tie.close
+    (tie.spec (λ c κs. search needs) (λ c κs. search needs) returns)

@@ -4,9 +4,6 @@ use borrow.Author.Needs.{needs}
 use Rattle.exports.proofs.sets.track_tracker_is_well_formed.Statement.{statement}
 use Rattle.exports.proofs.sets.track_tracker_is_well_formed.Tie as tie
 
-tracker-fits-requires : tie.Need-tracker-fits-requires
-tracker-fits-requires c κs = search needs
-
 returns : tie.Need-returns
 returns c = rw (sym (c .before .tracker-fits .ensures) ∙ c .if1 .taken)
 
@@ -14,4 +11,6 @@ returns-2 : tie.Need-returns-2
 returns-2 c = rw (sym (c .before .tracker-fits .ensures) ∙ c .if1 .left)
 
 pub track-tracker-is-well-formed-spec : {M : Type 1} → statement M
-track-tracker-is-well-formed-spec = tie.close (tie.spec tracker-fits-requires returns returns-2)
+track-tracker-is-well-formed-spec =
+    tie.close
+    (tie.spec (λ c κs. search needs) returns returns-2)

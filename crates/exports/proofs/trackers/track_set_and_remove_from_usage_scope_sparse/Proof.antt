@@ -11,28 +11,11 @@ set-and-remove-from-usage-scope-sparse-requires :
     tie.Need-set-and-remove-from-usage-scope-sparse-requires
 set-and-remove-from-usage-scope-sparse-requires c κs = search needs
 
-logged-requires : tie.Need-logged-requires
-logged-requires c κs = search needs
-
-same-length : tie.Need-same-length
-same-length c = search needs
-
-same-length-2 : tie.Need-same-length-2
-same-length-2 c = search needs
-
-same-length-3 : tie.Need-same-length-3
-same-length-3 c = search needs
-
 returns : tie.Need-returns
 returns c = rw (c .logged .ensures, outcome-told _) (refl, c .before .before .before .before .before .before .before .set-and-remove-from-usage-scope-sparse .ensures)
 
 pub track-set-and-remove-from-usage-scope-sparse-spec : {M : Type 1} → statement M
 track-set-and-remove-from-usage-scope-sparse-spec =
     tie.close
-    (tie.spec
-    set-and-remove-from-usage-scope-sparse-requires
-    logged-requires
-    same-length
-    same-length-2
-    same-length-3
-    returns)
+    (tie.spec set-and-remove-from-usage-scope-sparse-requires (λ c κs. search needs) (λ c. search needs)
+    (λ c. search needs) (λ c. search needs) returns)

@@ -42,45 +42,18 @@ abbrev μ-loop : tie.MeasureT-loop
 loop-holds : tie.Need-loop-holds Inv-loop μ-loop
 loop-holds c = search start-of
 
-get-requires : tie.Need-get-requires Inv-loop μ-loop
-get-requires c κs = search needs
-
 fill-gap-requires : tie.Need-fill-gap-requires Inv-loop μ-loop
 fill-gap-requires c κs = let j = c .before .before .before .before .before .loop .inv in (j .low, room-gap (j .room) (j .low) (c .before .before .before .before .loop-test .taken) (c .before .before .get .ensures) (c .before .if1 .left))
-
-add-n : tie.Need-add-n Inv-loop μ-loop
-add-n c = search needs
-
-add-p : tie.Need-add-p Inv-loop μ-loop
-add-p c = search needs
-
-larger-requires : tie.Need-larger-requires Inv-loop μ-loop
-larger-requires c κs = search needs
 
 cut-end-requires : tie.Need-cut-end-requires Inv-loop μ-loop
 cut-end-requires c κs =
     let j = c .before .before .before .before .before .before .before .before .before .before .before .loop .inv in let t = c .before .before .before .before .before .before .before .before .before .before .loop-test .taken in let o = c .before .before .before .before .before .before .before .before .get .ensures in let u = c .before .before .before .before .before .before .before .if1 .left in
     (omega arith, cut-fits _ _ _ _ _ (c .before .before .before .before .before .before .before .before .get .result) _ _ (room-gap (j .room) (j .low) t o u) t (c .before .before .before .before .before .fill-gap .ensures) _ o u (j .room) (c .before .before .if2 .taken))
 
-add-t23 : tie.Need-add-t23 Inv-loop μ-loop
-add-t23 c = search needs
-
-add-t24 : tie.Need-add-t24 Inv-loop μ-loop
-add-t24 c = search needs
-
-same-length : tie.Need-same-length Inv-loop μ-loop
-same-length c = search needs
-
 returns : tie.Need-returns Inv-loop μ-loop
 returns c =
     let j = c .before .before .before .before .before .before .before .before .before .before .before .before .before .before .loop .inv in let t = c .before .before .before .before .before .before .before .before .before .before .before .before .before .loop-test .taken in let o = c .before .before .before .before .before .before .before .before .before .before .before .get .ensures in let u = c .before .before .before .before .before .before .before .before .before .before .if1 .left in
     j .on _ _ (cover-cut _ _ _ _ _ (c .before .before .before .before .before .before .before .before .before .before .before .get .result) _ _ (room-gap (j .room) (j .low) t o u) t (c .before .before .before .before .before .before .before .before .fill-gap .ensures) _ o u _ _ _ (omega (arith, c .before .before .cut-end .ensures .fits, c .before .before .before .before .before .before .before .before .fill-gap .ensures .into .long)) (c .before .before .before .before .before .if2 .taken) (c .before .before .before .before .larger .ensures) (c .before .before .cut-end .ensures))
-
-add-p-2 : tie.Need-add-p-2 Inv-loop μ-loop
-add-p-2 c = search needs
-
-loop-less : tie.Need-loop-less Inv-loop μ-loop
-loop-less c = search needs
 
 loop-again : tie.Need-loop-again Inv-loop μ-loop
 loop-again c =
@@ -93,15 +66,6 @@ insert-record-requires c κs =
     let n : 3 * (c .before .before .loop .n + 1) ≤ length (c .before .before .loop .s) = ⊎-elim (λ w. room-end (j .room) (j .low) (omega arith)) (λ w. room-before (j .room) (j .low) (w .0 .taken) (w .2 .ensures) (w .3 .taken)) (c .before .loop-test .came) in
     search needs
 
-add-t28 : tie.Need-add-t28 Inv-loop μ-loop
-add-t28 c = search needs
-
-add-t29 : tie.Need-add-t29 Inv-loop μ-loop
-add-t29 c = search needs
-
-same-length-2 : tie.Need-same-length-2 Inv-loop μ-loop
-same-length-2 c = search needs
-
 returns-2 : tie.Need-returns-2 Inv-loop μ-loop
 returns-2 c =
     let j = c .before .before .before .before .before .loop .inv in
@@ -111,25 +75,7 @@ returns-2 c =
 pub cover-spec : {M : Type 1} → statement M
 cover-spec =
     tie.close
-    (tie.spec
-    Inv-loop
-    μ-loop
-    loop-holds
-    get-requires
-    fill-gap-requires
-    add-n
-    add-p
-    larger-requires
-    cut-end-requires
-    add-t23
-    add-t24
-    same-length
-    returns
-    add-p-2
-    loop-less
-    loop-again
-    insert-record-requires
-    add-t28
-    add-t29
-    same-length-2
-    returns-2)
+    (tie.spec Inv-loop μ-loop loop-holds (λ c κs. search needs) fill-gap-requires (λ c. search needs)
+    (λ c. search needs) (λ c κs. search needs) cut-end-requires (λ c. search needs) (λ c. search needs)
+    (λ c. search needs) returns (λ c. search needs) (λ c. search needs) loop-again insert-record-requires
+    (λ c. search needs) (λ c. search needs) (λ c. search needs) returns-2)

@@ -9,23 +9,11 @@ use Rattle.isolating.proofs.isolation.cut_start.Tie as tie
 returns : tie.Need-returns
 returns c = search start-end
 
-get-requires : tie.Need-get-requires
-get-requires c κs = search needs
-
-same-length : tie.Need-same-length
-same-length c = search needs
-
 returns-2 : tie.Need-returns-2
 returns-2 c = search start-uncut
 
-put-requires : tie.Need-put-requires
-put-requires c κs = search needs
-
 insert-record-requires : tie.Need-insert-record-requires
 insert-record-requires c κs = let n : 3 * (c .before .before .before .before .before .before .before .before .before .before .args .len + 1) ≤ length (c .before .before .before .before .before .before .before .before .before .before .args .s .now) = start-room _ _ _ _ (c .before .before .before .before .before .before .get .result) (c .before .before .before .before .before .before .before .before .before .before .pre .1) (c .before .before .before .before .before .before .before .before .before .before .pre .0) (c .before .before .before .before .before .before .before .before .if1 .left) (c .before .before .before .before .before .before .get .ensures) (c .before .before .before .before .before .if2 .left) in search needs
-
-same-length-2 : tie.Need-same-length-2
-same-length-2 c = search needs
 
 returns-3 : tie.Need-returns-3
 returns-3 c = search start-cut
@@ -33,12 +21,5 @@ returns-3 c = search start-cut
 pub cut-start-spec : {M : Type 1} → statement M
 cut-start-spec =
     tie.close
-    (tie.spec
-    returns
-    get-requires
-    same-length
-    returns-2
-    put-requires
-    insert-record-requires
-    same-length-2
-    returns-3)
+    (tie.spec returns (λ c κs. search needs) (λ c. search needs) returns-2 (λ c κs. search needs) insert-record-requires
+    (λ c. search needs) returns-3)

@@ -10,4 +10,6 @@ returns-2 : tie.Need-returns-2
 returns-2 c = rw (le-ltb _ _ (c .if1 .left))
 
 pub gap-count-spec : {M : Type 1} → statement M
-gap-count-spec = tie.close (tie.spec returns returns-2)
+gap-count-spec =
+    tie.close
+    (tie.spec returns returns-2)

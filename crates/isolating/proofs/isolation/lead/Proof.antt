@@ -7,9 +7,6 @@ use Rattle.isolating.proofs.isolation.lead.Tie as tie
 returns : tie.Need-returns
 returns c = search lead-end
 
-get-requires : tie.Need-get-requires
-get-requires c κs = search needs
-
 returns-2 : tie.Need-returns-2
 returns-2 c = search lead-yes
 
@@ -17,4 +14,6 @@ returns-3 : tie.Need-returns-3
 returns-3 c = search lead-no
 
 pub lead-spec : {M : Type 1} → statement M
-lead-spec = tie.close (tie.spec returns get-requires returns-2 returns-3)
+lead-spec =
+    tie.close
+    (tie.spec returns (λ c κs. search needs) returns-2 returns-3)

@@ -11,29 +11,8 @@ use borrow.Author.Needs.{needs}
 use Rattle.joining.proofs.calls.set_checked.Statement.{statement}
 use Rattle.joining.proofs.calls.set_checked.Tie as tie
 
-flags-of-requires : tie.Need-flags-of-requires
-flags-of-requires c κs = search needs
-
-element-copy-out-mask : tie.Need-element-copy-out-mask
-element-copy-out-mask c = search needs
-
-element-copy-out-wide : tie.Need-element-copy-out-wide
-element-copy-out-wide c = search needs
-
-wide-requires : tie.Need-wide-requires
-wide-requires c κs = search needs
-
 entries-fit-requires : tie.Need-entries-fit-requires
 entries-fit-requires c κs = let m = (c .before .before .before .before .before .before .before .before .before .before .before .before .before .pre .0) .tracker .starts in rw ((c .before .before .before .before .before .before .flags-of .ensures), ((c .before .before .before .wide .ensures) .0)) (logs-set (c .before .before .before .before .before .before .before .before .before .before .before .before .before .pre .0), ((m .textures, (m .mips, m .layers)), (c .before .before .before .before .before .before .before .before .before .before .before .before .before .pre .1 .0)))
-
-refused-requires : tie.Need-refused-requires
-refused-requires c κs = search needs
-
-same-length : tie.Need-same-length
-same-length c = search needs
-
-same-length-2 : tie.Need-same-length-2
-same-length-2 c = search needs
 
 returns : tie.Need-returns
 returns c = rw ((c .refused .ensures), (c .before .before .before .before .entries-fit .ensures) .1) (not-enough ((c .before .before .before .before .before .before .before .before .before .before .before .before .before .before .before .before .before .before .args) .table .now) ((c .before .before .before .before .before .before .before .before .before .before .before .before .before .before .before .before .before .before .args) .starts .now) ((c .before .before .before .before .before .before .before .before .before .before .before .before .before .before .before .before .before .before .args) .ends .now) ((c .before .before .before .before .before .before .before .before .before .before .before .before .before .before .before .before .before .before .args) .from) ((c .before .before .before .before .before .before .before .before .before .before .before .before .before .before .before .before .before .before .args) .to) ((c .before .before .before .before .before .before .before .before .before .before .before .before .before .before .before .before .before .before .args) .given .now) ((c .before .before .before .before .before .before .before .before .before .before .before .before .before .before .before .before .before .before .args) .first .now) ((c .before .before .before .before .before .before .before .before .before .before .before .before .before .before .before .before .before .before .args) .last .now) ((c .before .before .before .before .before .before .before .before .before .before .before .before .before .before .before .before .before .before .args) .log .now) ((c .before .before .before .before .before .before .before .before .before .before .before .before .before .before .before .before .before .before .args) .head) (leb-false _ _ (sym (rw ((c .before .before .before .before .before .before .before .before .before .before .before .flags-of .ensures), ((c .before .before .before .before .before .before .before .before .wide .ensures) .0)) at ((c .before .before .before .before .entries-fit .ensures) .0)) ∙ not-true _ (c .before .if1 .taken))))
@@ -47,35 +26,12 @@ set-slots-requires c κs = ((c .before .before .before .before .before .before .
 moved-on-requires : tie.Need-moved-on-requires
 moved-on-requires c κs = (rw ((c .before .before .before .before .before .before .before .before .before .before .log-set .ensures) .count, (c .before .before .before .before .before .before .before .before .before .before .before .before .before .before .before .before .before .before .before .before .before .before .before .before .flags-of .ensures), ((c .before .before .before .before .before .before .before .before .before .before .before .before .before .before .before .before .before .before .before .before .before .wide .ensures) .0)) (leb-true _ _ (sym (rw ((c .before .before .before .before .before .before .before .before .before .before .before .before .before .before .before .before .before .before .before .before .before .before .before .before .flags-of .ensures), ((c .before .before .before .before .before .before .before .before .before .before .before .before .before .before .before .before .before .before .before .before .before .wide .ensures) .0)) at ((c .before .before .before .before .before .before .before .before .before .before .before .before .before .before .before .before .before .entries-fit .ensures) .0)) ∙ not-false _ (c .before .before .before .before .before .before .before .before .before .before .before .before .before .before .if1 .left))), omega (arith, head-le (length ((c .before .before .before .before .before .before .before .before .before .before .before .before .before .before .before .before .before .before .before .before .before .before .before .before .before .before .before .before .before .before .before .args) .log .now) / 7) ((c .before .before .before .before .before .before .before .before .before .before .before .before .before .before .before .before .before .before .before .before .before .before .before .before .before .before .before .before .before .before .before .args) .head) (c .before .before .before .before .before .before .before .before .before .before .before .before .before .before .before .before .before .before .before .before .before .before .before .before .before .before .before .before .before .before .before .pre .1 .1 .0), (c .before .before .before .before .before .before .before .before .before .before .before .before .before .before .before .before .before .before .before .before .before .before .before .before .before .before .before .before .before .before .before .pre .1 .1 .1)))
 
-same-length-3 : tie.Need-same-length-3
-same-length-3 c = search needs
-
-same-length-4 : tie.Need-same-length-4
-same-length-4 c = search needs
-
-same-length-5 : tie.Need-same-length-5
-same-length-5 c = search needs
-
 returns-2 : tie.Need-returns-2
 returns-2 c = rw (c .moved-on .ensures) (written ((c .before .before .before .before .before .before .before .before .before .before .before .before .before .before .before .before .before .before .before .before .before .before .before .before .before .before .before .before .before .before .before .before .args) .table .now) ((c .before .before .before .before .before .before .before .before .before .before .before .before .before .before .before .before .before .before .before .before .before .before .before .before .before .before .before .before .before .before .before .before .args) .starts .now) ((c .before .before .before .before .before .before .before .before .before .before .before .before .before .before .before .before .before .before .before .before .before .before .before .before .before .before .before .before .before .before .before .before .args) .ends .now) ((c .before .before .before .before .before .before .before .before .before .before .before .before .before .before .before .before .before .before .before .before .before .before .before .before .before .before .before .before .before .before .before .before .args) .from) ((c .before .before .before .before .before .before .before .before .before .before .before .before .before .before .before .before .before .before .before .before .before .before .before .before .before .before .before .before .before .before .before .before .args) .to) ((c .before .before .before .before .before .before .before .before .before .before .before .before .before .before .before .before .before .before .before .before .before .before .before .before .before .before .before .before .before .before .before .before .args) .given .now) ((c .before .before .before .before .before .before .before .before .before .before .before .before .before .before .before .before .before .before .before .before .before .before .before .before .before .before .before .before .before .before .before .before .args) .first .now) ((c .before .before .before .before .before .before .before .before .before .before .before .before .before .before .before .before .before .before .before .before .before .before .before .before .before .before .before .before .before .before .before .before .args) .last .now) ((c .before .before .before .before .before .before .before .before .before .before .before .before .before .before .before .before .before .before .before .before .before .before .before .before .before .before .before .before .before .before .before .before .args) .log .now) ((c .before .before .before .before .before .before .before .before .before .before .before .before .before .before .before .before .before .before .before .before .before .before .before .before .before .before .before .before .before .before .before .before .args) .head) (leb-true _ _ (sym (rw ((c .before .before .before .before .before .before .before .before .before .before .before .before .before .before .before .before .before .before .before .before .before .before .before .before .before .flags-of .ensures), ((c .before .before .before .before .before .before .before .before .before .before .before .before .before .before .before .before .before .before .before .before .before .before .wide .ensures) .0)) at ((c .before .before .before .before .before .before .before .before .before .before .before .before .before .before .before .before .before .before .entries-fit .ensures) .0)) ∙ not-false _ (c .before .before .before .before .before .before .before .before .before .before .before .before .before .before .before .if1 .left))) (c .before .before .before .before .before .before .before .before .before .before .before .before .before .before .before .before .before .before .before .before .before .before .before .before .before .before .before .before .before .before .before .before .pre .1 .1 .0) (rw ((c .before .before .before .before .before .before .before .before .before .before .before .before .before .before .before .before .before .before .before .before .before .before .before .before .before .flags-of .ensures), ((c .before .before .before .before .before .before .before .before .before .before .before .before .before .before .before .before .before .before .before .before .before .before .wide .ensures) .0), (c .before .before .before .before .before .before .before .before .before .before .before .before .before .before .before .before .before .before .entries-fit .ensures) .1) at (c .before .before .before .before .before .before .before .before .before .before .before .log-set .ensures)) (c .before .before .before .before .before .set-slots .ensures))
 
 pub set-checked-spec : {M : Type 1} → statement M
 set-checked-spec =
     tie.close
-    (tie.spec
-    flags-of-requires
-    element-copy-out-mask
-    element-copy-out-wide
-    wide-requires
-    entries-fit-requires
-    refused-requires
-    same-length
-    same-length-2
-    returns
-    log-set-requires
-    set-slots-requires
-    moved-on-requires
-    same-length-3
-    same-length-4
-    same-length-5
-    returns-2)
+    (tie.spec (λ c κs. search needs) (λ c. search needs) (λ c. search needs) (λ c κs. search needs) entries-fit-requires
+    (λ c κs. search needs) (λ c. search needs) (λ c. search needs) returns log-set-requires set-slots-requires
+    moved-on-requires (λ c. search needs) (λ c. search needs) (λ c. search needs) returns-2)

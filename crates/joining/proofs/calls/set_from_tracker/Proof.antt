@@ -9,38 +9,8 @@ use Rattle.joining.proofs.Answers.{tracker-room, one-unfit, other-unfit
 use Rattle.joining.proofs.calls.set_from_tracker.Statement.{statement}
 use Rattle.joining.proofs.calls.set_from_tracker.Tie as tie
 
-table-len-requires : tie.Need-table-len-requires
-table-len-requires c κs = search needs
-
-table-len-requires-2 : tie.Need-table-len-requires-2
-table-len-requires-2 c κs = search needs
-
-tracker-fits-requires : tie.Need-tracker-fits-requires
-tracker-fits-requires c κs = search needs
-
-refused-requires : tie.Need-refused-requires
-refused-requires c κs = search needs
-
-same-length : tie.Need-same-length
-same-length c = search needs
-
-same-length-2 : tie.Need-same-length-2
-same-length-2 c = search needs
-
 returns : tie.Need-returns
 returns c = rw (c .refused .ensures) (away-unfit (one-unfit _ _ (sym (c .before .before .tracker-fits .ensures) ∙ not-true _ (c .before .if1 .taken))))
-
-tracker-fits-requires-2 : tie.Need-tracker-fits-requires-2
-tracker-fits-requires-2 c κs = search needs
-
-refused-requires-2 : tie.Need-refused-requires-2
-refused-requires-2 c κs = search needs
-
-same-length-3 : tie.Need-same-length-3
-same-length-3 c = search needs
-
-same-length-4 : tie.Need-same-length-4
-same-length-4 c = search needs
 
 returns-2 : tie.Need-returns-2
 returns-2 c = rw (c .refused2 .ensures) (away-unfit (other-unfit _ _ (sym (c .before .before .before .before .tracker-fits .ensures) ∙ not-false _ (c .before .before .before .if1 .left)) (sym (c .before .before .tracker-fits2 .ensures) ∙ not-true _ (c .before .if2 .taken))))
@@ -48,36 +18,13 @@ returns-2 c = rw (c .refused2 .ensures) (away-unfit (other-unfit _ _ (sym (c .be
 set-from-requires : tie.Need-set-from-requires
 set-from-requires c κs = (tracker-tested _ _ _ ((c .before .before .before .before .before .before .before .before .before .before .before .before .table-len .ensures) .1) (sym (c .before .before .before .before .before .before .before .tracker-fits .ensures) ∙ not-false _ (c .before .before .before .before .before .before .if1 .left)), (tracker-given (tracker-tested _ _ _ ((c .before .before .before .before .before .before .before .before .before .before .before .table-len2 .ensures) .1) (sym (c .before .before .before .before .before .tracker-fits2 .ensures) ∙ not-false _ (c .before .before .before .before .if2 .left))), tracker-room ((c .before .before .before .before .before .before .before .before .before .before .before .before .before .before .before .before .before .before .before .args) .table .now) ((c .before .before .before .before .before .before .before .before .before .before .before .before .before .before .before .before .before .before .before .args) .starts .now) ((c .before .before .before .before .before .before .before .before .before .before .before .before .before .before .before .before .before .before .before .args) .ends .now) (sym (c .before .before .before .before .before .before .before .tracker-fits .ensures) ∙ not-false _ (c .before .before .before .before .before .before .if1 .left)) ((c .before .before .before .before .before .before .before .before .before .before .before .before .before .before .before .before .before .before .before .args) .given .now) ((c .before .before .before .before .before .before .before .before .before .before .before .before .before .before .before .before .before .before .before .args) .first .now) ((c .before .before .before .before .before .before .before .before .before .before .before .before .before .before .before .before .before .before .before .args) .last .now) (sym (c .before .before .before .before .before .tracker-fits2 .ensures) ∙ not-false _ (c .before .before .before .before .if2 .left))))
 
-same-length-5 : tie.Need-same-length-5
-same-length-5 c = search needs
-
-same-length-6 : tie.Need-same-length-6
-same-length-6 c = search needs
-
-same-length-7 : tie.Need-same-length-7
-same-length-7 c = search needs
-
 returns-3 : tie.Need-returns-3
 returns-3 c = let x = c .before .before .before .before .before .before .before .before .before .before .before .before .before .before .before .before .before .before .before .before .before .before .before .before .before .before .args in from-tracker (both-fit _ _ (sym (c .before .before .before .before .before .before .before .before .before .before .before .before .before .before .tracker-fits .ensures) ∙ not-false _ (c .before .before .before .before .before .before .before .before .before .before .before .before .before .if1 .left)) (sym (c .before .before .before .before .before .before .before .before .before .before .before .before .tracker-fits2 .ensures) ∙ not-false _ (c .before .before .before .before .before .before .before .before .before .before .before .if2 .left))) (x .given .now) (x .first .now) (x .last .now) (c .before .before .before .before .before .before .set-from .ensures)
 
 pub set-from-tracker-spec : {M : Type 1} → statement M
 set-from-tracker-spec =
     tie.close
-    (tie.spec
-    table-len-requires
-    table-len-requires-2
-    tracker-fits-requires
-    refused-requires
-    same-length
-    same-length-2
-    returns
-    tracker-fits-requires-2
-    refused-requires-2
-    same-length-3
-    same-length-4
-    returns-2
-    set-from-requires
-    same-length-5
-    same-length-6
-    same-length-7
+    (tie.spec (λ c κs. search needs) (λ c κs. search needs) (λ c κs. search needs) (λ c κs. search needs)
+    (λ c. search needs) (λ c. search needs) returns (λ c κs. search needs) (λ c κs. search needs) (λ c. search needs)
+    (λ c. search needs) returns-2 set-from-requires (λ c. search needs) (λ c. search needs) (λ c. search needs)
     returns-3)

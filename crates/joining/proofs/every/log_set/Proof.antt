@@ -42,15 +42,4 @@ returns c = adding-end (c .before .loop .inv) ((c .before .before .before .befor
 pub log-set-spec : {M : Type 1} → statement M
 log-set-spec =
     tie.close
-    (tie.spec
-    Inv-loop
-    μ-loop
-    loop-holds
-    add-log-at
-    log-at-requires
-    add-x
-    add-k
-    loop-less
-    loop-again
-    same-length
-    returns)
+    (tie.spec Inv-loop μ-loop loop-holds add-log-at log-at-requires add-x add-k loop-less loop-again same-length returns)

@@ -41,14 +41,4 @@ returns c = let p = c .before .before .before .before .before .before .pre in le
 pub set-slots-spec : {M : Type 1} → statement M
 set-slots-spec =
     tie.close
-    (tie.spec
-    Inv-loop
-    μ-loop
-    loop-holds
-    set-at-requires
-    add-k
-    loop-less
-    loop-again
-    same-length
-    same-length-2
-    returns)
+    (tie.spec Inv-loop μ-loop loop-holds set-at-requires add-k loop-less loop-again same-length same-length-2 returns)

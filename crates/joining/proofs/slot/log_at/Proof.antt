@@ -8,26 +8,8 @@ use borrow.Author.Needs.{needs}
 use Rattle.joining.proofs.slot.log_at.Statement.{statement}
 use Rattle.joining.proofs.slot.log_at.Tie as tie
 
-add-if1 : tie.Need-add-if1
-add-if1 c = search needs
-
-mul-if1 : tie.Need-mul-if1
-mul-if1 c = search needs
-
-element-copy-out-if1 : tie.Need-element-copy-out-if1
-element-copy-out-if1 c = search needs
-
 returns : tie.Need-returns
 returns c = rw (eq-eqb _ _ (c .if1 .taken)) (logged-none _ _ _ _ _)
-
-add-if2 : tie.Need-add-if2
-add-if2 c = search needs
-
-mul-if2 : tie.Need-mul-if2
-mul-if2 c = search needs
-
-element-copy-out-if2 : tie.Need-element-copy-out-if2
-element-copy-out-if2 c = search needs
 
 returns-2 : tie.Need-returns-2
 returns-2 c = rw (ne-eqb _ _ (c .before .before .if1 .left), eq-eqb _ _ (c .if2 .taken)) (logged-none _ _ _ _ _)
@@ -38,17 +20,11 @@ both-single-requires c κs = ((c .before .before .before .before .before .before
 log-single-requires : tie.Need-log-single-requires
 log-single-requires c κs = (((c .before .before .before .before .before .before .before .before .before .before .pre .0) .index, (c .before .before .before .before .before .before .before .before .before .before .pre .0) .given (rw (ne-eqb _ _ (c .before .before .before .before .before .if1 .left))) .measured .half .1), rw (plain-entries ((c .before .before .before .before .before .before .before .before .before .before .args) .p) ((c .before .before .before .before .before .before .before .before .before .before .args) .mask) ((c .before .before .before .before .before .before .before .before .before .before .args) .table .now) ((c .before .before .before .before .before .before .before .before .before .before .args) .ends .now) ((c .before .before .before .before .before .before .before .before .before .before .args) .from) ((c .before .before .before .before .before .before .before .before .before .before .args) .given .now) ((c .before .before .before .before .before .before .before .before .before .before .args) .first .now) ((c .before .before .before .before .before .before .before .before .before .before .args) .i) (c .before .before .before .before .before .if1 .left) (c .before .before .before .if2 .left) (sym (c .before .before .both-single .ensures) ∙ (c .before .if3 .taken))) at (c .before .before .before .before .before .before .before .before .before .before .pre .1 .1))
 
-same-length : tie.Need-same-length
-same-length c = search needs
-
 returns-3 : tie.Need-returns-3
 returns-3 c = rw (plain-entries ((c .before .before .before .before .before .before .before .before .before .before .before .before .before .args) .p) ((c .before .before .before .before .before .before .before .before .before .before .before .before .before .args) .mask) ((c .before .before .before .before .before .before .before .before .before .before .before .before .before .args) .table .now) ((c .before .before .before .before .before .before .before .before .before .before .before .before .before .args) .ends .now) ((c .before .before .before .before .before .before .before .before .before .before .before .before .before .args) .from) ((c .before .before .before .before .before .before .before .before .before .before .before .before .before .args) .given .now) ((c .before .before .before .before .before .before .before .before .before .before .before .before .before .args) .first .now) ((c .before .before .before .before .before .before .before .before .before .before .before .before .before .args) .i) (c .before .before .before .before .before .before .before .before .if1 .left) (c .before .before .before .before .before .before .if2 .left) (sym (c .before .before .before .before .before .both-single .ensures) ∙ (c .before .before .before .before .if3 .taken))) (logged-within 1048576 (omega arith) (c .before .before .log-single .ensures))
 
 log-owned-at-requires : tie.Need-log-owned-at-requires
 log-owned-at-requires c κs = (c .before .before .before .before .before .before .before .before .before .before .pre)
-
-same-length-2 : tie.Need-same-length-2
-same-length-2 c = search needs
 
 returns-4 : tie.Need-returns-4
 returns-4 c = (c .before .before .log-owned-at .ensures)
@@ -56,19 +32,6 @@ returns-4 c = (c .before .before .log-owned-at .ensures)
 pub log-at-spec : {M : Type 1} → statement M
 log-at-spec =
     tie.close
-    (tie.spec
-    add-if1
-    mul-if1
-    element-copy-out-if1
-    returns
-    add-if2
-    mul-if2
-    element-copy-out-if2
-    returns-2
-    both-single-requires
-    log-single-requires
-    same-length
-    returns-3
-    log-owned-at-requires
-    same-length-2
-    returns-4)
+    (tie.spec (λ c. search needs) (λ c. search needs) (λ c. search needs) returns (λ c. search needs)
+    (λ c. search needs) (λ c. search needs) returns-2 both-single-requires log-single-requires (λ c. search needs)
+    returns-3 log-owned-at-requires (λ c. search needs) returns-4)

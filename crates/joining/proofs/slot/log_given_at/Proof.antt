@@ -7,23 +7,11 @@ use Rattle.joining.specs.Given.{given-textured}
 use Rattle.joining.proofs.slot.log_given_at.Statement.{statement}
 use Rattle.joining.proofs.slot.log_given_at.Tie as tie
 
-add-if1 : tie.Need-add-if1
-add-if1 c = search needs
-
-mul-if1 : tie.Need-mul-if1
-mul-if1 c = search needs
-
-element-copy-out-if1 : tie.Need-element-copy-out-if1
-element-copy-out-if1 c = search needs
-
 returns : tie.Need-returns
 returns c = rw (eq-eqb _ _ (c .if1 .taken)) (logged-none _ _ _ _ _)
 
 barrier-texture-requires : tie.Need-barrier-texture-requires
 barrier-texture-requires c κs = let p = (c .before .before .before .before .before .before .pre) in let o = (c .before .if1 .left) in (end-textured (p .0) o, (given-textured (p .1 .0), (p .1 .1 .0, rw (ne-eqb _ _ o) at (p .1 .1 .1))))
-
-same-length : tie.Need-same-length
-same-length c = search needs
 
 returns-2 : tie.Need-returns-2
 returns-2 c = rw (ne-eqb _ _ (c .before .before .before .before .if1 .left)) (c .before .before .barrier-texture .ensures)
@@ -31,11 +19,5 @@ returns-2 c = rw (ne-eqb _ _ (c .before .before .before .before .if1 .left)) (c 
 pub log-given-at-spec : {M : Type 1} → statement M
 log-given-at-spec =
     tie.close
-    (tie.spec
-    add-if1
-    mul-if1
-    element-copy-out-if1
-    returns
-    barrier-texture-requires
-    same-length
-    returns-2)
+    (tie.spec (λ c. search needs) (λ c. search needs) (λ c. search needs) returns barrier-texture-requires
+    (λ c. search needs) returns-2)

@@ -8,35 +8,11 @@ use borrow.Author.Needs.{needs}
 use Rattle.joining.proofs.slot.set_at.Statement.{statement}
 use Rattle.joining.proofs.slot.set_at.Tie as tie
 
-add-if1 : tie.Need-add-if1
-add-if1 c = search needs
-
-mul-if1 : tie.Need-mul-if1
-mul-if1 c = search needs
-
-element-copy-out-if1 : tie.Need-element-copy-out-if1
-element-copy-out-if1 c = search needs
-
 returns : tie.Need-returns
 returns c = rw (eq-eqb _ _ (c .if1 .taken)) (set-same _ _ _ _)
 
-add-if2 : tie.Need-add-if2
-add-if2 c = search needs
-
-mul-if2 : tie.Need-mul-if2
-mul-if2 c = search needs
-
-element-copy-out-if2 : tie.Need-element-copy-out-if2
-element-copy-out-if2 c = search needs
-
 set-owned-at-requires : tie.Need-set-owned-at-requires
 set-owned-at-requires c κs = (c .before .before .before .before .before .before .before .before .before .before .before .pre)
-
-same-length : tie.Need-same-length
-same-length c = search needs
-
-same-length-2 : tie.Need-same-length-2
-same-length-2 c = search needs
 
 returns-2 : tie.Need-returns-2
 returns-2 c = (c .before .before .before .before .set-owned-at .ensures)
@@ -62,37 +38,13 @@ returns-3 c = rw (c .set-state .ensures) (plain-set (c .before .before .before .
 set-owned-at-requires-2 : tie.Need-set-owned-at-requires-2
 set-owned-at-requires-2 c κs = (c .before .before .before .before .before .before .before .before .before .before .before .before .before .before .pre)
 
-same-length-3 : tie.Need-same-length-3
-same-length-3 c = search needs
-
-same-length-4 : tie.Need-same-length-4
-same-length-4 c = search needs
-
 returns-4 : tie.Need-returns-4
 returns-4 c = (c .before .before .before .before .set-owned-at2 .ensures)
 
 pub set-at-spec : {M : Type 1} → statement M
 set-at-spec =
     tie.close
-    (tie.spec
-    add-if1
-    mul-if1
-    element-copy-out-if1
-    returns
-    add-if2
-    mul-if2
-    element-copy-out-if2
-    set-owned-at-requires
-    same-length
-    same-length-2
-    returns-2
-    both-single-requires
-    add-set-state
-    mul-set-state
-    element-copy-out-set-state
-    set-state-requires
-    returns-3
-    set-owned-at-requires-2
-    same-length-3
-    same-length-4
-    returns-4)
+    (tie.spec (λ c. search needs) (λ c. search needs) (λ c. search needs) returns (λ c. search needs)
+    (λ c. search needs) (λ c. search needs) set-owned-at-requires (λ c. search needs) (λ c. search needs) returns-2
+    both-single-requires add-set-state mul-set-state element-copy-out-set-state set-state-requires returns-3
+    set-owned-at-requires-2 (λ c. search needs) (λ c. search needs) returns-4)

@@ -4,29 +4,11 @@ use Rattle.joining.specs.Slot.{start-ready, end-ready, set-new, update-r
 use Rattle.joining.proofs.slot.set_given_at.Statement.{statement}
 use Rattle.joining.proofs.slot.set_given_at.Tie as tie
 
-add-if1 : tie.Need-add-if1
-add-if1 c = search needs
-
-mul-if1 : tie.Need-mul-if1
-mul-if1 c = search needs
-
-element-copy-out-if1 : tie.Need-element-copy-out-if1
-element-copy-out-if1 c = search needs
-
-own-requires : tie.Need-own-requires
-own-requires c κs = search needs
-
 insert-given-requires : tie.Need-insert-given-requires
 insert-given-requires c κs = let p = c .before .before .before .before .before .before .before .before .before .before .pre in rw (c .before .before .own .ensures) (start-ready (p .0) (p .1))
 
 insert-given-requires-2 : tie.Need-insert-given-requires-2
 insert-given-requires-2 c κs = let p = c .before .before .before .before .before .before .before .before .before .before .before .before .before .before .before .pre in end-ready (p .0) (p .1) (rw (c .before .before .before .before .before .before .before .own .ensures) at (c .before .before .before .before .insert-given .ensures))
-
-same-length : tie.Need-same-length
-same-length c = search needs
-
-same-length-2 : tie.Need-same-length-2
-same-length-2 c = search needs
 
 returns : tie.Need-returns
 returns c = let p = c .before .before .before .before .before .before .before .before .before .before .before .before .before .before .before .before .before .before .pre in set-new (p .0) (p .1) (c .before .before .before .before .before .before .before .before .before .before .before .before .if1 .taken) (rw (c .before .before .before .before .before .before .before .before .before .before .own .ensures) at (c .before .before .before .before .before .before .before .insert-given .ensures)) (c .before .before .insert-given2 .ensures)
@@ -34,29 +16,12 @@ returns c = let p = c .before .before .before .before .before .before .before .b
 update-given-requires : tie.Need-update-given-requires
 update-given-requires c κs = let p = c .before .before .before .before .before .before .before .before .before .pre in update-ready (p .0) (p .1) (c .before .before .before .if1 .left)
 
-same-length-3 : tie.Need-same-length-3
-same-length-3 c = search needs
-
-same-length-4 : tie.Need-same-length-4
-same-length-4 c = search needs
-
 returns-2 : tie.Need-returns-2
 returns-2 c = let p = c .before .before .before .before .before .before .before .before .before .before .before .before .before .before .pre in set-old (p .0) (p .1) (c .before .before .before .before .before .before .before .before .if1 .left) (c .before .before .before .before .update-given .ensures)
 
 pub set-given-at-spec : {M : Type 1} → statement M
 set-given-at-spec =
     tie.close
-    (tie.spec
-    add-if1
-    mul-if1
-    element-copy-out-if1
-    own-requires
-    insert-given-requires
-    insert-given-requires-2
-    same-length
-    same-length-2
-    returns
-    update-given-requires
-    same-length-3
-    same-length-4
-    returns-2)
+    (tie.spec (λ c. search needs) (λ c. search needs) (λ c. search needs) (λ c κs. search needs) insert-given-requires
+    insert-given-requires-2 (λ c. search needs) (λ c. search needs) returns update-given-requires (λ c. search needs)
+    (λ c. search needs) returns-2)

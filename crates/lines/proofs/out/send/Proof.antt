@@ -8,14 +8,7 @@ use Rattle.lines.proofs.out.send.Tie as tie
 slice-aggregate-write-all : tie.Need-slice-aggregate-write-all
 slice-aggregate-write-all c = let q = length-take-le (c .before .before .before .args .n) (c .before .before .before .args .bytes .now) (c .before .if1 .taken) in omega arith
 
-write-all-requires : tie.Need-write-all-requires
-write-all-requires c κs = search needs
-
-returns : tie.Need-returns
-returns c = search needs
-
-returns-2 : tie.Need-returns-2
-returns-2 c = search needs
-
 pub send-spec : {M : Type 1} → statement M
-send-spec = tie.close (tie.spec slice-aggregate-write-all write-all-requires returns returns-2)
+send-spec =
+    tie.close
+    (tie.spec slice-aggregate-write-all (λ c κs. search needs) (λ c. search needs) (λ c. search needs))

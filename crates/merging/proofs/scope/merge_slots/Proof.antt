@@ -12,20 +12,11 @@ Inv-loop table₀ ranges₀ given lent p n k₀ table ranges k = Merging p table
 abbrev μ-loop : tie.MeasureT-loop
 μ-loop table₀ ranges₀ given lent p n k₀ table ranges k = n - k
 
-element-copy-out-n : tie.Need-element-copy-out-n Inv-loop μ-loop
-element-copy-out-n c = search needs
-
 loop-holds : tie.Need-loop-holds Inv-loop μ-loop
 loop-holds c = start _ _ _ _ _
 
-wide-requires : tie.Need-wide-requires Inv-loop μ-loop
-wide-requires c κs = search needs
-
 merge-owned-at-requires : tie.Need-merge-owned-at-requires Inv-loop μ-loop
 merge-owned-at-requires c κs = rw ((c .wide .ensures) .0) (lap-ready (c .before .before .before .before .loop .inv) (c .before .before .before .before .before .before .before .before .pre) (c .before .before .before .loop-test .taken))
-
-enum-known-x : tie.Need-enum-known-x Inv-loop μ-loop
-enum-known-x c = search needs
 
 same-length : tie.Need-same-length Inv-loop μ-loop
 same-length c = let e = (c .before .before .before .before .before .merge-owned-at .ensures) .frame .ranges .long ∙ (c .before .before .before .before .before .before .before .before .before .before .loop .inv) .frame .ranges .long in search (needs, e)
@@ -33,20 +24,8 @@ same-length c = let e = (c .before .before .before .before .before .merge-owned-
 returns : tie.Need-returns Inv-loop μ-loop
 returns c = stop (c .before .before .before .before .before .before .before .before .before .before .loop .inv) (c .before .before .before .before .before .before .before .before .before .before .before .before .before .before .pre) (c .before .before .before .before .before .before .before .before .before .loop-test .taken) (rw ((c .before .before .before .before .before .before .wide .ensures) .0) at (c .before .before .before .before .before .merge-owned-at .ensures)) ((c .before .x .given) .1)
 
-enum-told : tie.Need-enum-told Inv-loop μ-loop
-enum-told c = search needs
-
-add-k : tie.Need-add-k Inv-loop μ-loop
-add-k c = search needs
-
-loop-less : tie.Need-loop-less Inv-loop μ-loop
-loop-less c = search needs
-
 loop-again : tie.Need-loop-again Inv-loop μ-loop
 loop-again c = turn (c .before .before .before .before .before .before .before .before .before .loop .inv) (c .before .before .before .before .before .before .before .before .before .before .before .before .before .pre) (c .before .before .before .before .before .before .before .before .loop-test .taken) (rw ((c .before .before .before .before .before .wide .ensures) .0) at (c .before .before .before .before .merge-owned-at .ensures)) ((c .enum-told .given) .1)
-
-same-length-2 : tie.Need-same-length-2 Inv-loop μ-loop
-same-length-2 c = search needs
 
 returns-2 : tie.Need-returns-2 Inv-loop μ-loop
 returns-2 c = finish (c .before .loop .inv) (c .loop-test .left)
@@ -54,19 +33,6 @@ returns-2 c = finish (c .before .loop .inv) (c .loop-test .left)
 pub merge-slots-spec : {M : Type 1} → statement M
 merge-slots-spec =
     tie.close
-    (tie.spec
-    Inv-loop
-    μ-loop
-    element-copy-out-n
-    loop-holds
-    wide-requires
-    merge-owned-at-requires
-    enum-known-x
-    same-length
-    returns
-    enum-told
-    add-k
-    loop-less
-    loop-again
-    same-length-2
-    returns-2)
+    (tie.spec Inv-loop μ-loop (λ c. search needs) loop-holds (λ c κs. search needs) merge-owned-at-requires
+    (λ c. search needs) same-length returns (λ c. search needs) (λ c. search needs) (λ c. search needs) loop-again
+    (λ c. search needs) returns-2)

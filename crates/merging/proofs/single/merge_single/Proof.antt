@@ -7,59 +7,20 @@ use borrow.Author.Needs.{needs}
 use Rattle.merging.proofs.single.merge_single.Statement.{statement}
 use Rattle.merging.proofs.single.merge_single.Tie as tie
 
-table-len-requires : tie.Need-table-len-requires
-table-len-requires c κs = search needs
-
-scope-fits-requires : tie.Need-scope-fits-requires
-scope-fits-requires c κs = search needs
-
-same-length : tie.Need-same-length
-same-length c = search needs
-
 returns : tie.Need-returns
 returns c = not-fitting (sym (c .before .scope-fits .ensures) ∙ not-true _ (c .if1 .taken))
 
 check-single-requires : tie.Need-check-single-requires
 check-single-requires c κs = (scope-tested _ _ ((c .before .before .before .before .before .table-len .ensures) .1) (sym (c .before .before .scope-fits .ensures) ∙ not-false _ (c .before .if1 .left))) .measured .textures
 
-enum-told : tie.Need-enum-told
-enum-told c = search needs
-
-use-of-requires : tie.Need-use-of-requires
-use-of-requires c κs = search needs
-
-flags-of-requires : tie.Need-flags-of-requires
-flags-of-requires c κs = search needs
-
-wide-requires : tie.Need-wide-requires
-wide-requires c κs = search needs
-
 merge-use-at-requires : tie.Need-merge-use-at-requires
 merge-use-at-requires c κs = let z = (rw (((c .before .before .before .before .before .before .enum-told .given)) .1) at (c .before .before .before .before .before .before .before .before .check-single .ensures)) in rw ((c .before .before .wide .ensures) .0) (single-ready z (scope-tested _ _ ((c .before .before .before .before .before .before .before .before .before .before .before .before .before .before .table-len .ensures) .1) (sym (c .before .before .before .before .before .before .before .before .before .before .before .scope-fits .ensures) ∙ not-false _ (c .before .before .before .before .before .before .before .before .before .before .if1 .left))), single-use z (c .before .before .before .before .before .use-of .ensures) (c .before .before .before .flags-of .ensures))
-
-told-requires : tie.Need-told-requires
-told-requires c κs = search needs
-
-enum-known-r : tie.Need-enum-known-r
-enum-known-r c = search needs
-
-enum-known-k : tie.Need-enum-known-k
-enum-known-k c = search needs
-
-same-length-2 : tie.Need-same-length-2
-same-length-2 c = search needs
 
 returns-2 : tie.Need-returns-2
 returns-2 c = let z = (rw (((c .before .before .before .before .before .before .before .before .before .before .enum-told .given)) .1) at (c .before .before .before .before .before .before .before .before .before .before .before .before .check-single .ensures)) in rw ((c .told .ensures)) (single-done (sym (c .before .before .before .before .before .before .before .before .before .before .before .before .before .before .before .scope-fits .ensures) ∙ not-false _ (c .before .before .before .before .before .before .before .before .before .before .before .before .before .before .if1 .left)) (scope-tested _ _ ((c .before .before .before .before .before .before .before .before .before .before .before .before .before .before .before .before .before .before .table-len .ensures) .1) (sym (c .before .before .before .before .before .before .before .before .before .before .before .before .before .before .before .scope-fits .ensures) ∙ not-false _ (c .before .before .before .before .before .before .before .before .before .before .before .before .before .before .if1 .left))) z (rw ((c .before .before .before .before .before .before .wide .ensures) .0, (c .before .before .before .before .before .before .before .flags-of .ensures), ← (c .before .before .before .before .before .before .before .before .before .use-of .ensures) .given _) at (c .before .before .before .merge-use-at .ensures)))
 
-same-length-3 : tie.Need-same-length-3
-same-length-3 c = search needs
-
 returns-3 : tie.Need-returns-3
 returns-3 c = single-away (sym (c .before .before .before .before .before .before .scope-fits .ensures) ∙ not-false _ (c .before .before .before .before .before .if1 .left)) (rw (((c .before .r .given)) .1) at (c .before .before .before .check-single .ensures))
-
-same-length-4 : tie.Need-same-length-4
-same-length-4 c = search needs
 
 returns-4 : tie.Need-returns-4
 returns-4 c = single-never (sym (c .before .before .before .before .before .before .scope-fits .ensures) ∙ not-false _ (c .before .before .before .before .before .if1 .left)) (rw (((c .before .k .given)) .1) at (c .before .before .before .check-single .ensures))
@@ -67,23 +28,7 @@ returns-4 c = single-never (sym (c .before .before .before .before .before .befo
 pub merge-single-spec : {M : Type 1} → statement M
 merge-single-spec =
     tie.close
-    (tie.spec
-    table-len-requires
-    scope-fits-requires
-    same-length
-    returns
-    check-single-requires
-    enum-told
-    use-of-requires
-    flags-of-requires
-    wide-requires
-    merge-use-at-requires
-    told-requires
-    enum-known-r
-    enum-known-k
-    same-length-2
-    returns-2
-    same-length-3
-    returns-3
-    same-length-4
-    returns-4)
+    (tie.spec (λ c κs. search needs) (λ c κs. search needs) (λ c. search needs) returns check-single-requires
+    (λ c. search needs) (λ c κs. search needs) (λ c κs. search needs) (λ c κs. search needs) merge-use-at-requires
+    (λ c κs. search needs) (λ c. search needs) (λ c. search needs) (λ c. search needs) returns-2 (λ c. search needs)
+    returns-3 (λ c. search needs) returns-4)

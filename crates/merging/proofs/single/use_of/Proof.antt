@@ -4,18 +4,6 @@ use borrow.Author.Needs.{needs}
 use Rattle.merging.proofs.single.use_of.Statement.{statement}
 use Rattle.merging.proofs.single.use_of.Tie as tie
 
-enum-told : tie.Need-enum-told
-enum-told c = search needs
-
-full-requires : tie.Need-full-requires
-full-requires c κs = search needs
-
-enum-known-selection : tie.Need-enum-known-selection
-enum-known-selection c = search needs
-
-is-full-requires : tie.Need-is-full-requires
-is-full-requires c κs = search needs
-
 returns : tie.Need-returns
 returns c = rw ((c .full .ensures), ((c .before .enum-told .given)) .1) (full-use _)
 
@@ -25,4 +13,4 @@ returns-2 c = rw (((c .before .before .selection .given)) .1) (part-use _ _ _ (c
 pub use-of-spec : {M : Type 1} → statement M
 use-of-spec =
     tie.close
-    (tie.spec enum-told full-requires enum-known-selection is-full-requires returns returns-2)
+    (tie.spec (λ c. search needs) (λ c κs. search needs) (λ c. search needs) (λ c κs. search needs) returns returns-2)

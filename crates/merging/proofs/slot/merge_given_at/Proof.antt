@@ -4,23 +4,8 @@ use borrow.Author.Needs.{needs}
 use Rattle.merging.proofs.slot.merge_given_at.Statement.{statement}
 use Rattle.merging.proofs.slot.merge_given_at.Tie as tie
 
-add-if1 : tie.Need-add-if1
-add-if1 c = search needs
-
-mul-if1 : tie.Need-mul-if1
-mul-if1 c = search needs
-
-element-copy-out-if1 : tie.Need-element-copy-out-if1
-element-copy-out-if1 c = search needs
-
-own-requires : tie.Need-own-requires
-own-requires c κs = search needs
-
 insert-given-requires : tie.Need-insert-given-requires
 insert-given-requires c κs = let p = (c .before .before .before .before .before .before .before .before .pre) in rw ((c .before .before .own .ensures)) (new-given (p .0) (p .1))
-
-same-length : tie.Need-same-length
-same-length c = search needs
 
 returns : tie.Need-returns
 returns c = slot-new ((c .before .before .before .before .before .before .before .before .before .before .before .pre) .0) _ _ (c .before .before .before .before .before .before .before .if1 .taken) (rw ((c .before .before .before .before .before .own .ensures)) at (c .before .before .insert-given .ensures))
@@ -28,23 +13,11 @@ returns c = slot-new ((c .before .before .before .before .before .before .before
 merge-given-requires : tie.Need-merge-given-requires
 merge-given-requires c κs = let p = (c .before .before .before .before .before .before .pre) in let o = (c .before .before .if1 .left) in (old-given (p .0) (p .1) o, old-merge (p .0) (p .1) o)
 
-same-length-2 : tie.Need-same-length-2
-same-length-2 c = search needs
-
 returns-2 : tie.Need-returns-2
 returns-2 c = slot-old ((c .before .before .before .before .before .before .before .before .before .pre) .0) _ _ (c .before .before .before .before .before .if1 .left) (c .before .before .merge-given .ensures)
 
 pub merge-given-at-spec : {M : Type 1} → statement M
 merge-given-at-spec =
     tie.close
-    (tie.spec
-    add-if1
-    mul-if1
-    element-copy-out-if1
-    own-requires
-    insert-given-requires
-    same-length
-    returns
-    merge-given-requires
-    same-length-2
-    returns-2)
+    (tie.spec (λ c. search needs) (λ c. search needs) (λ c. search needs) (λ c κs. search needs) insert-given-requires
+    (λ c. search needs) returns merge-given-requires (λ c. search needs) returns-2)

@@ -7,41 +7,14 @@ use borrow.Author.Needs.{needs}
 use Rattle.merging.proofs.slot.merge_use_at.Statement.{statement}
 use Rattle.merging.proofs.slot.merge_use_at.Tie as tie
 
-add-if1 : tie.Need-add-if1
-add-if1 c = search needs
-
-mul-if1 : tie.Need-mul-if1
-mul-if1 c = search needs
-
-element-copy-out-if1 : tie.Need-element-copy-out-if1
-element-copy-out-if1 c = search needs
-
-own-requires : tie.Need-own-requires
-own-requires c κs = search needs
-
 insert-use-requires : tie.Need-insert-use-requires
 insert-use-requires c κs = rw (c .before .before .own .ensures) (new-use (c .before .before .before .before .before .before .before .pre .0) (c .before .before .before .before .before .before .before .pre .1))
-
-same-length : tie.Need-same-length
-same-length c = search needs
 
 returns : tie.Need-returns
 returns c = slot-new (c .before .before .before .before .before .before .before .before .before .before .pre .0) _ _ (c .before .before .before .before .before .before .before .if1 .taken) (rw (c .before .before .before .before .before .own .ensures) at (c .before .before .insert-use .ensures))
 
-add-cur : tie.Need-add-cur
-add-cur c = search needs
-
-mul-cur : tie.Need-mul-cur
-mul-cur c = search needs
-
-element-copy-out-cur : tie.Need-element-copy-out-cur
-element-copy-out-cur c = search needs
-
 merge-use-requires : tie.Need-merge-use-requires
 merge-use-requires c κs = ((old-use (c .before .before .before .before .before .before .before .before .pre .0) (c .before .before .before .before .before .before .before .before .pre .1) (c .before .before .before .before .before .if1 .left)), (old-held (c .before .before .before .before .before .before .before .before .pre .0) (c .before .before .before .before .before .before .before .before .pre .1) (c .before .before .before .before .before .if1 .left)))
-
-same-length-2 : tie.Need-same-length-2
-same-length-2 c = search needs
 
 returns-2 : tie.Need-returns-2
 returns-2 c = slot-old (c .before .before .before .before .before .before .before .before .before .before .before .pre .0) _ _ (c .before .before .before .before .before .before .before .before .if1 .left) (c .before .before .merge-use .ensures)
@@ -49,17 +22,11 @@ returns-2 c = slot-old (c .before .before .before .before .before .before .befor
 merge-single-use-requires : tie.Need-merge-single-use-requires
 merge-single-use-requires c κs = let u = rw (c .before .before .if3 .taken) at (old-use (c .before .before .before .before .before .before .before .before .before .pre .0) (c .before .before .before .before .before .before .before .before .before .pre .1) (c .before .before .before .before .before .before .if1 .left)) in (u, single-ready u (old-held (c .before .before .before .before .before .before .before .before .before .pre .0) (c .before .before .before .before .before .before .before .before .before .pre .1) (c .before .before .before .before .before .before .if1 .left)) _ refl (c .before .before .before .if2 .left))
 
-same-length-3 : tie.Need-same-length-3
-same-length-3 c = search needs
-
 returns-3 : tie.Need-returns-3
 returns-3 c = let u = rw (c .before .before .before .before .before .if3 .taken) at (old-use (c .before .before .before .before .before .before .before .before .before .before .before .before .pre .0) (c .before .before .before .before .before .before .before .before .before .before .before .before .pre .1) (c .before .before .before .before .before .before .before .before .before .if1 .left)) in rw (c .before .before .before .before .before .if3 .taken) (slot-old (c .before .before .before .before .before .before .before .before .before .before .before .before .pre .0) _ _ (c .before .before .before .before .before .before .before .before .before .if1 .left) (single-merged u (old-held (c .before .before .before .before .before .before .before .before .before .before .before .before .pre .0) (c .before .before .before .before .before .before .before .before .before .before .before .before .pre .1) (c .before .before .before .before .before .before .before .before .before .if1 .left)) _ refl (c .before .before .before .before .before .before .if2 .left) (c .before .before .merge-single-use .ensures)))
 
 merge-use-requires-2 : tie.Need-merge-use-requires-2
 merge-use-requires-2 c κs = ((old-use (c .before .before .before .before .before .before .before .before .before .pre .0) (c .before .before .before .before .before .before .before .before .before .pre .1) (c .before .before .before .before .before .before .if1 .left)), (old-held (c .before .before .before .before .before .before .before .before .before .pre .0) (c .before .before .before .before .before .before .before .before .before .pre .1) (c .before .before .before .before .before .before .if1 .left)))
-
-same-length-4 : tie.Need-same-length-4
-same-length-4 c = search needs
 
 returns-4 : tie.Need-returns-4
 returns-4 c = slot-old (c .before .before .before .before .before .before .before .before .before .before .before .before .pre .0) _ _ (c .before .before .before .before .before .before .before .before .before .if1 .left) (c .before .before .merge-use2 .ensures)
@@ -67,23 +34,7 @@ returns-4 c = slot-old (c .before .before .before .before .before .before .befor
 pub merge-use-at-spec : {M : Type 1} → statement M
 merge-use-at-spec =
     tie.close
-    (tie.spec
-    add-if1
-    mul-if1
-    element-copy-out-if1
-    own-requires
-    insert-use-requires
-    same-length
-    returns
-    add-cur
-    mul-cur
-    element-copy-out-cur
-    merge-use-requires
-    same-length-2
-    returns-2
-    merge-single-use-requires
-    same-length-3
-    returns-3
-    merge-use-requires-2
-    same-length-4
-    returns-4)
+    (tie.spec (λ c. search needs) (λ c. search needs) (λ c. search needs) (λ c κs. search needs) insert-use-requires
+    (λ c. search needs) returns (λ c. search needs) (λ c. search needs) (λ c. search needs) merge-use-requires
+    (λ c. search needs) returns-2 merge-single-use-requires (λ c. search needs) returns-3 merge-use-requires-2
+    (λ c. search needs) returns-4)

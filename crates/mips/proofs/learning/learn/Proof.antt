@@ -14,29 +14,14 @@ abbrev μ-loop : tie.MeasureT-loop
 loop-holds : tie.Need-loop-holds Inv-loop μ-loop
 loop-holds c = start-of ((c .before .before .pre) .0) ((c .before .before .pre) .1 .1)
 
-get-requires : tie.Need-get-requires Inv-loop μ-loop
-get-requires c κs = search needs
-
-add-k : tie.Need-add-k Inv-loop μ-loop
-add-k c = search needs
-
 update-requires : tie.Need-update-requires Inv-loop μ-loop
 update-requires c κs = room-here ((c .before .before .before .before .before .before .before .before .pre) .1 .0) (c .before .before .before .before .before .loop .inv) (c .before .before .before .before .loop-test .taken) (c .before .before .before .get .ensures) (c .before .if1 .taken)
-
-loop-less : tie.Need-loop-less Inv-loop μ-loop
-loop-less c = search needs
 
 loop-again : tie.Need-loop-again Inv-loop μ-loop
 loop-again c = turn-yes ((c .before .before .before .before .before .before .before .before .before .before .before .pre) .1 .0) (c .before .before .before .before .before .before .before .before .loop .inv) (c .before .before .before .before .before .before .before .loop-test .taken) (c .before .before .before .before .before .before .get .ensures) (c .before .before .before .before .if1 .taken) (c .before .before .update .ensures)
 
-loop-less-2 : tie.Need-loop-less-2 Inv-loop μ-loop
-loop-less-2 c = search needs
-
 loop-again-2 : tie.Need-loop-again-2 Inv-loop μ-loop
 loop-again-2 c = turn-no ((c .before .before .before .before .before .before .before .pre) .1 .0) (c .before .before .before .before .loop .inv) (c .before .before .before .loop-test .taken) (c .before .before .get .ensures) (c .if1 .left)
-
-same-length : tie.Need-same-length Inv-loop μ-loop
-same-length c = search needs
 
 returns : tie.Need-returns Inv-loop μ-loop
 returns c = finish ((c .before .before .before .before .pre) .1 .0) (c .before .loop .inv) (c .loop-test .left)
@@ -44,16 +29,5 @@ returns c = finish ((c .before .before .before .before .pre) .1 .0) (c .before .
 pub learn-spec : {M : Type 1} → statement M
 learn-spec =
     tie.close
-    (tie.spec
-    Inv-loop
-    μ-loop
-    loop-holds
-    get-requires
-    add-k
-    update-requires
-    loop-less
-    loop-again
-    loop-less-2
-    loop-again-2
-    same-length
-    returns)
+    (tie.spec Inv-loop μ-loop loop-holds (λ c κs. search needs) (λ c. search needs) update-requires (λ c. search needs)
+    loop-again (λ c. search needs) loop-again-2 (λ c. search needs) returns)

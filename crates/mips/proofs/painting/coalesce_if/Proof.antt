@@ -4,12 +4,6 @@ use borrow.Author.Needs.{needs}
 use Rattle.mips.proofs.painting.coalesce_if.Statement.{statement}
 use Rattle.mips.proofs.painting.coalesce_if.Tie as tie
 
-coalesce-requires : tie.Need-coalesce-requires
-coalesce-requires c κs = search needs
-
-same-length : tie.Need-same-length
-same-length c = search needs
-
 returns : tie.Need-returns
 returns c = search join-yes
 
@@ -17,4 +11,6 @@ returns-2 : tie.Need-returns-2
 returns-2 c = search join-no
 
 pub coalesce-if-spec : {M : Type 1} → statement M
-coalesce-if-spec = tie.close (tie.spec coalesce-requires same-length returns returns-2)
+coalesce-if-spec =
+    tie.close
+    (tie.spec (λ c κs. search needs) (λ c. search needs) returns returns-2)

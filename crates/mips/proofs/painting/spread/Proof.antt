@@ -4,21 +4,13 @@ use borrow.Author.Needs.{needs}
 use Rattle.mips.proofs.painting.spread.Statement.{statement}
 use Rattle.mips.proofs.painting.spread.Tie as tie
 
-fresh-requires : tie.Need-fresh-requires
-fresh-requires c κs = search needs
-
 paint-requires : tie.Need-paint-requires
 paint-requires c κs = search spread-room
-
-coalesce-if-requires : tie.Need-coalesce-if-requires
-coalesce-if-requires c κs = search needs
-
-same-length : tie.Need-same-length
-same-length c = search needs
 
 returns : tie.Need-returns
 returns c = spread-is _ _ _ _ _ _ _ (c .before .before .before .before .before .before .before .before .before .before .fresh .ensures) (c .before .before .before .before .before .before .paint .ensures) (c .before .before .coalesce-if .ensures)
 
 pub spread-spec : {M : Type 1} → statement M
 spread-spec =
-    tie.close (tie.spec fresh-requires paint-requires coalesce-if-requires same-length returns)
+    tie.close
+    (tie.spec (λ c κs. search needs) paint-requires (λ c κs. search needs) (λ c. search needs) returns)

@@ -18,38 +18,11 @@ abbrev μ-loop : tie.MeasureT-loop
 loop-holds : tie.Need-loop-holds Inv-loop μ-loop
 loop-holds c = search start-of
 
-get-requires : tie.Need-get-requires Inv-loop μ-loop
-get-requires c κs = search needs
-
-unite-known-requires : tie.Need-unite-known-requires Inv-loop μ-loop
-unite-known-requires c κs = search needs
-
-enum-known-state : tie.Need-enum-known-state Inv-loop μ-loop
-enum-known-state c = search needs
-
-enum-told : tie.Need-enum-told Inv-loop μ-loop
-enum-told c = search needs
-
-same-length : tie.Need-same-length Inv-loop μ-loop
-same-length c = search needs
-
 returns : tie.Need-returns Inv-loop μ-loop
 returns c = let e = sym (c .before .before .unite-known .ensures) ∙ ap stateOf ((c .enum-told .given) .1) in halt ((c .before .before .before .before .before .before .before .before .pre) .1) (c .before .before .before .before .before .before .loop .inv) (c .before .before .before .before .before .loop-test .taken) (c .before .before .before .get .ensures) (stops-at _ _ (c .before .before .before .get .result) e)
 
-put-requires : tie.Need-put-requires Inv-loop μ-loop
-put-requires c κs = search needs
-
-add-k : tie.Need-add-k Inv-loop μ-loop
-add-k c = search needs
-
-loop-less : tie.Need-loop-less Inv-loop μ-loop
-loop-less c = search needs
-
 loop-again : tie.Need-loop-again Inv-loop μ-loop
 loop-again c = let e = sym (c .before .before .before .before .before .before .before .unite-known .ensures) ∙ ap stateOf ((c .before .before .before .before .before .state .given) .1) in turn ((c .before .before .before .before .before .before .before .before .before .before .before .before .before .pre) .1) (c .before .before .before .before .before .before .before .before .before .before .before .loop .inv) (c .before .before .before .before .before .before .before .before .before .before .loop-test .taken) (c .before .before .before .before .before .before .before .before .get .ensures) (goes-on _ _ _ (c .before .before .before .before .before .before .before .before .get .result) e) (rw (takes _ _ _ (c .before .before .before .before .before .before .before .before .get .result) e) (c .before .before .put .ensures))
-
-same-length-2 : tie.Need-same-length-2 Inv-loop μ-loop
-same-length-2 c = search needs
 
 returns-2 : tie.Need-returns-2 Inv-loop μ-loop
 returns-2 c = search finish
@@ -57,19 +30,6 @@ returns-2 c = search finish
 pub merge-run-spec : {M : Type 1} → statement M
 merge-run-spec =
     tie.close
-    (tie.spec
-    Inv-loop
-    μ-loop
-    loop-holds
-    get-requires
-    unite-known-requires
-    enum-known-state
-    enum-told
-    same-length
-    returns
-    put-requires
-    add-k
-    loop-less
-    loop-again
-    same-length-2
-    returns-2)
+    (tie.spec Inv-loop μ-loop loop-holds (λ c κs. search needs) (λ c κs. search needs) (λ c. search needs)
+    (λ c. search needs) (λ c. search needs) returns (λ c κs. search needs) (λ c. search needs) (λ c. search needs)
+    loop-again (λ c. search needs) returns-2)

@@ -5,9 +5,6 @@ use borrow.Author.Needs.{needs}
 use Rattle.range_checks.proofs.checking.check_coalesce.Statement.{statement}
 use Rattle.range_checks.proofs.checking.check_coalesce.Tie as tie
 
-out-of-order-requires : tie.Need-out-of-order-requires
-out-of-order-requires c κs = search needs
-
 returns : tie.Need-returns
 unfolding firstFailing
 returns c = let o = sym (c .before .out-of-order .ensures) ∙ (c .if1 .taken) in rw o
@@ -17,4 +14,6 @@ unfolding firstFailing
 returns-2 c = let o = sym (c .before .out-of-order .ensures) ∙ (c .if1 .left) in rw o
 
 pub check-coalesce-spec : {M : Type 1} → statement M
-check-coalesce-spec = tie.close (tie.spec out-of-order-requires returns returns-2)
+check-coalesce-spec =
+    tie.close
+    (tie.spec (λ c κs. search needs) returns returns-2)

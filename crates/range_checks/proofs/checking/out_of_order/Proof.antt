@@ -6,9 +6,6 @@ use borrow.Author.Needs.{needs}
 use Rattle.range_checks.proofs.checking.out_of_order.Statement.{statement}
 use Rattle.range_checks.proofs.checking.out_of_order.Tie as tie
 
-records-requires : tie.Need-records-requires
-records-requires c κs = search needs
-
 returns : tie.Need-returns
 returns c = let h = rw (c .before .records .ensures) at (c .if1 .taken) in rw (lt-ltb _ _ h)
 
@@ -19,4 +16,6 @@ returns-2 : tie.Need-returns-2
 returns-2 c = let h = rw (c .before .before .records .ensures) at (c .before .if1 .left) in rw (le-ltb _ _ h, (c .ascends .ensures))
 
 pub out-of-order-spec : {M : Type 1} → statement M
-out-of-order-spec = tie.close (tie.spec records-requires returns ascends-requires returns-2)
+out-of-order-spec =
+    tie.close
+    (tie.spec (λ c κs. search needs) returns ascends-requires returns-2)

@@ -8,4 +8,6 @@ returns : tie.Need-returns
 returns c = sym (view-count _)
 
 pub records-spec : {M : Type 1} → statement M
-records-spec = tie.close (tie.spec returns)
+records-spec =
+    tie.close
+    (tie.spec returns)

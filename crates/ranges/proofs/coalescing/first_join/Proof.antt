@@ -11,26 +11,11 @@ Inv-loop s len i₀ cur₀ i cur = Reading s len i cur
 abbrev μ-loop : tie.MeasureT-loop
 μ-loop s len i₀ cur₀ i cur = len - i
 
-get-requires : tie.Need-get-requires Inv-loop μ-loop
-get-requires c κs = search needs
-
 loop-holds : tie.Need-loop-holds Inv-loop μ-loop
 loop-holds c = search reading-start
 
-get-requires-2 : tie.Need-get-requires-2 Inv-loop μ-loop
-get-requires-2 c κs = search needs
-
-joins-requires : tie.Need-joins-requires Inv-loop μ-loop
-joins-requires c κs = search needs
-
 returns : tie.Need-returns Inv-loop μ-loop
 returns c = search reading-ends
-
-add-i : tie.Need-add-i Inv-loop μ-loop
-add-i c = search needs
-
-loop-less : tie.Need-loop-less Inv-loop μ-loop
-loop-less c = search needs
 
 loop-again : tie.Need-loop-again Inv-loop μ-loop
 loop-again c = search reading-on
@@ -41,15 +26,5 @@ returns-2 c = search reading-ends
 pub first-join-spec : {M : Type 1} → statement M
 first-join-spec =
     tie.close
-    (tie.spec
-    Inv-loop
-    μ-loop
-    get-requires
-    loop-holds
-    get-requires-2
-    joins-requires
-    returns
-    add-i
-    loop-less
-    loop-again
-    returns-2)
+    (tie.spec Inv-loop μ-loop (λ c κs. search needs) loop-holds (λ c κs. search needs) (λ c κs. search needs) returns
+    (λ c. search needs) (λ c. search needs) loop-again returns-2)

@@ -3,12 +3,6 @@ use borrow.Author.Needs.{needs}
 use Rattle.records.proofs.decisions.coalesced.Statement.{statement}
 use Rattle.records.proofs.decisions.coalesced.Tie as tie
 
-enum-told : tie.Need-enum-told
-enum-told c = search needs
-
-enum-known-v : tie.Need-enum-known-v
-enum-known-v c = search needs
-
 returns : tie.Need-returns
 returns c = rw ((c .enum-told .given) .1)
 
@@ -16,4 +10,6 @@ returns-2 : tie.Need-returns-2
 returns-2 c = rw ((c .before .v .given) .1)
 
 pub coalesced-spec : {M : Type 1} → statement M
-coalesced-spec = tie.close (tie.spec enum-told enum-known-v returns returns-2)
+coalesced-spec =
+    tie.close
+    (tie.spec (λ c. search needs) (λ c. search needs) returns returns-2)

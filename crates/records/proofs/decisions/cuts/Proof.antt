@@ -10,4 +10,6 @@ returns-2 : tie.Need-returns-2
 returns-2 c = simp (lt-ltb _ _ (c .before .if1 .left))
 
 pub cuts-spec : {M : Type 1} → statement M
-cuts-spec = tie.close (tie.spec returns returns-2)
+cuts-spec =
+    tie.close
+    (tie.spec returns returns-2)

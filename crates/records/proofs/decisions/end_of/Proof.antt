@@ -10,4 +10,6 @@ returns-2 : tie.Need-returns-2
 returns-2 c = simp (ne-eqb _ _ (c .if1 .left))
 
 pub end-of-spec : {M : Type 1} → statement M
-end-of-spec = tie.close (tie.spec returns returns-2)
+end-of-spec =
+    tie.close
+    (tie.spec returns returns-2)

@@ -10,11 +10,10 @@ use Rattle.records.proofs.decisions.extends.Tie as tie
 returns : tie.Need-returns
 returns c = rw (c .if1 .taken) (refl, λ e. not-both′ e)
 
-joins-requires : tie.Need-joins-requires
-joins-requires c κs = search needs
-
 returns-2 : tie.Need-returns-2
 returns-2 c = (simp (lt-ltb 0 (c .before .before .args .len) (omega arith), (c .joins .ensures)), λ e. omega arith)
 
 pub extends-spec : {M : Type 1} → statement M
-extends-spec = tie.close (tie.spec returns joins-requires returns-2)
+extends-spec =
+    tie.close
+    (tie.spec returns (λ c κs. search needs) returns-2)

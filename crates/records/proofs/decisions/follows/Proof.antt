@@ -13,4 +13,6 @@ returns-3 : tie.Need-returns-3
 returns-3 c = simp (not-false (c .before .before .before .before .args .ascends) (c .before .before .before .if1 .left), le-leb _ _ (c .before .if2 .left))
 
 pub follows-spec : {M : Type 1} → statement M
-follows-spec = tie.close (tie.spec returns returns-2 returns-3)
+follows-spec =
+    tie.close
+    (tie.spec returns returns-2 returns-3)

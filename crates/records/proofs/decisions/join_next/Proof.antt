@@ -6,9 +6,6 @@ use borrow.Author.Needs.{needs}
 use Rattle.records.proofs.decisions.join_next.Statement.{statement}
 use Rattle.records.proofs.decisions.join_next.Tie as tie
 
-extends-requires : tie.Need-extends-requires
-extends-requires c κs = search needs
-
 sub-t6 : tie.Need-sub-t6
 sub-t6 c = ((c .before .extends .ensures) .1) (c .if1 .taken)
 
@@ -16,12 +13,11 @@ returns : tie.Need-returns
 unfolding joinOf
 returns c = (rw (sym ((c .before .extends .ensures) .0) ∙ (c .if1 .taken)), (omega arith, omega arith))
 
-add-t7 : tie.Need-add-t7
-add-t7 c = search needs
-
 returns-2 : tie.Need-returns-2
 unfolding joinOf
 returns-2 c = (rw (sym ((c .before .extends .ensures) .0) ∙ (c .if1 .left)), (omega arith, omega arith))
 
 pub join-next-spec : {M : Type 1} → statement M
-join-next-spec = tie.close (tie.spec extends-requires sub-t6 returns add-t7 returns-2)
+join-next-spec =
+    tie.close
+    (tie.spec (λ c κs. search needs) sub-t6 returns (λ c. search needs) returns-2)

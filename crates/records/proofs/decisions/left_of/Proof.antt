@@ -5,9 +5,6 @@ use borrow.Author.Needs.{needs}
 use Rattle.records.proofs.decisions.left_of.Statement.{statement}
 use Rattle.records.proofs.decisions.left_of.Tie as tie
 
-before-requires : tie.Need-before-requires
-before-requires c κs = search needs
-
 returns : tie.Need-returns
 returns c = (simp (eq-eqb _ _ (c .before .if1 .taken), (c .before2 .ensures)), omega arith)
 
@@ -15,4 +12,6 @@ returns-2 : tie.Need-returns-2
 returns-2 c = (simp (ne-eqb _ _ (c .if1 .left)), omega arith)
 
 pub left-of-spec : {M : Type 1} → statement M
-left-of-spec = tie.close (tie.spec before-requires returns returns-2)
+left-of-spec =
+    tie.close
+    (tie.spec (λ c κs. search needs) returns returns-2)

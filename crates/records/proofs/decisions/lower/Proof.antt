@@ -4,14 +4,8 @@ use borrow.Author.Needs.{needs}
 use Rattle.records.proofs.decisions.lower.Statement.{statement}
 use Rattle.records.proofs.decisions.lower.Tie as tie
 
-larger-requires : tie.Need-larger-requires
-larger-requires c κs = search needs
-
 returns : tie.Need-returns
 returns c = simp (lt-ltb _ _ (c .before .if1 .taken), (c .larger .ensures))
-
-larger-requires-2 : tie.Need-larger-requires-2
-larger-requires-2 c κs = search needs
 
 returns-2 : tie.Need-returns-2
 returns-2 c = simp (le-ltb _ _ (c .before .before .if1 .left), lt-ltb _ _ (c .before .if2 .taken), (c .larger2 .ensures))
@@ -20,4 +14,6 @@ returns-3 : tie.Need-returns-3
 returns-3 c = simp (le-ltb _ _ (c .before .if1 .left), le-ltb _ _ (c .if2 .left))
 
 pub lower-spec : {M : Type 1} → statement M
-lower-spec = tie.close (tie.spec larger-requires returns larger-requires-2 returns-2 returns-3)
+lower-spec =
+    tie.close
+    (tie.spec (λ c κs. search needs) returns (λ c κs. search needs) returns-2 returns-3)

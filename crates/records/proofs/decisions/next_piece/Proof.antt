@@ -6,27 +6,9 @@ use borrow.Author.Needs.{needs}
 use Rattle.records.proofs.decisions.next_piece.Statement.{statement}
 use Rattle.records.proofs.decisions.next_piece.Tie as tie
 
-end-of-requires : tie.Need-end-of-requires
-end-of-requires c κs = search needs
-
-larger-requires : tie.Need-larger-requires
-larger-requires c κs = search needs
-
-smaller-requires : tie.Need-smaller-requires
-smaller-requires c κs = search needs
-
 returns : tie.Need-returns
 unfolding pieceOf
 returns c = let h = rw ((c .before .before .larger .ensures), (c .before .smaller .ensures), (c .before .before .before .end-of .ensures)) at (c .if1 .taken) in (rw (lt-ltb _ _ h, (c .before .before .larger .ensures), (c .before .smaller .ensures), (c .before .before .before .end-of .ensures)), omega arith)
-
-smaller-requires-2 : tie.Need-smaller-requires-2
-smaller-requires-2 c κs = search needs
-
-lower-requires : tie.Need-lower-requires
-lower-requires c κs = search needs
-
-left-of-requires : tie.Need-left-of-requires
-left-of-requires c κs = search needs
 
 returns-2 : tie.Need-returns-2
 unfolding pieceOf
@@ -35,12 +17,5 @@ returns-2 c = let h = rw ((c .before .before .before .before .before .larger .en
 pub next-piece-spec : {M : Type 1} → statement M
 next-piece-spec =
     tie.close
-    (tie.spec
-    end-of-requires
-    larger-requires
-    smaller-requires
-    returns
-    smaller-requires-2
-    lower-requires
-    left-of-requires
-    returns-2)
+    (tie.spec (λ c κs. search needs) (λ c κs. search needs) (λ c κs. search needs) returns (λ c κs. search needs)
+    (λ c κs. search needs) (λ c κs. search needs) returns-2)

@@ -11,4 +11,6 @@ returns-2 : tie.Need-returns-2
 returns-2 c = (simp (le-ltb _ _ (c .before .if1 .left)), λ e. (c .before .if1 .left))
 
 pub out-of-order-spec : {M : Type 1} → statement M
-out-of-order-spec = tie.close (tie.spec returns returns-2)
+out-of-order-spec =
+    tie.close
+    (tie.spec returns returns-2)

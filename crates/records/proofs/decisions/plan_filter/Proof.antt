@@ -10,9 +10,6 @@ returns : tie.Need-returns
 unfolding filterPlan
 returns c = rw (le-leb _ _ (c .if1 .taken))
 
-out-of-order-requires : tie.Need-out-of-order-requires
-out-of-order-requires c κs = search needs
-
 returns-2 : tie.Need-returns-2
 unfolding filterPlan
 returns-2 c = rw (lt-leb _ _ (c .before .before .if1 .left), sym ((c .before .out-of-order .ensures) .0) ∙ (c .if2 .taken))
@@ -26,4 +23,6 @@ unfolding filterPlan
 returns-4 c = rw (lt-leb _ _ (c .before .before .before .before .if1 .left), sym ((c .before .before .before .out-of-order .ensures) .0) ∙ (c .before .before .if2 .left), le-ltb _ _ (c .if3 .left))
 
 pub plan-filter-spec : {M : Type 1} → statement M
-plan-filter-spec = tie.close (tie.spec returns out-of-order-requires returns-2 returns-3 returns-4)
+plan-filter-spec =
+    tie.close
+    (tie.spec returns (λ c κs. search needs) returns-2 returns-3 returns-4)

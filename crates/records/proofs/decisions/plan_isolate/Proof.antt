@@ -7,31 +7,13 @@ use borrow.Author.Needs.{needs}
 use Rattle.records.proofs.decisions.plan_isolate.Statement.{statement}
 use Rattle.records.proofs.decisions.plan_isolate.Tie as tie
 
-refused-plan-requires : tie.Need-refused-plan-requires
-refused-plan-requires c κs = search needs
-
 returns : tie.Need-returns
 unfolding isolatePlan
 returns c = rw (le-leb _ _ (c .before .if1 .taken)) (c .refused-plan .ensures)
 
-out-of-order-requires : tie.Need-out-of-order-requires
-out-of-order-requires c κs = search needs
-
-refused-plan-requires-2 : tie.Need-refused-plan-requires-2
-refused-plan-requires-2 c κs = search needs
-
 returns-2 : tie.Need-returns-2
 unfolding isolatePlan
 returns-2 c = rw (lt-leb _ _ (c .before .before .before .if1 .left), sym ((c .before .before .out-of-order .ensures) .0) ∙ (c .before .if2 .taken)) (c .refused-plan2 .ensures)
-
-larger-requires : tie.Need-larger-requires
-larger-requires c κs = search needs
-
-one-requires : tie.Need-one-requires
-one-requires c κs = search needs
-
-add-gaps : tie.Need-add-gaps
-add-gaps c = search needs
 
 add-n : tie.Need-add-n
 add-n c = record { fits = omega (arith, ((c .before .before .before .before .out-of-order .ensures) .1) (c .before .before .before .if2 .left), (c .before .one .ensures) .1, (c .before .before .before .before .before .before .pre) .0 .gaps, (c .before .before .before .before .before .before .pre) .0 .lead, (c .before .before .before .before .before .before .pre) .0 .tail, (c .before .before .before .before .before .before .pre) .1) }
@@ -42,21 +24,9 @@ add-n-2 c = record { fits = omega (arith, ((c .before .before .before .before .b
 add-n-3 : tie.Need-add-n-3
 add-n-3 c = record { fits = omega (arith, ((c .before .before .before .before .before .before .out-of-order .ensures) .1) (c .before .before .before .before .before .if2 .left), (c .before .before .before .one .ensures) .1, (c .before .before .before .before .before .before .before .before .pre) .0 .gaps, (c .before .before .before .before .before .before .before .before .pre) .0 .lead, (c .before .before .before .before .before .before .before .before .pre) .0 .tail, (c .before .before .before .before .before .before .before .before .pre) .1) }
 
-refused-plan-requires-3 : tie.Need-refused-plan-requires-3
-refused-plan-requires-3 c κs = search needs
-
 returns-3 : tie.Need-returns-3
 unfolding isolatePlan
 returns-3 c = let h = rw ((c .before .before .before .before .before .one .ensures) .0, (c .before .before .before .before .before .before .larger .ensures)) at (c .before .if3 .taken) in rw (lt-leb _ _ (c .before .before .before .before .before .before .before .before .before .if1 .left), sym ((c .before .before .before .before .before .before .before .before .out-of-order .ensures) .0) ∙ (c .before .before .before .before .before .before .before .if2 .left), lt-ltb _ _ h) (c .refused-plan3 .ensures)
-
-add-t14 : tie.Need-add-t14
-add-t14 c = search needs
-
-add-t12 : tie.Need-add-t12
-add-t12 c = search needs
-
-larger-requires-2 : tie.Need-larger-requires-2
-larger-requires-2 c κs = search needs
 
 returns-4 : tie.Need-returns-4
 unfolding isolatePlan
@@ -65,21 +35,6 @@ returns-4 c = let h = rw ((c .before .before .before .before .before .before .be
 pub plan-isolate-spec : {M : Type 1} → statement M
 plan-isolate-spec =
     tie.close
-    (tie.spec
-    refused-plan-requires
-    returns
-    out-of-order-requires
-    refused-plan-requires-2
-    returns-2
-    larger-requires
-    one-requires
-    add-gaps
-    add-n
-    add-n-2
-    add-n-3
-    refused-plan-requires-3
-    returns-3
-    add-t14
-    add-t12
-    larger-requires-2
-    returns-4)
+    (tie.spec (λ c κs. search needs) returns (λ c κs. search needs) (λ c κs. search needs) returns-2
+    (λ c κs. search needs) (λ c κs. search needs) (λ c. search needs) add-n add-n-2 add-n-3 (λ c κs. search needs)
+    returns-3 (λ c. search needs) (λ c. search needs) (λ c κs. search needs) returns-4)

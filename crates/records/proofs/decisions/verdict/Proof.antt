@@ -5,9 +5,6 @@ use borrow.Author.Needs.{needs}
 use Rattle.records.proofs.decisions.verdict.Statement.{statement}
 use Rattle.records.proofs.decisions.verdict.Tie as tie
 
-out-of-order-requires : tie.Need-out-of-order-requires
-out-of-order-requires c κs = search needs
-
 returns : tie.Need-returns
 unfolding verdictOf
 returns c = rw (sym ((c .before .out-of-order .ensures) .0) ∙ (c .if1 .taken))
@@ -17,4 +14,6 @@ unfolding verdictOf
 returns-2 c = rw (sym ((c .before .out-of-order .ensures) .0) ∙ (c .if1 .left))
 
 pub verdict-spec : {M : Type 1} → statement M
-verdict-spec = tie.close (tie.spec out-of-order-requires returns returns-2)
+verdict-spec =
+    tie.close
+    (tie.spec (λ c κs. search needs) returns returns-2)

@@ -19,15 +19,6 @@ abbrev μ-loop : tie.MeasureT-loop
 loop-holds : tie.Need-loop-holds Inv-loop μ-loop
 loop-holds c = (adding-start _ _ _ _ _ _, seen-none _)
 
-mul-wide : tie.Need-mul-wide Inv-loop μ-loop
-mul-wide c = search needs
-
-shared-slice-read-wide : tie.Need-shared-slice-read-wide Inv-loop μ-loop
-shared-slice-read-wide c = search needs
-
-wide-requires : tie.Need-wide-requires Inv-loop μ-loop
-wide-requires c κs = search needs
-
 array-read-again : tie.Need-array-read-again Inv-loop μ-loop
 array-read-again c = omega (arith, ((c .wide .ensures) .0), (c .before .before .before .before .before .before .before .before .pre .0) .each _ (c .before .before .loop-test .taken) .index, (c .before .before .before .loop .inv .1) .long)
 
@@ -61,20 +52,5 @@ returns c = adding-end (c .before .loop .inv .0) (c .loop-test .left)
 pub log-listed-spec : {M : Type 1} → statement M
 log-listed-spec =
     tie.close
-    (tie.spec
-    Inv-loop
-    μ-loop
-    loop-holds
-    mul-wide
-    shared-slice-read-wide
-    wide-requires
-    array-read-again
-    add-log-listed-at
-    log-listed-at-requires
-    array-write-seen
-    add-x
-    add-k
-    loop-less
-    loop-again
-    same-length
-    returns)
+    (tie.spec Inv-loop μ-loop loop-holds (λ c. search needs) (λ c. search needs) (λ c κs. search needs) array-read-again
+    add-log-listed-at log-listed-at-requires array-write-seen add-x add-k loop-less loop-again same-length returns)

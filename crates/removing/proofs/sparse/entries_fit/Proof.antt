@@ -7,21 +7,16 @@ use borrow.Author.Needs.{needs}
 use Rattle.removing.proofs.sparse.entries_fit.Statement.{statement}
 use Rattle.removing.proofs.sparse.entries_fit.Tie as tie
 
-subresources-requires : tie.Need-subresources-requires
-subresources-requires c κs = search needs
-
 returns : tie.Need-returns
 returns c = (all-fit _ _ _ _ (c .before .before .before .before .before .before .pre .1 .1 .0) (c .before .subresources .ensures) (c .if1 .taken), refl)
 
 log-listed-requires : tie.Need-log-listed-requires
 log-listed-requires c κs = ((c .before .before .before .before .before .before .before .pre .0), ((c .before .before .before .before .before .before .before .pre .1 .1 .1), (omega arith, λ w. absurd (false≢true w))))
 
-same-length : tie.Need-same-length
-same-length c = search needs
-
 returns-2 : tie.Need-returns-2
 returns-2 c = (rw ((c .before .before .log-listed .ensures .count)), (c .before .before .log-listed .ensures .content))
 
 pub entries-fit-spec : {M : Type 1} → statement M
 entries-fit-spec =
-    tie.close (tie.spec subresources-requires returns log-listed-requires same-length returns-2)
+    tie.close
+    (tie.spec (λ c κs. search needs) returns log-listed-requires (λ c. search needs) returns-2)

@@ -22,9 +22,6 @@ mul-wide c = omega (arith, (c .loop-test .taken))
 shared-slice-read-wide : tie.Need-shared-slice-read-wide Inv-loop μ-loop
 shared-slice-read-wide c = omega (arith, (c .before .loop-test .taken))
 
-wide-requires : tie.Need-wide-requires Inv-loop μ-loop
-wide-requires c κs = search needs
-
 take-at-requires : tie.Need-take-at-requires Inv-loop μ-loop
 take-at-requires c κs = rw ((c .before .before .before .before .wide .ensures) .0) (taking-ready ((c .before .before .before .before .before .before .before .before .before .before .before .before .pre) .0) (c .before .before .before .before .before .before .before .loop .inv) (c .before .before .before .before .before .before .loop-test .taken) ((c .before .before .before .before .before .before .before .before .before .before .before .before .pre) .1))
 
@@ -49,17 +46,5 @@ returns c = taking-end (c .before .loop .inv) (c .loop-test .left)
 pub set-listed-spec : {M : Type 1} → statement M
 set-listed-spec =
     tie.close
-    (tie.spec
-    Inv-loop
-    μ-loop
-    loop-holds
-    mul-wide
-    shared-slice-read-wide
-    wide-requires
-    take-at-requires
-    add-k
-    loop-less
-    loop-again
-    same-length
-    same-length-2
-    returns)
+    (tie.spec Inv-loop μ-loop loop-holds mul-wide shared-slice-read-wide (λ c κs. search needs) take-at-requires add-k
+    loop-less loop-again same-length same-length-2 returns)

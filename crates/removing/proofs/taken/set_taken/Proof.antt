@@ -18,12 +18,6 @@ element-copy-out-if1 c = omega (arith, (c .before .before .before .pre .0) .inde
 set-owned-at-requires : tie.Need-set-owned-at-requires
 set-owned-at-requires c κs = (c .before .before .before .before .before .before .before .before .pre .0)
 
-same-length : tie.Need-same-length
-same-length c = search needs
-
-same-length-2 : tie.Need-same-length-2
-same-length-2 c = search needs
-
 returns : tie.Need-returns
 returns c = (c .before .before .before .before .set-owned-at .ensures)
 
@@ -48,33 +42,12 @@ returns-2 c = rw (c .set-state .ensures) (plain-set (c .before .before .before .
 set-owned-at-requires-2 : tie.Need-set-owned-at-requires-2
 set-owned-at-requires-2 c κs = (c .before .before .before .before .before .before .before .before .before .before .before .pre .0)
 
-same-length-3 : tie.Need-same-length-3
-same-length-3 c = search needs
-
-same-length-4 : tie.Need-same-length-4
-same-length-4 c = search needs
-
 returns-3 : tie.Need-returns-3
 returns-3 c = (c .before .before .before .before .set-owned-at2 .ensures)
 
 pub set-taken-spec : {M : Type 1} → statement M
 set-taken-spec =
     tie.close
-    (tie.spec
-    add-if1
-    mul-if1
-    element-copy-out-if1
-    set-owned-at-requires
-    same-length
-    same-length-2
-    returns
-    both-single-requires
-    add-set-state
-    mul-set-state
-    element-copy-out-set-state
-    set-state-requires
-    returns-2
-    set-owned-at-requires-2
-    same-length-3
-    same-length-4
-    returns-3)
+    (tie.spec add-if1 mul-if1 element-copy-out-if1 set-owned-at-requires (λ c. search needs) (λ c. search needs) returns
+    both-single-requires add-set-state mul-set-state element-copy-out-set-state set-state-requires returns-2
+    set-owned-at-requires-2 (λ c. search needs) (λ c. search needs) returns-3)

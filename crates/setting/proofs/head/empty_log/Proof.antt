@@ -9,15 +9,6 @@ use borrow.Author.Needs.{needs}
 use Rattle.setting.proofs.head.empty_log.Statement.{statement}
 use Rattle.setting.proofs.head.empty_log.Tie as tie
 
-lent-entries-requires : tie.Need-lent-entries-requires
-lent-entries-requires c κs = search needs
-
-head-fits-requires : tie.Need-head-fits-requires
-head-fits-requires c κs = search needs
-
-refused-requires : tie.Need-refused-requires
-refused-requires c κs = search needs
-
 returns : tie.Need-returns
 returns c = rw ((c .refused .ensures)) (empty-away ((c .before .before .before .before .before .args) .log .now) ((c .before .before .before .before .before .args) .head) (rw ((c .before .before .before .lent-entries .ensures) .0) at (sym (c .before .before .head-fits .ensures) ∙ not-true _ (c .before .if1 .taken))))
 
@@ -30,4 +21,4 @@ returns-2 c = empty-done ((c .before .before .before .before .before .args) .log
 pub empty-log-spec : {M : Type 1} → statement M
 empty-log-spec =
     tie.close
-    (tie.spec lent-entries-requires head-fits-requires refused-requires returns add-t8 returns-2)
+    (tie.spec (λ c κs. search needs) (λ c κs. search needs) (λ c κs. search needs) returns add-t8 returns-2)

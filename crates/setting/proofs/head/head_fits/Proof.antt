@@ -13,4 +13,6 @@ returns-3 : tie.Need-returns-3
 returns-3 c = both-in ((c .before .before .before .before .before .args) .lent) ((c .before .before .before .before .before .args) .head) (c .before .before .before .if1 .left) (c .if2 .left)
 
 pub head-fits-spec : {M : Type 1} → statement M
-head-fits-spec = tie.close (tie.spec returns returns-2 returns-3)
+head-fits-spec =
+    tie.close
+    (tie.spec returns returns-2 returns-3)

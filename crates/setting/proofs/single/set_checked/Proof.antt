@@ -11,26 +11,8 @@ use borrow.Author.Needs.{needs}
 use Rattle.setting.proofs.single.set_checked.Statement.{statement}
 use Rattle.setting.proofs.single.set_checked.Tie as tie
 
-flags-of-requires : tie.Need-flags-of-requires
-flags-of-requires c κs = search needs
-
-element-copy-out-mask : tie.Need-element-copy-out-mask
-element-copy-out-mask c = search needs
-
 entries-fit-requires : tie.Need-entries-fit-requires
 entries-fit-requires c κs = rw (c .before .before .before .before .before .flags-of .ensures) ((c .before .before .before .before .before .before .before .before .before .before .pre .0), ((c .before .before .before .before .before .before .before .before .before .before .pre .1 .0), used-few ((c .before .before .before .before .before .before .before .before .before .before .args) .table .now) ((c .before .before .before .before .before .before .before .before .before .before .args) .starts .now) ((c .before .before .before .before .before .before .before .before .before .before .args) .ends .now) ((c .before .before .before .before .before .before .before .before .before .before .args) .log .now) ((c .before .before .before .before .before .before .before .before .before .before .args) .i) ((c .before .before .before .before .before .before .before .before .before .before .args) .extent) (useOf ((c .before .before .before .before .before .before .before .before .before .before .args) .all) ((c .before .before .before .before .before .before .before .before .before .before .args) .q) ((c .before .before .before .before .before .before .before .before .before .before .args) .new)) ((c .before .before .before .before .before .before .before .before .before .before .args) .head) (c .before .before .before .before .before .before .before .before .before .before .pre .1 .1 .0)))
-
-refused-requires : tie.Need-refused-requires
-refused-requires c κs = search needs
-
-same-length : tie.Need-same-length
-same-length c = search needs
-
-same-length-2 : tie.Need-same-length-2
-same-length-2 c = search needs
-
-same-length-3 : tie.Need-same-length-3
-same-length-3 c = search needs
 
 returns : tie.Need-returns
 returns c = rw ((c .refused .ensures), (c .before .before .before .before .entries-fit .ensures) .1) (not-enough ((c .before .before .before .before .before .before .before .before .before .before .before .before .before .before .before .args) .table .now) ((c .before .before .before .before .before .before .before .before .before .before .before .before .before .before .before .args) .starts .now) ((c .before .before .before .before .before .before .before .before .before .before .before .before .before .before .before .args) .ends .now) ((c .before .before .before .before .before .before .before .before .before .before .before .before .before .before .before .args) .log .now) ((c .before .before .before .before .before .before .before .before .before .before .before .before .before .before .before .args) .i) ((c .before .before .before .before .before .before .before .before .before .before .before .before .before .before .before .args) .extent) (useOf ((c .before .before .before .before .before .before .before .before .before .before .before .before .before .before .before .args) .all) ((c .before .before .before .before .before .before .before .before .before .before .before .before .before .before .before .args) .q) ((c .before .before .before .before .before .before .before .before .before .before .before .before .before .before .before .args) .new)) ((c .before .before .before .before .before .before .before .before .before .before .before .before .before .before .before .args) .head) (leb-false _ _ (sym (rw (c .before .before .before .before .before .before .before .before .before .before .flags-of .ensures) at ((c .before .before .before .before .entries-fit .ensures) .0)) ∙ not-true _ (c .before .if1 .taken))))
@@ -44,34 +26,12 @@ set-use-at-requires c κs = rw (c .before .before .before .before .before .befor
 moved-on-requires : tie.Need-moved-on-requires
 moved-on-requires c κs = (rw ((c .before .before .before .before .before .before .before .before .before .before .log-use-at .ensures) .count, (c .before .before .before .before .before .before .before .before .before .before .before .before .before .before .before .before .before .before .before .before .before .before .before .before .flags-of .ensures)) (leb-true _ _ (sym (rw (c .before .before .before .before .before .before .before .before .before .before .before .before .before .before .before .before .before .before .before .before .before .before .before .before .flags-of .ensures) at ((c .before .before .before .before .before .before .before .before .before .before .before .before .before .before .before .before .before .before .entries-fit .ensures) .0)) ∙ not-false _ (c .before .before .before .before .before .before .before .before .before .before .before .before .before .before .before .if1 .left))), omega (arith, head-le (length ((c .before .before .before .before .before .before .before .before .before .before .before .before .before .before .before .before .before .before .before .before .before .before .before .before .before .before .before .before .before .args) .log .now) / 7) ((c .before .before .before .before .before .before .before .before .before .before .before .before .before .before .before .before .before .before .before .before .before .before .before .before .before .before .before .before .before .args) .head) (c .before .before .before .before .before .before .before .before .before .before .before .before .before .before .before .before .before .before .before .before .before .before .before .before .before .before .before .before .before .pre .1 .1 .1 .0), (c .before .before .before .before .before .before .before .before .before .before .before .before .before .before .before .before .before .before .before .before .before .before .before .before .before .before .before .before .before .pre .1 .1 .1 .1)))
 
-same-length-4 : tie.Need-same-length-4
-same-length-4 c = search needs
-
-same-length-5 : tie.Need-same-length-5
-same-length-5 c = search needs
-
-same-length-6 : tie.Need-same-length-6
-same-length-6 c = search needs
-
 returns-2 : tie.Need-returns-2
 returns-2 c = rw (c .moved-on .ensures) (written ((c .before .before .before .before .before .before .before .before .before .before .before .before .before .before .before .before .before .before .before .before .before .before .before .before .before .before .before .before .before .before .args) .table .now) ((c .before .before .before .before .before .before .before .before .before .before .before .before .before .before .before .before .before .before .before .before .before .before .before .before .before .before .before .before .before .before .args) .starts .now) ((c .before .before .before .before .before .before .before .before .before .before .before .before .before .before .before .before .before .before .before .before .before .before .before .before .before .before .before .before .before .before .args) .ends .now) ((c .before .before .before .before .before .before .before .before .before .before .before .before .before .before .before .before .before .before .before .before .before .before .before .before .before .before .before .before .before .before .args) .log .now) ((c .before .before .before .before .before .before .before .before .before .before .before .before .before .before .before .before .before .before .before .before .before .before .before .before .before .before .before .before .before .before .args) .i) ((c .before .before .before .before .before .before .before .before .before .before .before .before .before .before .before .before .before .before .before .before .before .before .before .before .before .before .before .before .before .before .args) .extent) (useOf ((c .before .before .before .before .before .before .before .before .before .before .before .before .before .before .before .before .before .before .before .before .before .before .before .before .before .before .before .before .before .before .args) .all) ((c .before .before .before .before .before .before .before .before .before .before .before .before .before .before .before .before .before .before .before .before .before .before .before .before .before .before .before .before .before .before .args) .q) ((c .before .before .before .before .before .before .before .before .before .before .before .before .before .before .before .before .before .before .before .before .before .before .before .before .before .before .before .before .before .before .args) .new)) ((c .before .before .before .before .before .before .before .before .before .before .before .before .before .before .before .before .before .before .before .before .before .before .before .before .before .before .before .before .before .before .args) .head) (leb-true _ _ (sym (rw (c .before .before .before .before .before .before .before .before .before .before .before .before .before .before .before .before .before .before .before .before .before .before .before .before .before .flags-of .ensures) at ((c .before .before .before .before .before .before .before .before .before .before .before .before .before .before .before .before .before .before .before .entries-fit .ensures) .0)) ∙ not-false _ (c .before .before .before .before .before .before .before .before .before .before .before .before .before .before .before .before .if1 .left))) (c .before .before .before .before .before .before .before .before .before .before .before .before .before .before .before .before .before .before .before .before .before .before .before .before .before .before .before .before .before .before .pre .1 .1 .1 .0) ((c .before .before .before .before .before .before .before .before .before .before .before .before .before .before .before .before .before .before .before .before .before .before .before .before .before .before .before .before .before .before .pre .0)) (rw ((c .before .before .before .before .before .before .before .before .before .before .before .before .before .before .before .before .before .before .before .before .before .before .before .before .before .flags-of .ensures), (c .before .before .before .before .before .before .before .before .before .before .before .before .before .before .before .before .before .before .before .entries-fit .ensures) .1) at (c .before .before .before .before .before .before .before .before .before .before .before .log-use-at .ensures)) (rw (c .before .before .before .before .before .before .before .before .before .before .before .before .before .before .before .before .before .before .before .before .before .before .before .before .before .flags-of .ensures) at (c .before .before .before .before .before .set-use-at .ensures)))
 
 pub set-checked-spec : {M : Type 1} → statement M
 set-checked-spec =
     tie.close
-    (tie.spec
-    flags-of-requires
-    element-copy-out-mask
-    entries-fit-requires
-    refused-requires
-    same-length
-    same-length-2
-    same-length-3
-    returns
-    log-use-at-requires
-    set-use-at-requires
-    moved-on-requires
-    same-length-4
-    same-length-5
-    same-length-6
-    returns-2)
+    (tie.spec (λ c κs. search needs) (λ c. search needs) entries-fit-requires (λ c κs. search needs) (λ c. search needs)
+    (λ c. search needs) (λ c. search needs) returns log-use-at-requires set-use-at-requires moved-on-requires
+    (λ c. search needs) (λ c. search needs) (λ c. search needs) returns-2)

@@ -9,23 +9,11 @@ use borrow.Author.Needs.{needs}
 use Rattle.setting.proofs.slot.log_use_at.Statement.{statement}
 use Rattle.setting.proofs.slot.log_use_at.Tie as tie
 
-add-if1 : tie.Need-add-if1
-add-if1 c = search needs
-
-mul-if1 : tie.Need-mul-if1
-mul-if1 c = search needs
-
-element-copy-out-if1 : tie.Need-element-copy-out-if1
-element-copy-out-if1 c = search needs
-
 returns : tie.Need-returns
 returns c = rw (entries-none ((c .before .before .before .before .before .args) .p) ((c .before .before .before .before .before .args) .mask) ((c .before .before .before .before .before .args) .extent) ((c .before .before .before .before .before .args) .table .now) ((c .before .before .before .before .before .args) .starts .now) ((c .before .before .before .before .before .args) .ends .now) ((c .before .before .before .before .before .args) .i) (useOf ((c .before .before .before .before .before .args) .all) ((c .before .before .before .before .before .args) .q) ((c .before .before .before .before .before .args) .new)) (c .if1 .taken)) (logged-none _ _ _ _ _)
 
 barrier-state-requires : tie.Need-barrier-state-requires
 barrier-state-requires c κs = (old-textured ((c .before .before .before .before .before .before .before .pre) .0) ((c .before .before .before .before .before .before .before .pre) .1 .0) (c .before .before .if1 .left), ((c .before .before .before .before .before .before .before .pre) .1 .1 .0, rw ((entries-are ((c .before .before .before .before .before .before .before .args) .p) ((c .before .before .before .before .before .before .before .args) .mask) ((c .before .before .before .before .before .before .before .args) .extent) ((c .before .before .before .before .before .before .before .args) .table .now) ((c .before .before .before .before .before .before .before .args) .starts .now) ((c .before .before .before .before .before .before .before .args) .ends .now) ((c .before .before .before .before .before .before .before .args) .i) (useOf ((c .before .before .before .before .before .before .before .args) .all) ((c .before .before .before .before .before .before .before .args) .q) ((c .before .before .before .before .before .before .before .args) .new)) (givenSingle ((c .before .before .before .before .before .before .before .args) .new)) (use-all ((c .before .before .before .before .before .before .before .args) .all) ((c .before .before .before .before .before .before .before .args) .q) ((c .before .before .before .before .before .before .before .args) .new) (c .before .if2 .taken)) (c .before .before .if1 .left))) at ((c .before .before .before .before .before .before .before .pre) .1 .1 .1)))
-
-same-length : tie.Need-same-length
-same-length c = search needs
 
 returns-2 : tie.Need-returns-2
 returns-2 c = rw ((entries-are ((c .before .before .before .before .before .before .before .before .before .before .args) .p) ((c .before .before .before .before .before .before .before .before .before .before .args) .mask) ((c .before .before .before .before .before .before .before .before .before .before .args) .extent) ((c .before .before .before .before .before .before .before .before .before .before .args) .table .now) ((c .before .before .before .before .before .before .before .before .before .before .args) .starts .now) ((c .before .before .before .before .before .before .before .before .before .before .args) .ends .now) ((c .before .before .before .before .before .before .before .before .before .before .args) .i) (useOf ((c .before .before .before .before .before .before .before .before .before .before .args) .all) ((c .before .before .before .before .before .before .before .before .before .before .args) .q) ((c .before .before .before .before .before .before .before .before .before .before .args) .new)) (givenSingle ((c .before .before .before .before .before .before .before .before .before .before .args) .new)) (use-all ((c .before .before .before .before .before .before .before .before .before .before .args) .all) ((c .before .before .before .before .before .before .before .before .before .before .args) .q) ((c .before .before .before .before .before .before .before .before .before .before .args) .new) (c .before .before .before .before .if2 .taken)) (c .before .before .before .before .before .if1 .left))) (c .before .before .barrier-state .ensures)
@@ -33,23 +21,11 @@ returns-2 c = rw ((entries-are ((c .before .before .before .before .before .befo
 barrier-selector-requires : tie.Need-barrier-selector-requires
 barrier-selector-requires c κs = (old-textured ((c .before .before .before .before .before .before .before .pre) .0) ((c .before .before .before .before .before .before .before .pre) .1 .0) (c .before .before .if1 .left), (old-selects ((c .before .before .before .before .before .before .before .pre) .0) ((c .before .before .before .before .before .before .before .pre) .1 .0) (c .before .before .if1 .left), ((c .before .before .before .before .before .before .before .pre) .1 .1 .0, rw ((entries-are ((c .before .before .before .before .before .before .before .args) .p) ((c .before .before .before .before .before .before .before .args) .mask) ((c .before .before .before .before .before .before .before .args) .extent) ((c .before .before .before .before .before .before .before .args) .table .now) ((c .before .before .before .before .before .before .before .args) .starts .now) ((c .before .before .before .before .before .before .before .args) .ends .now) ((c .before .before .before .before .before .before .before .args) .i) (useOf ((c .before .before .before .before .before .before .before .args) .all) ((c .before .before .before .before .before .before .before .args) .q) ((c .before .before .before .before .before .before .before .args) .new)) (givenMany (piece ((c .before .before .before .before .before .before .before .args) .q) ((c .before .before .before .before .before .before .before .args) .new) ∷ [])) (use-part ((c .before .before .before .before .before .before .before .args) .all) ((c .before .before .before .before .before .before .before .args) .q) ((c .before .before .before .before .before .before .before .args) .new) (c .before .if2 .left)) (c .before .before .if1 .left))) at ((c .before .before .before .before .before .before .before .pre) .1 .1 .1))))
 
-same-length-2 : tie.Need-same-length-2
-same-length-2 c = search needs
-
 returns-3 : tie.Need-returns-3
 returns-3 c = rw ((entries-are ((c .before .before .before .before .before .before .before .before .before .before .args) .p) ((c .before .before .before .before .before .before .before .before .before .before .args) .mask) ((c .before .before .before .before .before .before .before .before .before .before .args) .extent) ((c .before .before .before .before .before .before .before .before .before .before .args) .table .now) ((c .before .before .before .before .before .before .before .before .before .before .args) .starts .now) ((c .before .before .before .before .before .before .before .before .before .before .args) .ends .now) ((c .before .before .before .before .before .before .before .before .before .before .args) .i) (useOf ((c .before .before .before .before .before .before .before .before .before .before .args) .all) ((c .before .before .before .before .before .before .before .before .before .before .args) .q) ((c .before .before .before .before .before .before .before .before .before .before .args) .new)) (givenMany (piece ((c .before .before .before .before .before .before .before .before .before .before .args) .q) ((c .before .before .before .before .before .before .before .before .before .before .args) .new) ∷ [])) (use-part ((c .before .before .before .before .before .before .before .before .before .before .args) .all) ((c .before .before .before .before .before .before .before .before .before .before .args) .q) ((c .before .before .before .before .before .before .before .before .before .before .args) .new) (c .before .before .before .before .if2 .left)) (c .before .before .before .before .before .if1 .left))) (c .before .before .barrier-selector .ensures)
 
 pub log-use-at-spec : {M : Type 1} → statement M
 log-use-at-spec =
     tie.close
-    (tie.spec
-    add-if1
-    mul-if1
-    element-copy-out-if1
-    returns
-    barrier-state-requires
-    same-length
-    returns-2
-    barrier-selector-requires
-    same-length-2
-    returns-3)
+    (tie.spec (λ c. search needs) (λ c. search needs) (λ c. search needs) returns barrier-state-requires
+    (λ c. search needs) returns-2 barrier-selector-requires (λ c. search needs) returns-3)

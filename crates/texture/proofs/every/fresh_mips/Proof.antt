@@ -23,17 +23,8 @@ loop-holds c = (omega arith, editing-start _ _ _ _ _ _ _)
 fresh-mip-requires : tie.Need-fresh-mip-requires Inv-loop μ-loop
 fresh-mip-requires c κs = let p = (c .before .before .before .before .before .pre) in let w = (c .before .before .before .loop .inv) .1 in ready-now (editing-measured (p .measured) (p .texture) w .dims) (editing-ready (p .measured) (p .texture) w (rw (p .all) at (c .before .before .loop-test .taken)))
 
-add-m : tie.Need-add-m Inv-loop μ-loop
-add-m c = search needs
-
-loop-less : tie.Need-loop-less Inv-loop μ-loop
-loop-less c = search needs
-
 loop-again : tie.Need-loop-again Inv-loop μ-loop
 loop-again c = let p = (c .before .before .before .before .before .before .before .before .pre) in (omega arith, lap-turn (p .measured) (p .texture) ((c .before .before .before .before .before .before .loop .inv) .1) (rw (p .all) at (c .before .before .before .before .before .loop-test .taken)) (c .before .before .fresh-mip .ensures))
-
-same-length : tie.Need-same-length Inv-loop μ-loop
-same-length c = search needs
 
 returns : tie.Need-returns Inv-loop μ-loop
 returns c = let p = (c .before .before .before .pre) in let w = (c .before .loop .inv) in let e : (c .before .loop .m) ≡ (c .before .before .before .args .mips) = omega (arith, w .0) in rw (← e) (lap-all (w .1) (e ∙ p .all))
@@ -41,13 +32,5 @@ returns c = let p = (c .before .before .before .pre) in let w = (c .before .loop
 pub fresh-mips-spec : {M : Type 1} → statement M
 fresh-mips-spec =
     tie.close
-    (tie.spec
-    Inv-loop
-    μ-loop
-    loop-holds
-    fresh-mip-requires
-    add-m
-    loop-less
-    loop-again
-    same-length
-    returns)
+    (tie.spec Inv-loop μ-loop loop-holds fresh-mip-requires (λ c. search needs) (λ c. search needs) loop-again
+    (λ c. search needs) returns)

@@ -22,9 +22,6 @@ loop-holds c = (omega arith, walk-from _ _ _ _ _ _ _ (omega arith) (λ j x a. ab
 merge-every-mip-requires : tie.Need-merge-every-mip-requires Inv-loop μ-loop
 merge-every-mip-requires c κs = let p = (c .before .before .before .before .before .pre) in let w = (c .before .before .before .loop .inv) in lap-tiled (p .0) (w .1) (omega (arith, (c .before .before .loop-test .taken), p .1 .all))
 
-enum-known-met : tie.Need-enum-known-met Inv-loop μ-loop
-enum-known-met c = search needs
-
 met-at-requires : tie.Need-met-at-requires Inv-loop μ-loop
 met-at-requires c κs = let p = (c .before .before .before .before .before .before .before .before .before .before .before .pre) in let w = (c .before .before .before .before .before .before .before .before .before .loop .inv) in lap-small (p .0) (omega (arith, (c .before .before .before .before .before .before .before .before .loop-test .taken), p .1 .all))
 
@@ -34,20 +31,8 @@ same-length c = let w = (c .before .before .before .before .before .before .befo
 returns : tie.Need-returns Inv-loop μ-loop
 returns c = let p = (c .before .before .before .before .before .before .before .before .before .before .before .before .pre) in let w = (c .before .before .before .before .before .before .before .before .before .before .loop .inv) in lap-stop (p .0) (w .1) (omega (arith, (c .before .before .before .before .before .before .before .before .before .loop-test .taken), p .1 .all)) _ (λ x. refl) (c .before .before .before .before .before .before .merge-every-mip .ensures) _ (rw ((c .before .before .met .given) .1, (c .met-at .ensures)))
 
-enum-told : tie.Need-enum-told Inv-loop μ-loop
-enum-told c = search needs
-
-add-m : tie.Need-add-m Inv-loop μ-loop
-add-m c = search needs
-
-loop-less : tie.Need-loop-less Inv-loop μ-loop
-loop-less c = search needs
-
 loop-again : tie.Need-loop-again Inv-loop μ-loop
 loop-again c = let p = (c .before .before .before .before .before .before .before .before .before .before .pre) in let w = (c .before .before .before .before .before .before .before .before .loop .inv) in (omega arith, lap-on (p .0) (w .1) (omega (arith, (c .before .before .before .before .before .before .before .loop-test .taken), p .1 .all)) _ (λ x. refl) (c .before .before .before .before .merge-every-mip .ensures) (rw ((c .enum-told .given) .1)))
-
-same-length-2 : tie.Need-same-length-2 Inv-loop μ-loop
-same-length-2 c = search needs
 
 returns-2 : tie.Need-returns-2 Inv-loop μ-loop
 returns-2 c = let p = (c .before .before .before .pre) in let w = (c .before .loop .inv) in walk-done _ _ _ _ _ _ (p .0 .measured) (p .0 .texture) (w .1) (walk-all (w .1) (p .0) (omega (arith, w .0, (c .loop-test .left), p .1 .all)))
@@ -55,18 +40,5 @@ returns-2 c = let p = (c .before .before .before .pre) in let w = (c .before .lo
 pub merge-every-mips-spec : {M : Type 1} → statement M
 merge-every-mips-spec =
     tie.close
-    (tie.spec
-    Inv-loop
-    μ-loop
-    loop-holds
-    merge-every-mip-requires
-    enum-known-met
-    met-at-requires
-    same-length
-    returns
-    enum-told
-    add-m
-    loop-less
-    loop-again
-    same-length-2
-    returns-2)
+    (tie.spec Inv-loop μ-loop loop-holds merge-every-mip-requires (λ c. search needs) met-at-requires same-length
+    returns (λ c. search needs) (λ c. search needs) (λ c. search needs) loop-again (λ c. search needs) returns-2)

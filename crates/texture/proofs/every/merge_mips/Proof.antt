@@ -19,20 +19,11 @@ Inv-loop table₀ ranges₀ half i q p new top m₀ table ranges m = (mipStart q
 abbrev μ-loop : tie.MeasureT-loop
 μ-loop table₀ ranges₀ half i q p new top m₀ table ranges m = top - m
 
-wide-requires : tie.Need-wide-requires Inv-loop μ-loop
-wide-requires c κs = search needs
-
-wide-requires-2 : tie.Need-wide-requires-2 Inv-loop μ-loop
-wide-requires-2 c κs = search needs
-
 loop-holds : tie.Need-loop-holds Inv-loop μ-loop
 loop-holds c = let p = (c .before .before .before .pre) in let s = (c .wide2 .ensures) .0 in (omega (arith, s), rw s (walk-from _ _ _ _ _ _ _ (omega (arith, p .1 .mips, p .1 .in-mips)) (piece-under _ _ _)), omega (arith, s, (c .before .wide .ensures) .0, p .1 .mips))
 
 merge-mip-requires : tie.Need-merge-mip-requires Inv-loop μ-loop
 merge-mip-requires c κs = let p = (c .before .before .before .before .before .before .before .pre) in let w = (c .before .before .before .loop .inv) in lap-walk (p .0) (w .1) (omega (arith, (c .before .before .loop-test .taken), (c .before .before .before .before .before .wide .ensures) .0, p .1 .in-mips)) _ _ (p .1 .layers) (p .1 .in-layers)
-
-enum-known-met : tie.Need-enum-known-met Inv-loop μ-loop
-enum-known-met c = search needs
 
 met-at-requires : tie.Need-met-at-requires Inv-loop μ-loop
 met-at-requires c κs = let p = (c .before .before .before .before .before .before .before .before .before .before .before .before .before .pre) in let w = (c .before .before .before .before .before .before .before .before .before .loop .inv) in lap-small (p .0) (omega (arith, (c .before .before .before .before .before .before .before .before .loop-test .taken), (c .before .before .before .before .before .before .before .before .before .before .before .wide .ensures) .0, p .1 .in-mips))
@@ -43,20 +34,8 @@ same-length c = let w = (c .before .before .before .before .before .before .befo
 returns : tie.Need-returns Inv-loop μ-loop
 returns c = let p = (c .before .before .before .before .before .before .before .before .before .before .before .before .before .before .pre) in let w = (c .before .before .before .before .before .before .before .before .before .before .loop .inv) in lap-stop (p .0) (w .1) (omega (arith, (c .before .before .before .before .before .before .before .before .before .loop-test .taken), (c .before .before .before .before .before .before .before .before .before .before .before .before .wide .ensures) .0, p .1 .in-mips)) _ (piece-in _ _ _ _ (w .0) (omega (arith, (c .before .before .before .before .before .before .before .before .before .loop-test .taken), (c .before .before .before .before .before .before .before .before .before .before .before .before .wide .ensures) .0))) (c .before .before .before .before .before .before .merge-mip .ensures) _ (rw ((c .before .before .met .given) .1, (c .met-at .ensures)))
 
-enum-told : tie.Need-enum-told Inv-loop μ-loop
-enum-told c = search needs
-
-add-m : tie.Need-add-m Inv-loop μ-loop
-add-m c = search needs
-
-loop-less : tie.Need-loop-less Inv-loop μ-loop
-loop-less c = search needs
-
 loop-again : tie.Need-loop-again Inv-loop μ-loop
 loop-again c = let p = (c .before .before .before .before .before .before .before .before .before .before .before .before .pre) in let w = (c .before .before .before .before .before .before .before .before .loop .inv) in (omega (arith, w .0), lap-on (p .0) (w .1) (omega (arith, (c .before .before .before .before .before .before .before .loop-test .taken), (c .before .before .before .before .before .before .before .before .before .before .wide .ensures) .0, p .1 .in-mips)) _ (piece-in _ _ _ _ (w .0) (omega (arith, (c .before .before .before .before .before .before .before .loop-test .taken), (c .before .before .before .before .before .before .before .before .before .before .wide .ensures) .0))) (c .before .before .before .before .merge-mip .ensures) (rw ((c .enum-told .given) .1)), omega arith)
-
-same-length-2 : tie.Need-same-length-2 Inv-loop μ-loop
-same-length-2 c = search needs
 
 returns-2 : tie.Need-returns-2 Inv-loop μ-loop
 returns-2 c = let p = (c .before .before .before .before .before .pre) in let w = (c .before .loop .inv) in walk-done _ _ _ _ _ _ (p .0 .measured) (p .0 .texture) (w .1) (walk-rest _ _ _ (λ j x a. piece-over _ _ _ j x (omega (arith, a, (c .loop-test .left), (c .before .before .before .wide .ensures) .0))))
@@ -64,20 +43,6 @@ returns-2 c = let p = (c .before .before .before .before .before .pre) in let w 
 pub merge-mips-spec : {M : Type 1} → statement M
 merge-mips-spec =
     tie.close
-    (tie.spec
-    Inv-loop
-    μ-loop
-    wide-requires
-    wide-requires-2
-    loop-holds
-    merge-mip-requires
-    enum-known-met
-    met-at-requires
-    same-length
-    returns
-    enum-told
-    add-m
-    loop-less
-    loop-again
-    same-length-2
-    returns-2)
+    (tie.spec Inv-loop μ-loop (λ c κs. search needs) (λ c κs. search needs) loop-holds merge-mip-requires
+    (λ c. search needs) met-at-requires same-length returns (λ c. search needs) (λ c. search needs) (λ c. search needs)
+    loop-again (λ c. search needs) returns-2)

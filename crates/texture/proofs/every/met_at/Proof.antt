@@ -3,11 +3,10 @@ use borrow.Author.Needs.{needs}
 use Rattle.texture.proofs.every.met_at.Statement.{statement}
 use Rattle.texture.proofs.every.met_at.Tie as tie
 
-piece-at-requires : tie.Need-piece-at-requires
-piece-at-requires c κs = search needs
-
 returns : tie.Need-returns
 returns c = rw (c .piece-at .ensures)
 
 pub met-at-spec : {M : Type 1} → statement M
-met-at-spec = tie.close (tie.spec piece-at-requires returns)
+met-at-spec =
+    tie.close
+    (tie.spec (λ c κs. search needs) returns)

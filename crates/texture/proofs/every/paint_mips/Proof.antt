@@ -17,29 +17,14 @@ Inv-loop table₀ ranges₀ half i q unknown state top m₀ table ranges m = (m 
 abbrev μ-loop : tie.MeasureT-loop
 μ-loop table₀ ranges₀ half i q unknown state top m₀ table ranges m = top - m
 
-wide-requires : tie.Need-wide-requires Inv-loop μ-loop
-wide-requires c κs = search needs
-
-wide-requires-2 : tie.Need-wide-requires-2 Inv-loop μ-loop
-wide-requires-2 c κs = search needs
-
 loop-holds : tie.Need-loop-holds Inv-loop μ-loop
 loop-holds c = let p = (c .before .before .before .pre) in let s = (c .wide2 .ensures) .0 in (omega (arith, s, (c .before .wide .ensures) .0, p .1 .mips), rw s (editing-start _ _ _ _ _ _ _))
 
 paint-mip-requires : tie.Need-paint-mip-requires Inv-loop μ-loop
 paint-mip-requires c κs = let p = (c .before .before .before .before .before .before .before .pre) in lap-piece (p .0) ((c .before .before .before .loop .inv) .1) _ _ (omega (arith, (c .before .before .loop-test .taken), (c .before .before .before .before .before .wide .ensures) .0, p .1 .in-mips)) (p .1 .layers) (p .1 .in-layers)
 
-add-m : tie.Need-add-m Inv-loop μ-loop
-add-m c = search needs
-
-loop-less : tie.Need-loop-less Inv-loop μ-loop
-loop-less c = search needs
-
 loop-again : tie.Need-loop-again Inv-loop μ-loop
 loop-again c = let p = (c .before .before .before .before .before .before .before .before .before .before .pre) in (omega arith, lap-turn (p .0 .measured) (p .0 .texture) ((c .before .before .before .before .before .before .loop .inv) .1) (omega (arith, (c .before .before .before .before .before .loop-test .taken), (c .before .before .before .before .before .before .before .before .wide .ensures) .0, p .1 .in-mips)) (c .before .before .paint-mip .ensures))
-
-same-length : tie.Need-same-length Inv-loop μ-loop
-same-length c = search needs
 
 returns : tie.Need-returns Inv-loop μ-loop
 returns c = let p = (c .before .before .before .before .before .pre) in let w = (c .before .loop .inv) in editing-end (p .0 .measured) (p .0 .texture) (w .1) (c .before .before .before .before .before .args .q) _ refl refl (omega (arith, w .0, (c .before .before .before .wide .ensures) .0)) (p .1 .in-mips)
@@ -47,15 +32,5 @@ returns c = let p = (c .before .before .before .before .before .pre) in let w = 
 pub paint-mips-spec : {M : Type 1} → statement M
 paint-mips-spec =
     tie.close
-    (tie.spec
-    Inv-loop
-    μ-loop
-    wide-requires
-    wide-requires-2
-    loop-holds
-    paint-mip-requires
-    add-m
-    loop-less
-    loop-again
-    same-length
-    returns)
+    (tie.spec Inv-loop μ-loop (λ c κs. search needs) (λ c κs. search needs) loop-holds paint-mip-requires
+    (λ c. search needs) (λ c. search needs) loop-again (λ c. search needs) returns)

@@ -5,14 +5,10 @@ use borrow.Author.Needs.{needs}
 use Rattle.texture.proofs.every.piece_at.Statement.{statement}
 use Rattle.texture.proofs.every.piece_at.Tie as tie
 
-cast-k : tie.Need-cast-k
-cast-k c = search needs
-
-add-t7 : tie.Need-add-t7
-add-t7 c = search needs
-
 returns : tie.Need-returns
 returns c = rw add-one
 
 pub piece-at-spec : {M : Type 1} → statement M
-piece-at-spec = tie.close (tie.spec cast-k add-t7 returns)
+piece-at-spec =
+    tie.close
+    (tie.spec (λ c. search needs) (λ c. search needs) returns)

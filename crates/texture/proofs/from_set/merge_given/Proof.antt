@@ -10,32 +10,8 @@ use borrow.Author.Needs.{needs}
 use Rattle.texture.proofs.from_set.merge_given.Statement.{statement}
 use Rattle.texture.proofs.from_set.merge_given.Tie as tie
 
-add-word : tie.Need-add-word
-add-word c = search needs
-
-mul-word : tie.Need-mul-word
-mul-word c = search needs
-
-element-copy-out-word : tie.Need-element-copy-out-word
-element-copy-out-word c = search needs
-
-add-cur : tie.Need-add-cur
-add-cur c = search needs
-
-mul-cur : tie.Need-mul-cur
-mul-cur c = search needs
-
-element-copy-out-cur : tie.Need-element-copy-out-cur
-element-copy-out-cur c = search needs
-
-full-requires : tie.Need-full-requires
-full-requires c κs = search needs
-
 merge-single-use-requires : tie.Need-merge-single-use-requires
 merge-single-use-requires c κs = rw (c .before .before .before .before .full .ensures) ((set-use _ (c .before .before .before .before .before .before .before .before .before .before .before .pre .0) (c .before .before .before .before .before .if1 .taken)), single-ready (set-use _ (c .before .before .before .before .before .before .before .before .before .before .before .pre .0) (c .before .before .before .before .before .if1 .taken)) (set-held (c .before .before .before .before .before .before .before .before .before .before .before .pre .1) (c .before .before .before .before .before .if1 .taken)) _ refl (c .before .before .if2 .taken))
-
-same-length : tie.Need-same-length
-same-length c = search needs
 
 returns : tie.Need-returns
 returns c = merge-single (c .before .before .before .before .before .before .before .before .before .before .before .before .before .before .pre .0) (c .before .before .before .before .before .before .before .before .if1 .taken) (single-merged (set-use _ (c .before .before .before .before .before .before .before .before .before .before .before .before .before .before .pre .0) (c .before .before .before .before .before .before .before .before .if1 .taken)) (set-held (c .before .before .before .before .before .before .before .before .before .before .before .before .before .before .pre .1) (c .before .before .before .before .before .before .before .before .if1 .taken)) _ refl (c .before .before .before .before .before .if2 .taken) (c .before .before .merge-single-use .ensures))
@@ -43,20 +19,11 @@ returns c = merge-single (c .before .before .before .before .before .before .bef
 merge-use-requires : tie.Need-merge-use-requires
 merge-use-requires c κs = rw (c .before .before .before .before .full .ensures) ((set-use _ (c .before .before .before .before .before .before .before .before .before .before .before .pre .0) (c .before .before .before .before .before .if1 .taken)), (set-held (c .before .before .before .before .before .before .before .before .before .before .before .pre .1) (c .before .before .before .before .before .if1 .taken)))
 
-same-length-2 : tie.Need-same-length-2
-same-length-2 c = search needs
-
 returns-2 : tie.Need-returns-2
 returns-2 c = merge-single (c .before .before .before .before .before .before .before .before .before .before .before .before .before .before .pre .0) (c .before .before .before .before .before .before .before .before .if1 .taken) (c .before .before .merge-use .ensures)
 
-wide-requires : tie.Need-wide-requires
-wide-requires c κs = search needs
-
 give-mips-requires : tie.Need-give-mips-requires
 give-mips-requires c κs = rw ((c .before .before .before .before .wide .ensures) .0) (many-ready (c .before .before .before .before .before .before .before .before .before .before .before .pre .0) (c .before .before .before .before .before .if1 .left) (c .before .before .before .before .before .before .before .before .before .before .before .pre .1) (c .before .before .if3 .taken))
-
-same-length-3 : tie.Need-same-length-3
-same-length-3 c = search needs
 
 returns-3 : tie.Need-returns-3
 returns-3 c = many-many (c .before .before .before .before .before .before .before .before .before .before .before .before .before .before .pre .0) (c .before .before .before .before .before .before .before .before .if1 .left) (c .before .before .before .before .before .before .before .before .before .before .before .before .before .before .pre .1) (c .before .before .before .before .before .if3 .taken) (c .before .before .give-mips .ensures)
@@ -67,23 +34,11 @@ fresh-mips-requires c κs = rw ((c .before .before .before .before .wide .ensure
 give-mips-requires-2 : tie.Need-give-mips-requires-2
 give-mips-requires-2 c κs = rw ((c .before .before .before .before .before .before .before .before .before .wide .ensures) .0) (spread-ready (c .before .before .before .before .before .before .before .before .before .before .before .before .before .before .before .before .pre .0) (c .before .before .before .before .before .before .before .before .before .before .if1 .left) (c .before .before .before .before .before .before .before .before .before .before .before .before .before .before .before .before .pre .1) refl (c .before .before .before .before .before .before .before .if3 .left) (rw ((c .before .before .before .before .before .before .before .before .before .wide .ensures) .0) at (c .before .before .before .before .fresh-mips .ensures)))
 
-enum-known-x : tie.Need-enum-known-x
-enum-known-x c = search needs
-
-same-length-4 : tie.Need-same-length-4
-same-length-4 c = search needs
-
 returns-4 : tie.Need-returns-4
 returns-4 c = spread-stop (c .before .before .before .before .before .before .before .before .before .before .before .before .before .before .before .before .before .before .before .before .before .before .pre .0) (c .before .before .before .before .before .before .before .before .before .before .before .before .before .before .before .before .if1 .left) (c .before .before .before .before .before .before .before .before .before .before .before .before .before .before .before .before .before .before .before .before .before .before .pre .1) refl (c .before .before .before .before .before .before .before .before .before .before .before .before .before .if3 .left) (rw ((c .before .before .before .before .before .before .before .before .before .before .before .before .before .before .before .wide .ensures) .0) at (c .before .before .before .before .before .before .before .before .before .before .fresh-mips .ensures)) (c .before .before .before .before .before .give-mips2 .ensures) _ ((c .before .x .given) .1)
 
-enum-told : tie.Need-enum-told
-enum-told c = search needs
-
 set-state-requires : tie.Need-set-state-requires
 set-state-requires c κs = let m = (c .before .before .before .before .before .before .before .before .before .before .before .before .before .before .before .before .before .before .before .before .before .before .pre .0) in (m .measured .half .1, omega (arith, m .texture, m .measured .textures))
-
-same-length-5 : tie.Need-same-length-5
-same-length-5 c = search needs
 
 returns-5 : tie.Need-returns-5
 returns-5 c = rw (c .set-state .ensures) (spread-done (c .before .before .before .before .before .before .before .before .before .before .before .before .before .before .before .before .before .before .before .before .before .before .before .pre .0) (c .before .before .before .before .before .before .before .before .before .before .before .before .before .before .before .before .before .if1 .left) (c .before .before .before .before .before .before .before .before .before .before .before .before .before .before .before .before .before .before .before .before .before .before .before .pre .1) refl (c .before .before .before .before .before .before .before .before .before .before .before .before .before .before .if3 .left) (rw ((c .before .before .before .before .before .before .before .before .before .before .before .before .before .before .before .before .wide .ensures) .0) at (c .before .before .before .before .before .before .before .before .before .before .before .fresh-mips .ensures)) (c .before .before .before .before .before .before .give-mips2 .ensures) ((c .before .before .enum-told .given) .1))
@@ -91,30 +46,8 @@ returns-5 c = rw (c .set-state .ensures) (spread-done (c .before .before .before
 pub merge-given-spec : {M : Type 1} → statement M
 merge-given-spec =
     tie.close
-    (tie.spec
-    add-word
-    mul-word
-    element-copy-out-word
-    add-cur
-    mul-cur
-    element-copy-out-cur
-    full-requires
-    merge-single-use-requires
-    same-length
-    returns
-    merge-use-requires
-    same-length-2
-    returns-2
-    wide-requires
-    give-mips-requires
-    same-length-3
-    returns-3
-    fresh-mips-requires
-    give-mips-requires-2
-    enum-known-x
-    same-length-4
-    returns-4
-    enum-told
-    set-state-requires
-    same-length-5
-    returns-5)
+    (tie.spec (λ c. search needs) (λ c. search needs) (λ c. search needs) (λ c. search needs) (λ c. search needs)
+    (λ c. search needs) (λ c κs. search needs) merge-single-use-requires (λ c. search needs) returns merge-use-requires
+    (λ c. search needs) returns-2 (λ c κs. search needs) give-mips-requires (λ c. search needs) returns-3
+    fresh-mips-requires give-mips-requires-2 (λ c. search needs) (λ c. search needs) returns-4 (λ c. search needs)
+    set-state-requires (λ c. search needs) returns-5)

@@ -12,4 +12,6 @@ returns-2 : tie.Need-returns-2
 returns-2 c = search tests
 
 pub end-after-spec : {M : Type 1} → statement M
-end-after-spec = tie.close (tie.spec returns returns-2)
+end-after-spec =
+    tie.close
+    (tie.spec returns returns-2)

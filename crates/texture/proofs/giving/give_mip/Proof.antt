@@ -23,17 +23,11 @@ abbrev μ-loop : tie.MeasureT-loop
 loop-holds : tie.Need-loop-holds Inv-loop μ-loop
 loop-holds c = let p = (c .before .before .pre) in (omega arith, range-start (p .0) (p .1) _ _)
 
-get-requires : tie.Need-get-requires Inv-loop μ-loop
-get-requires c κs = search needs
-
 piece-at-requires : tie.Need-piece-at-requires Inv-loop μ-loop
 piece-at-requires c κs = let p = (c .before .before .before .before .before .pre) in lap-small (p .0) (p .1 .mip)
 
 take-piece-requires : tie.Need-take-piece-requires Inv-loop μ-loop
 take-piece-requires c κs = let p = (c .before .before .before .before .before .before .before .before .pre) in let w = (c .before .before .before .before .before .loop .inv) in rw ((c .before .before .piece-at .ensures)) (range-ready (p .0) (p .1) _ _ (w .1) (c .before .before .before .before .loop-test .taken) (c .before .before .before .get .ensures), range-selects (p .0) (p .1) _ _ (w .1) (c .before .before .before .before .loop-test .taken) (c .before .before .before .get .ensures))
-
-enum-known-x : tie.Need-enum-known-x Inv-loop μ-loop
-enum-known-x c = search needs
 
 same-length : tie.Need-same-length Inv-loop μ-loop
 same-length c = let w = (c .before .before .before .before .before .before .before .before .before .before .before .loop .inv) in let e = (c .before .before .before .before .before .take-piece .ensures) .into .frame .ranges .long ∙ w .1 .frame .ranges .long in search (needs, e)
@@ -41,20 +35,8 @@ same-length c = let w = (c .before .before .before .before .before .before .befo
 returns : tie.Need-returns Inv-loop μ-loop
 returns c = let p = (c .before .before .before .before .before .before .before .before .before .before .before .before .before .before .pre) in let w = (c .before .before .before .before .before .before .before .before .before .before .before .loop .inv) in range-stop (p .0) (p .1) _ _ (w .1) (c .before .before .before .before .before .before .before .before .before .before .loop-test .taken) (c .before .before .before .before .before .before .before .before .before .get .ensures) (rw ((c .before .before .before .before .before .before .before .before .piece-at .ensures)) at (c .before .before .before .before .before .take-piece .ensures)) _ (rw ((c .before .x .given) .1))
 
-enum-told : tie.Need-enum-told Inv-loop μ-loop
-enum-told c = search needs
-
-add-k : tie.Need-add-k Inv-loop μ-loop
-add-k c = search needs
-
-loop-less : tie.Need-loop-less Inv-loop μ-loop
-loop-less c = search needs
-
 loop-again : tie.Need-loop-again Inv-loop μ-loop
 loop-again c = let p = (c .before .before .before .before .before .before .before .before .before .before .before .before .before .pre) in let w = (c .before .before .before .before .before .before .before .before .before .before .loop .inv) in (omega arith, range-turn (p .0) (p .1) _ _ (w .1) (c .before .before .before .before .before .before .before .before .before .loop-test .taken) (c .before .before .before .before .before .before .before .before .get .ensures) (rw ((c .before .before .before .before .before .before .before .piece-at .ensures)) at (c .before .before .before .before .take-piece .ensures)) (rw ((c .enum-told .given) .1)))
-
-same-length-2 : tie.Need-same-length-2 Inv-loop μ-loop
-same-length-2 c = search needs
 
 returns-2 : tie.Need-returns-2 Inv-loop μ-loop
 returns-2 c = let p = (c .before .before .before .before .pre) in let w = (c .before .loop .inv) in range-done (p .0) (p .1) _ _ (w .1) (c .loop-test .left)
@@ -62,19 +44,6 @@ returns-2 c = let p = (c .before .before .before .before .pre) in let w = (c .be
 pub give-mip-spec : {M : Type 1} → statement M
 give-mip-spec =
     tie.close
-    (tie.spec
-    Inv-loop
-    μ-loop
-    loop-holds
-    get-requires
-    piece-at-requires
-    take-piece-requires
-    enum-known-x
-    same-length
-    returns
-    enum-told
-    add-k
-    loop-less
-    loop-again
-    same-length-2
-    returns-2)
+    (tie.spec Inv-loop μ-loop loop-holds (λ c κs. search needs) piece-at-requires take-piece-requires
+    (λ c. search needs) same-length returns (λ c. search needs) (λ c. search needs) (λ c. search needs) loop-again
+    (λ c. search needs) returns-2)

@@ -25,23 +25,8 @@ loop-holds c = let p = (c .before .before .pre) in (omega arith, mip-start (p .0
 locate-requires : tie.Need-locate-requires Inv-loop μ-loop
 locate-requires c κs = let p = (c .before .before .before .before .pre) in let w = (c .before .loop .inv) in locates (mip-located (p .0) (p .1) _ _ (w .1) (c .loop-test .taken))
 
-mul-give-mip : tie.Need-mul-give-mip Inv-loop μ-loop
-mul-give-mip c = search needs
-
-sub-give-mip : tie.Need-sub-give-mip Inv-loop μ-loop
-sub-give-mip c = search needs
-
-part-give-mip-start : tie.Need-part-give-mip-start Inv-loop μ-loop
-part-give-mip-start c = search needs
-
-part-give-mip-end : tie.Need-part-give-mip-end Inv-loop μ-loop
-part-give-mip-end c = search needs
-
 give-mip-requires : tie.Need-give-mip-requires Inv-loop μ-loop
 give-mip-requires c κs = let p = (c .before .before .before .before .before .before .before .before .pre) in let w = (c .before .before .before .before .before .loop .inv) in (mip-ready (p .0) (p .1) _ _ (w .1) (c .before .before .before .before .loop-test .taken), mip-given (p .0) (p .1) _ _ (w .1) (c .before .before .before .before .loop-test .taken) (c .before .before .before .locate .ensures))
-
-enum-known-x : tie.Need-enum-known-x Inv-loop μ-loop
-enum-known-x c = search needs
 
 same-length : tie.Need-same-length Inv-loop μ-loop
 same-length c = let w = (c .before .before .before .before .before .before .before .before .before .before .before .loop .inv) in let e = (c .before .before .before .before .before .give-mip .ensures) .into .frame .ranges .long ∙ w .1 .frame .ranges .long in search (needs, e)
@@ -49,20 +34,8 @@ same-length c = let w = (c .before .before .before .before .before .before .befo
 returns : tie.Need-returns Inv-loop μ-loop
 returns c = let p = (c .before .before .before .before .before .before .before .before .before .before .before .before .before .before .pre) in let w = (c .before .before .before .before .before .before .before .before .before .before .before .loop .inv) in mip-stop (p .0) (p .1) _ _ (w .1) (c .before .before .before .before .before .before .before .before .before .before .loop-test .taken) (c .before .before .before .before .before .before .before .before .before .locate .ensures) (c .before .before .before .before .before .give-mip .ensures) _ (rw ((c .before .x .given) .1))
 
-enum-told : tie.Need-enum-told Inv-loop μ-loop
-enum-told c = search needs
-
-add-m : tie.Need-add-m Inv-loop μ-loop
-add-m c = search needs
-
-loop-less : tie.Need-loop-less Inv-loop μ-loop
-loop-less c = search needs
-
 loop-again : tie.Need-loop-again Inv-loop μ-loop
 loop-again c = let p = (c .before .before .before .before .before .before .before .before .before .before .before .before .before .pre) in let w = (c .before .before .before .before .before .before .before .before .before .before .loop .inv) in (omega arith, mip-turn (p .0) (p .1) _ _ (w .1) (c .before .before .before .before .before .before .before .before .before .loop-test .taken) (c .before .before .before .before .before .before .before .before .locate .ensures) (c .before .before .before .before .give-mip .ensures) (rw ((c .enum-told .given) .1)))
-
-same-length-2 : tie.Need-same-length-2 Inv-loop μ-loop
-same-length-2 c = search needs
 
 returns-2 : tie.Need-returns-2 Inv-loop μ-loop
 returns-2 c = let p = (c .before .before .before .before .pre) in let w = (c .before .loop .inv) in mip-done (p .0) (p .1) _ _ (w .1) (c .loop-test .left)
@@ -70,22 +43,6 @@ returns-2 c = let p = (c .before .before .before .before .pre) in let w = (c .be
 pub give-mips-spec : {M : Type 1} → statement M
 give-mips-spec =
     tie.close
-    (tie.spec
-    Inv-loop
-    μ-loop
-    loop-holds
-    locate-requires
-    mul-give-mip
-    sub-give-mip
-    part-give-mip-start
-    part-give-mip-end
-    give-mip-requires
-    enum-known-x
-    same-length
-    returns
-    enum-told
-    add-m
-    loop-less
-    loop-again
-    same-length-2
-    returns-2)
+    (tie.spec Inv-loop μ-loop loop-holds locate-requires (λ c. search needs) (λ c. search needs) (λ c. search needs)
+    (λ c. search needs) give-mip-requires (λ c. search needs) same-length returns (λ c. search needs)
+    (λ c. search needs) (λ c. search needs) loop-again (λ c. search needs) returns-2)

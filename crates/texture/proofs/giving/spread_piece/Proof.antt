@@ -7,24 +7,12 @@ use borrow.Author.Needs.{needs}
 use Rattle.texture.proofs.giving.spread_piece.Statement.{statement}
 use Rattle.texture.proofs.giving.spread_piece.Tie as tie
 
-unite-requires : tie.Need-unite-requires
-unite-requires c κs = search needs
-
-enum-known-u : tie.Need-enum-known-u
-enum-known-u c = search needs
-
-enum-told : tie.Need-enum-told
-enum-told c = search needs
-
 returns : tie.Need-returns
 unfolding spreadPiece
 returns c = let e = sym (rw ((c .enum-told .given) .1) at (c .before .before .unite .ensures)) in rw e record { conflict = refl; into = record { mips = refl; frame = keeps-refl _ _ } }
 
 update-mips-requires : tie.Need-update-mips-requires
 update-mips-requires c κs = (c .before .before .before .before .before .before .before .pre)
-
-same-length : tie.Need-same-length
-same-length c = search needs
 
 returns-2 : tie.Need-returns-2
 unfolding spreadPiece
@@ -33,11 +21,5 @@ returns-2 c = let e = sym (rw ((c .before .before .before .before .before .befor
 pub spread-piece-spec : {M : Type 1} → statement M
 spread-piece-spec =
     tie.close
-    (tie.spec
-    unite-requires
-    enum-known-u
-    enum-told
-    returns
-    update-mips-requires
-    same-length
-    returns-2)
+    (tie.spec (λ c κs. search needs) (λ c. search needs) (λ c. search needs) returns update-mips-requires
+    (λ c. search needs) returns-2)

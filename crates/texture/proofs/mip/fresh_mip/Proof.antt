@@ -8,27 +8,6 @@ use Rattle.texture.proofs.mip.fresh_mip.Tie as tie
 locate-requires : tie.Need-locate-requires
 locate-requires c κs = locates (c .before .before .pre)
 
-mul-fresh : tie.Need-mul-fresh
-mul-fresh c = search needs
-
-sub-fresh : tie.Need-sub-fresh
-sub-fresh c = search needs
-
-part-fresh-start : tie.Need-part-fresh-start
-part-fresh-start c = search needs
-
-part-fresh-end : tie.Need-part-fresh-end
-part-fresh-end c = search needs
-
-fresh-requires : tie.Need-fresh-requires
-fresh-requires c κs = search needs
-
-set-count-requires : tie.Need-set-count-requires
-set-count-requires c κs = search needs
-
-same-length : tie.Need-same-length
-same-length c = search needs
-
 returns : tie.Need-returns
 returns c =
     let q = c .before .before .before .before .before .before .before .before .before .pre in
@@ -39,4 +18,5 @@ returns c =
 pub fresh-mip-spec : {M : Type 1} → statement M
 fresh-mip-spec =
     tie.close
-    (tie.spec locate-requires mul-fresh sub-fresh part-fresh-start part-fresh-end fresh-requires set-count-requires same-length returns)
+    (tie.spec locate-requires (λ c. search needs) (λ c. search needs) (λ c. search needs) (λ c. search needs)
+    (λ c κs. search needs) (λ c κs. search needs) (λ c. search needs) returns)

@@ -8,26 +8,11 @@ use Rattle.texture.proofs.mip.merge_every_mip.Tie as tie
 locate-requires : tie.Need-locate-requires
 locate-requires c κs = locates (c .before .before .pre .ready)
 
-mul-merge-every : tie.Need-mul-merge-every
-mul-merge-every c = search needs
-
-sub-merge-every : tie.Need-sub-merge-every
-sub-merge-every c = search needs
-
-part-merge-every-start : tie.Need-part-merge-every-start
-part-merge-every-start c = search needs
-
-part-merge-every-end : tie.Need-part-merge-every-end
-part-merge-every-end c = search needs
-
 merge-every-requires : tie.Need-merge-every-requires
 merge-every-requires c κs = lent-fits (c .before .before .before .before .pre) (c .before .locate .ensures)
 
 set-count-requires : tie.Need-set-count-requires
 set-count-requires c κs = count-fits (c .before .before .before .before .before .before .before .before .pre .ready) (c .before .before .before .before .before .locate .ensures) _ (c .before .before .before .merge-every .ensures .fits)
-
-same-length : tie.Need-same-length
-same-length c = search needs
 
 returns : tie.Need-returns
 returns c =
@@ -42,4 +27,5 @@ returns c =
 pub merge-every-mip-spec : {M : Type 1} → statement M
 merge-every-mip-spec =
     tie.close
-    (tie.spec locate-requires mul-merge-every sub-merge-every part-merge-every-start part-merge-every-end merge-every-requires set-count-requires same-length returns)
+    (tie.spec locate-requires (λ c. search needs) (λ c. search needs) (λ c. search needs) (λ c. search needs)
+    merge-every-requires set-count-requires (λ c. search needs) returns)

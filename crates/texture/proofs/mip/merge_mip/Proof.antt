@@ -8,26 +8,11 @@ use Rattle.texture.proofs.mip.merge_mip.Tie as tie
 locate-requires : tie.Need-locate-requires
 locate-requires c κs = locates (c .before .before .pre .tiled .ready)
 
-mul-merge-piece : tie.Need-mul-merge-piece
-mul-merge-piece c = search needs
-
-sub-merge-piece : tie.Need-sub-merge-piece
-sub-merge-piece c = search needs
-
-part-merge-piece-start : tie.Need-part-merge-piece-start
-part-merge-piece-start c = search needs
-
-part-merge-piece-end : tie.Need-part-merge-piece-end
-part-merge-piece-end c = search needs
-
 merge-piece-requires : tie.Need-merge-piece-requires
 merge-piece-requires c κs = let p = c .before .before .before .before .pre in lent-room (p .tiled) (c .before .locate .ensures) _ _ _ (p .order) (p .inside)
 
 set-count-requires : tie.Need-set-count-requires
 set-count-requires c κs = count-fits (c .before .before .before .before .before .before .before .before .pre .tiled .ready) (c .before .before .before .before .before .locate .ensures) _ (c .before .before .before .merge-piece .ensures .fits)
-
-same-length : tie.Need-same-length
-same-length c = search needs
 
 returns : tie.Need-returns
 returns c =
@@ -42,4 +27,5 @@ returns c =
 pub merge-mip-spec : {M : Type 1} → statement M
 merge-mip-spec =
     tie.close
-    (tie.spec locate-requires mul-merge-piece sub-merge-piece part-merge-piece-start part-merge-piece-end merge-piece-requires set-count-requires same-length returns)
+    (tie.spec locate-requires (λ c. search needs) (λ c. search needs) (λ c. search needs) (λ c. search needs)
+    merge-piece-requires set-count-requires (λ c. search needs) returns)

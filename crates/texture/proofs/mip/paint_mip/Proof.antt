@@ -8,26 +8,11 @@ use Rattle.texture.proofs.mip.paint_mip.Tie as tie
 locate-requires : tie.Need-locate-requires
 locate-requires c κs = locates (c .before .before .pre .tiled .ready)
 
-mul-paint : tie.Need-mul-paint
-mul-paint c = search needs
-
-sub-paint : tie.Need-sub-paint
-sub-paint c = search needs
-
-part-paint-start : tie.Need-part-paint-start
-part-paint-start c = search needs
-
-part-paint-end : tie.Need-part-paint-end
-part-paint-end c = search needs
-
 paint-requires : tie.Need-paint-requires
 paint-requires c κs = let p = c .before .before .before .before .pre in lent-room (p .tiled) (c .before .locate .ensures) _ _ _ (p .order) (p .inside)
 
 set-count-requires : tie.Need-set-count-requires
 set-count-requires c κs = count-fits (c .before .before .before .before .before .before .before .before .pre .tiled .ready) (c .before .before .before .before .before .locate .ensures) _ (c .before .before .before .paint .ensures .fits)
-
-same-length : tie.Need-same-length
-same-length c = search needs
 
 returns : tie.Need-returns
 returns c =
@@ -39,4 +24,5 @@ returns c =
 pub paint-mip-spec : {M : Type 1} → statement M
 paint-mip-spec =
     tie.close
-    (tie.spec locate-requires mul-paint sub-paint part-paint-start part-paint-end paint-requires set-count-requires same-length returns)
+    (tie.spec locate-requires (λ c. search needs) (λ c. search needs) (λ c. search needs) (λ c. search needs)
+    paint-requires set-count-requires (λ c. search needs) returns)

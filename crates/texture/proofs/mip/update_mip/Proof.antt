@@ -8,26 +8,11 @@ use Rattle.texture.proofs.mip.update_mip.Tie as tie
 locate-requires : tie.Need-locate-requires
 locate-requires c κs = locates (c .before .before .pre .tiled .ready)
 
-mul-update : tie.Need-mul-update
-mul-update c = search needs
-
-sub-update : tie.Need-sub-update
-sub-update c = search needs
-
-part-update-start : tie.Need-part-update-start
-part-update-start c = search needs
-
-part-update-end : tie.Need-part-update-end
-part-update-end c = search needs
-
 update-requires : tie.Need-update-requires
 update-requires c κs = let p = c .before .before .before .before .pre in lent-room (p .tiled) (c .before .locate .ensures) _ _ _ (p .order) (p .inside)
 
 set-count-requires : tie.Need-set-count-requires
 set-count-requires c κs = count-fits (c .before .before .before .before .before .before .before .before .pre .tiled .ready) (c .before .before .before .before .before .locate .ensures) _ (c .before .before .before .update .ensures .fits)
-
-same-length : tie.Need-same-length
-same-length c = search needs
 
 returns : tie.Need-returns
 returns c =
@@ -39,4 +24,5 @@ returns c =
 pub update-mip-spec : {M : Type 1} → statement M
 update-mip-spec =
     tie.close
-    (tie.spec locate-requires mul-update sub-update part-update-start part-update-end update-requires set-count-requires same-length returns)
+    (tie.spec locate-requires (λ c. search needs) (λ c. search needs) (λ c. search needs) (λ c. search needs)
+    update-requires set-count-requires (λ c. search needs) returns)

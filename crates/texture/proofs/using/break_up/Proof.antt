@@ -6,20 +6,11 @@ use borrow.Author.Needs.{needs}
 use Rattle.texture.proofs.using.break_up.Statement.{statement}
 use Rattle.texture.proofs.using.break_up.Tie as tie
 
-set-state-requires : tie.Need-set-state-requires
-set-state-requires c κs = search needs
-
-wide-requires : tie.Need-wide-requires
-wide-requires c κs = search needs
-
 fresh-mips-requires : tie.Need-fresh-mips-requires
 fresh-mips-requires c κs = rw ((c .before .before .before .set-state .ensures), (c .wide .ensures) .0) (break-every (c .before .before .before .before .before .before .pre) 0)
 
 update-mips-requires : tie.Need-update-mips-requires
 update-mips-requires c κs = let u = (c .before .before .before .before .before .before .before .before .before .before .before .pre) in let b = rw ((c .before .before .before .before .before .before .before .before .set-state .ensures), (c .before .before .before .before .before .wide .ensures) .0) at (c .before .before .before .before .fresh-mips .ensures) in (break-many u _ b, break-selects u _ b)
-
-same-length : tie.Need-same-length
-same-length c = search needs
 
 returns : tie.Need-returns
 unfolding brokenUp
@@ -28,10 +19,5 @@ returns c = let u = (c .before .before .before .before .before .before .before .
 pub break-up-spec : {M : Type 1} → statement M
 break-up-spec =
     tie.close
-    (tie.spec
-    set-state-requires
-    wide-requires
-    fresh-mips-requires
-    update-mips-requires
-    same-length
+    (tie.spec (λ c κs. search needs) (λ c κs. search needs) fresh-mips-requires update-mips-requires (λ c. search needs)
     returns)

@@ -9,27 +9,15 @@ use borrow.Author.Needs.{needs}
 use Rattle.texture.proofs.using.insert_use.Statement.{statement}
 use Rattle.texture.proofs.using.insert_use.Tie as tie
 
-set-state-requires : tie.Need-set-state-requires
-set-state-requires c κs = search needs
-
 returns : tie.Need-returns
 unfolding insert
 returns c = let u = (c .before .before .before .before .pre) in rw ((c .set-state .ensures), (c .before .before .if1 .taken)) (become-single (u .measured) (u .texture) (λ z. u .plain (z ∙ sym (ap (λ (x : UsageFlags). x .complex) (u .flags)))))
-
-set-state-requires-2 : tie.Need-set-state-requires-2
-set-state-requires-2 c κs = search needs
-
-wide-requires : tie.Need-wide-requires
-wide-requires c κs = search needs
 
 fresh-mips-requires : tie.Need-fresh-mips-requires
 fresh-mips-requires c κs = rw ((c .before .before .before .set-state2 .ensures), (c .wide .ensures) .0) (break-every (c .before .before .before .before .before .before .before .pre) 0)
 
 paint-mips-requires : tie.Need-paint-mips-requires
 paint-mips-requires c κs = let u = (c .before .before .before .before .before .before .before .before .before .before .before .before .pre) in let b = rw ((c .before .before .before .before .before .before .before .before .set-state2 .ensures), (c .before .before .before .before .before .wide .ensures) .0) at (c .before .before .before .before .fresh-mips .ensures) in (break-many u _ b, break-selects u _ b)
-
-same-length : tie.Need-same-length
-same-length c = search needs
 
 returns-2 : tie.Need-returns-2
 unfolding insert paintAll
@@ -38,12 +26,5 @@ returns-2 c = let u = (c .before .before .before .before .before .before .before
 pub insert-use-spec : {M : Type 1} → statement M
 insert-use-spec =
     tie.close
-    (tie.spec
-    set-state-requires
-    returns
-    set-state-requires-2
-    wide-requires
-    fresh-mips-requires
-    paint-mips-requires
-    same-length
-    returns-2)
+    (tie.spec (λ c κs. search needs) returns (λ c κs. search needs) (λ c κs. search needs) fresh-mips-requires
+    paint-mips-requires (λ c. search needs) returns-2)

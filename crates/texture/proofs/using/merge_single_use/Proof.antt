@@ -7,20 +7,8 @@ use borrow.Author.Needs.{needs}
 use Rattle.texture.proofs.using.merge_single_use.Statement.{statement}
 use Rattle.texture.proofs.using.merge_single_use.Tie as tie
 
-unite-requires : tie.Need-unite-requires
-unite-requires c κs = search needs
-
-enum-known-u : tie.Need-enum-known-u
-enum-known-u c = search needs
-
-enum-told : tie.Need-enum-told
-enum-told c = search needs
-
 returns : tie.Need-returns
 returns c = let p = (c .before .before .before .before .pre) in conflict-left (p .0) (p .1) (sym (rw ((c .enum-told .given) .1) at (c .before .before .unite .ensures)))
-
-set-state-requires : tie.Need-set-state-requires
-set-state-requires c κs = search needs
 
 returns-2 : tie.Need-returns-2
 returns-2 c = let p = (c .before .before .before .before .before .before .before .before .pre) in rw ((c .set-state .ensures)) (all-left (p .0) (p .1) _ (sym (rw ((c .before .before .before .before .u .given) .1) at (c .before .before .before .before .before .before .unite .ensures))) (c .before .before .if1 .taken))
@@ -28,22 +16,11 @@ returns-2 c = let p = (c .before .before .before .before .before .before .before
 break-up-requires : tie.Need-break-up-requires
 break-up-requires c κs = let p = (c .before .before .before .before .before .before .before .before .pre) in use-with _ (p .0) (union-plain (p .0) (p .1) _ (sym (rw ((c .before .before .before .before .u .given) .1) at (c .before .before .before .before .before .before .unite .ensures))))
 
-same-length : tie.Need-same-length
-same-length c = search needs
-
 returns-3 : tie.Need-returns-3
 returns-3 c = let p = (c .before .before .before .before .before .before .before .before .before .before .before .pre) in part-left (p .0) (p .1) _ (sym (rw ((c .before .before .before .before .before .before .before .u .given) .1) at (c .before .before .before .before .before .before .before .before .before .unite .ensures))) (c .before .before .before .before .before .if1 .left) (c .before .before .break-up .ensures)
 
 pub merge-single-use-spec : {M : Type 1} → statement M
 merge-single-use-spec =
     tie.close
-    (tie.spec
-    unite-requires
-    enum-known-u
-    enum-told
-    returns
-    set-state-requires
-    returns-2
-    break-up-requires
-    same-length
-    returns-3)
+    (tie.spec (λ c κs. search needs) (λ c. search needs) (λ c. search needs) returns (λ c κs. search needs) returns-2
+    break-up-requires (λ c. search needs) returns-3)

@@ -7,32 +7,14 @@ use borrow.Author.Needs.{needs}
 use Rattle.texture.proofs.using.merge_use.Statement.{statement}
 use Rattle.texture.proofs.using.merge_use.Tie as tie
 
-add-cur : tie.Need-add-cur
-add-cur c = search needs
-
-mul-cur : tie.Need-mul-cur
-mul-cur c = search needs
-
-element-copy-out-cur : tie.Need-element-copy-out-cur
-element-copy-out-cur c = search needs
-
 merge-single-use-requires : tie.Need-merge-single-use-requires
 merge-single-use-requires c κs = let p = (c .before .before .before .before .before .before .pre) in (p .0, single-ready (p .0) (p .1) _ refl (c .before .before .if1 .taken))
-
-same-length : tie.Need-same-length
-same-length c = search needs
 
 returns : tie.Need-returns
 returns c = let p = (c .before .before .before .before .before .before .before .before .before .pre) in single-merged (p .0) (p .1) _ refl (c .before .before .before .before .before .if1 .taken) (c .before .before .merge-single-use .ensures)
 
-wide-requires : tie.Need-wide-requires
-wide-requires c κs = search needs
-
 merge-every-mips-requires : tie.Need-merge-every-mips-requires
 merge-every-mips-requires c κs = let p = (c .before .before .before .before .before .before .before .before .pre) in (many-ready (p .0) (p .1) ((c .before .before .before .before .if1 .left)), rw ((c .wide .ensures) .0) (use-every (p .0)))
-
-same-length-2 : tie.Need-same-length-2
-same-length-2 c = search needs
 
 returns-2 : tie.Need-returns-2
 returns-2 c = let p = (c .before .before .before .before .before .before .before .before .before .before .before .pre) in every-merged (p .0) (p .1) ((c .before .before .before .before .before .before .before .if1 .left)) (c .before .before .before .before .before .before .if2 .taken) (c .before .before .merge-every-mips .ensures)
@@ -40,26 +22,12 @@ returns-2 c = let p = (c .before .before .before .before .before .before .before
 merge-mips-requires : tie.Need-merge-mips-requires
 merge-mips-requires c κs = let p = (c .before .before .before .before .before .before .before .pre) in (many-ready (p .0) (p .1) ((c .before .before .before .if1 .left)), use-selects (p .0))
 
-same-length-3 : tie.Need-same-length-3
-same-length-3 c = search needs
-
 returns-3 : tie.Need-returns-3
 returns-3 c = let p = (c .before .before .before .before .before .before .before .before .before .before .pre) in part-merged (p .0) (p .1) ((c .before .before .before .before .before .before .if1 .left)) (c .before .before .before .before .before .if2 .left) (c .before .before .merge-mips .ensures)
 
 pub merge-use-spec : {M : Type 1} → statement M
 merge-use-spec =
     tie.close
-    (tie.spec
-    add-cur
-    mul-cur
-    element-copy-out-cur
-    merge-single-use-requires
-    same-length
-    returns
-    wide-requires
-    merge-every-mips-requires
-    same-length-2
-    returns-2
-    merge-mips-requires
-    same-length-3
-    returns-3)
+    (tie.spec (λ c. search needs) (λ c. search needs) (λ c. search needs) merge-single-use-requires (λ c. search needs)
+    returns (λ c κs. search needs) merge-every-mips-requires (λ c. search needs) returns-2 merge-mips-requires
+    (λ c. search needs) returns-3)

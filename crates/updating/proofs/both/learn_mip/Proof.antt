@@ -13,38 +13,8 @@ locate-requires c κs = locates (c .before .before .before .pre .start .ready)
 locate-requires-2 : tie.Need-locate-requires-2
 locate-requires-2 c κs = locates (c .before .before .before .before .before .pre .end .ready)
 
-mul-learn : tie.Need-mul-learn
-mul-learn c = search needs
-
-sub-learn : tie.Need-sub-learn
-sub-learn c = search needs
-
-part-learn-start : tie.Need-part-learn-start
-part-learn-start c = search needs
-
-part-learn-end : tie.Need-part-learn-end
-part-learn-end c = search needs
-
-mul-learn-2 : tie.Need-mul-learn-2
-mul-learn-2 c = search needs
-
-sub-learn-2 : tie.Need-sub-learn-2
-sub-learn-2 c = search needs
-
-part-learn-start-2 : tie.Need-part-learn-start-2
-part-learn-start-2 c = search needs
-
-part-learn-end-2 : tie.Need-part-learn-end-2
-part-learn-end-2 c = search needs
-
 learn-requires : tie.Need-learn-requires
 learn-requires c κs = let p = (c .before .before .before .before .before .before .before .before .pre) in (omega arith, (lent-fits (p .end) (c .before .before .locate2 .ensures), lesson-room p (c .before .before .before .before .locate .ensures) (c .before .before .locate2 .ensures) _ _))
-
-set-count-requires : tie.Need-set-count-requires
-set-count-requires c κs = search needs
-
-same-length : tie.Need-same-length
-same-length c = search needs
 
 returns : tie.Need-returns
 returns c = let p = (c .before .before .before .before .before .before .before .before .before .before .before .before .before .pre) in let l = (c .before .before .before .before .before .before .before .before .before .locate .ensures) in let k = (c .before .before .before .before .before .before .before .locate2 .ensures) in let u = (c .before .before .before .before .learn .ensures) in rw (c .set-count .ensures) (mip-left (p .start .ready) l _ _ _ (u .long) (u .fits) (rw (lent-is (p .start) l, lent-is (p .end) k) at (u .seen)))
@@ -52,18 +22,6 @@ returns c = let p = (c .before .before .before .before .before .before .before .
 pub learn-mip-spec : {M : Type 1} → statement M
 learn-mip-spec =
     tie.close
-    (tie.spec
-    locate-requires
-    locate-requires-2
-    mul-learn
-    sub-learn
-    part-learn-start
-    part-learn-end
-    mul-learn-2
-    sub-learn-2
-    part-learn-start-2
-    part-learn-end-2
-    learn-requires
-    set-count-requires
-    same-length
-    returns)
+    (tie.spec locate-requires locate-requires-2 (λ c. search needs) (λ c. search needs) (λ c. search needs)
+    (λ c. search needs) (λ c. search needs) (λ c. search needs) (λ c. search needs) (λ c. search needs) learn-requires
+    (λ c κs. search needs) (λ c. search needs) returns)

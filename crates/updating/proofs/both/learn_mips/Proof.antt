@@ -20,17 +20,8 @@ loop-holds c = (omega arith, editing-start _ _ _ _ _ _ _)
 learn-mip-requires : tie.Need-learn-mip-requires Inv-loop μ-loop
 learn-mip-requires c κs = let p = (c .before .before .before .before .before .before .pre) in lesson-tiled _ _ (p .0) ((c .before .before .before .loop .inv) .1) (omega (arith, (c .before .before .loop-test .taken), p .1))
 
-add-m : tie.Need-add-m Inv-loop μ-loop
-add-m c = search needs
-
-loop-less : tie.Need-loop-less Inv-loop μ-loop
-loop-less c = search needs
-
 loop-again : tie.Need-loop-again Inv-loop μ-loop
 loop-again c = let p = (c .before .before .before .before .before .before .before .before .before .pre) in (omega arith, lesson-turn _ _ (p .0) ((c .before .before .before .before .before .before .loop .inv) .1) (omega (arith, (c .before .before .before .before .before .loop-test .taken), p .1)) (c .before .before .learn-mip .ensures))
-
-same-length : tie.Need-same-length Inv-loop μ-loop
-same-length c = search needs
 
 returns : tie.Need-returns Inv-loop μ-loop
 returns c = let p = (c .before .before .before .before .pre) in let w = (c .before .loop .inv) in lesson-end _ _ (p .0) (w .1) (omega (arith, w .0, p .1))
@@ -38,13 +29,5 @@ returns c = let p = (c .before .before .before .before .pre) in let w = (c .befo
 pub learn-mips-spec : {M : Type 1} → statement M
 learn-mips-spec =
     tie.close
-    (tie.spec
-    Inv-loop
-    μ-loop
-    loop-holds
-    learn-mip-requires
-    add-m
-    loop-less
-    loop-again
-    same-length
-    returns)
+    (tie.spec Inv-loop μ-loop loop-holds learn-mip-requires (λ c. search needs) (λ c. search needs) loop-again
+    (λ c. search needs) returns)

@@ -12,32 +12,14 @@ Inv-loop table₀ starts₀ ends₀ i q unknown new top m₀ table starts ends m
 abbrev μ-loop : tie.MeasureT-loop
 μ-loop table₀ starts₀ ends₀ i q unknown new top m₀ table starts ends m = top - m
 
-wide-requires : tie.Need-wide-requires Inv-loop μ-loop
-wide-requires c κs = search needs
-
-wide-requires-2 : tie.Need-wide-requires-2 Inv-loop μ-loop
-wide-requires-2 c κs = search needs
-
 loop-holds : tie.Need-loop-holds Inv-loop μ-loop
 loop-holds c = let p = (c .before .before .before .before .pre) in let s = (c .wide2 .ensures) .0 in (omega (arith, s, (c .before .wide .ensures) .0, p .1 .mips), rw s (turn-start _ _ _ _ _ _ _))
 
 update-both-mip-requires : tie.Need-update-both-mip-requires Inv-loop μ-loop
 update-both-mip-requires c κs = let p = (c .before .before .before .before .before .before .before .before .before .pre) in let w = (c .before .before .before .before .loop .inv) .1 in (turn-tiled (p .0) w (omega (arith, (c .before .before .before .loop-test .taken), (c .before .before .before .before .before .before .wide .ensures) .0, p .1 .in-mips)), (p .1 .layers, rw (turn-layers (p .0) w) (p .1 .in-layers)))
 
-add-m : tie.Need-add-m Inv-loop μ-loop
-add-m c = search needs
-
-loop-less : tie.Need-loop-less Inv-loop μ-loop
-loop-less c = search needs
-
 loop-again : tie.Need-loop-again Inv-loop μ-loop
 loop-again c = let p = (c .before .before .before .before .before .before .before .before .before .before .before .before .before .before .pre) in (omega arith, turn-on (p .0) ((c .before .before .before .before .before .before .before .before .before .loop .inv) .1) (omega (arith, (c .before .before .before .before .before .before .before .before .loop-test .taken), (c .before .before .before .before .before .before .before .before .before .before .before .wide .ensures) .0, p .1 .in-mips)) (c .before .before .before .before .update-both-mip .ensures))
-
-same-length : tie.Need-same-length Inv-loop μ-loop
-same-length c = search needs
-
-same-length-2 : tie.Need-same-length-2 Inv-loop μ-loop
-same-length-2 c = search needs
 
 returns : tie.Need-returns Inv-loop μ-loop
 returns c = let p = (c .before .before .before .before .before .before .pre) in let w = (c .before .loop .inv) in turn-end (p .0) (w .1) (omega (arith, w .0, (c .before .before .before .wide .ensures) .0)) (p .1 .in-mips)
@@ -45,16 +27,5 @@ returns c = let p = (c .before .before .before .before .before .before .pre) in 
 pub update-both-mips-spec : {M : Type 1} → statement M
 update-both-mips-spec =
     tie.close
-    (tie.spec
-    Inv-loop
-    μ-loop
-    wide-requires
-    wide-requires-2
-    loop-holds
-    update-both-mip-requires
-    add-m
-    loop-less
-    loop-again
-    same-length
-    same-length-2
-    returns)
+    (tie.spec Inv-loop μ-loop (λ c κs. search needs) (λ c κs. search needs) loop-holds update-both-mip-requires
+    (λ c. search needs) (λ c. search needs) loop-again (λ c. search needs) (λ c. search needs) returns)

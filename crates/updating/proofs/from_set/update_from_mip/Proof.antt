@@ -21,29 +21,14 @@ abbrev μ-loop : tie.MeasureT-loop
 loop-holds : tie.Need-loop-holds Inv-loop μ-loop
 loop-holds c = let p = (c .before .before .before .pre) in (omega arith, range-start (p .0) (p .1))
 
-get-requires : tie.Need-get-requires Inv-loop μ-loop
-get-requires c κs = search needs
-
 piece-at-requires : tie.Need-piece-at-requires Inv-loop μ-loop
 piece-at-requires c κs = let p = (c .before .before .before .before .before .before .pre) in range-small (p .0) (p .1)
 
 update-piece-requires : tie.Need-update-piece-requires Inv-loop μ-loop
 update-piece-requires c κs = let p = (c .before .before .before .before .before .before .before .before .before .before .pre) in let w = (c .before .before .before .before .before .before .loop .inv) in rw (c .before .before .before .piece-at .ensures) (w .1 .ready, range-selects (p .0) (p .1) (w .1) (c .before .before .before .before .before .loop-test .taken) (c .before .before .before .before .get .ensures))
 
-add-k : tie.Need-add-k Inv-loop μ-loop
-add-k c = search needs
-
-loop-less : tie.Need-loop-less Inv-loop μ-loop
-loop-less c = search needs
-
 loop-again : tie.Need-loop-again Inv-loop μ-loop
 loop-again c = let p = (c .before .before .before .before .before .before .before .before .before .before .before .before .before .before .before .pre) in let w = (c .before .before .before .before .before .before .before .before .before .before .before .loop .inv) in (omega arith, range-turn (p .0) (p .1) (w .1) (c .before .before .before .before .before .before .before .before .before .before .loop-test .taken) (c .before .before .before .before .before .before .before .before .before .get .ensures) (rw (c .before .before .before .before .before .before .before .before .piece-at .ensures) at (c .before .before .before .before .update-piece .ensures)))
-
-same-length : tie.Need-same-length Inv-loop μ-loop
-same-length c = search needs
-
-same-length-2 : tie.Need-same-length-2 Inv-loop μ-loop
-same-length-2 c = search needs
 
 returns : tie.Need-returns Inv-loop μ-loop
 returns c = let p = (c .before .before .before .before .before .pre) in let w = (c .before .loop .inv) in range-done (p .0) (p .1) (w .1) (c .loop-test .left)
@@ -51,16 +36,5 @@ returns c = let p = (c .before .before .before .before .before .pre) in let w = 
 pub update-from-mip-spec : {M : Type 1} → statement M
 update-from-mip-spec =
     tie.close
-    (tie.spec
-    Inv-loop
-    μ-loop
-    loop-holds
-    get-requires
-    piece-at-requires
-    update-piece-requires
-    add-k
-    loop-less
-    loop-again
-    same-length
-    same-length-2
-    returns)
+    (tie.spec Inv-loop μ-loop loop-holds (λ c κs. search needs) piece-at-requires update-piece-requires
+    (λ c. search needs) (λ c. search needs) loop-again (λ c. search needs) (λ c. search needs) returns)

@@ -24,35 +24,11 @@ loop-holds c = let p = (c .before .before .before .pre) in (omega arith, mip-sta
 locate-requires : tie.Need-locate-requires Inv-loop μ-loop
 locate-requires c κs = let p = (c .before .before .before .before .before .pre) in let w = (c .before .loop .inv) in locates (mip-located (p .0) (p .1) (w .1) (c .loop-test .taken))
 
-mul-update-from-mip : tie.Need-mul-update-from-mip Inv-loop μ-loop
-mul-update-from-mip c = search needs
-
-sub-update-from-mip : tie.Need-sub-update-from-mip Inv-loop μ-loop
-sub-update-from-mip c = search needs
-
-part-update-from-mip-start : tie.Need-part-update-from-mip-start Inv-loop μ-loop
-part-update-from-mip-start c = search needs
-
-part-update-from-mip-end : tie.Need-part-update-from-mip-end Inv-loop μ-loop
-part-update-from-mip-end c = search needs
-
 update-from-mip-requires : tie.Need-update-from-mip-requires Inv-loop μ-loop
 update-from-mip-requires c κs = let p = (c .before .before .before .before .before .before .before .before .before .before .pre) in let w = (c .before .before .before .before .before .before .loop .inv) in (w .1 .ready, mip-given (p .0) (p .1) (w .1) (c .before .before .before .before .before .loop-test .taken) (c .before .before .before .before .locate .ensures))
 
-add-m : tie.Need-add-m Inv-loop μ-loop
-add-m c = search needs
-
-loop-less : tie.Need-loop-less Inv-loop μ-loop
-loop-less c = search needs
-
 loop-again : tie.Need-loop-again Inv-loop μ-loop
 loop-again c = let p = (c .before .before .before .before .before .before .before .before .before .before .before .before .before .before .before .pre) in let w = (c .before .before .before .before .before .before .before .before .before .before .before .loop .inv) in (omega arith, mip-turn (p .0) (p .1) (w .1) (c .before .before .before .before .before .before .before .before .before .before .loop-test .taken) (c .before .before .before .before .before .before .before .before .before .locate .ensures) (c .before .before .before .before .update-from-mip .ensures))
-
-same-length : tie.Need-same-length Inv-loop μ-loop
-same-length c = search needs
-
-same-length-2 : tie.Need-same-length-2 Inv-loop μ-loop
-same-length-2 c = search needs
 
 returns : tie.Need-returns Inv-loop μ-loop
 returns c = let p = (c .before .before .before .before .before .pre) in let w = (c .before .loop .inv) in mip-done (p .0) (p .1) (w .1) (c .loop-test .left)
@@ -60,19 +36,6 @@ returns c = let p = (c .before .before .before .before .before .pre) in let w = 
 pub update-from-mips-spec : {M : Type 1} → statement M
 update-from-mips-spec =
     tie.close
-    (tie.spec
-    Inv-loop
-    μ-loop
-    loop-holds
-    locate-requires
-    mul-update-from-mip
-    sub-update-from-mip
-    part-update-from-mip-start
-    part-update-from-mip-end
-    update-from-mip-requires
-    add-m
-    loop-less
-    loop-again
-    same-length
-    same-length-2
-    returns)
+    (tie.spec Inv-loop μ-loop loop-holds locate-requires (λ c. search needs) (λ c. search needs) (λ c. search needs)
+    (λ c. search needs) update-from-mip-requires (λ c. search needs) (λ c. search needs) loop-again (λ c. search needs)
+    (λ c. search needs) returns)

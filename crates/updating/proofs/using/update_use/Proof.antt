@@ -6,29 +6,8 @@ use borrow.Author.Needs.{needs}
 use Rattle.updating.proofs.using.update_use.Statement.{statement}
 use Rattle.updating.proofs.using.update_use.Tie as tie
 
-add-cur : tie.Need-add-cur
-add-cur c = search needs
-
-mul-cur : tie.Need-mul-cur
-mul-cur c = search needs
-
-element-copy-out-cur : tie.Need-element-copy-out-cur
-element-copy-out-cur c = search needs
-
-add-first : tie.Need-add-first
-add-first c = search needs
-
-mul-first : tie.Need-mul-first
-mul-first c = search needs
-
-element-copy-out-first : tie.Need-element-copy-out-first
-element-copy-out-first c = search needs
-
 break-up-requires : tie.Need-break-up-requires
 break-up-requires c κs = let p = (c .before .before .before .before .before .before .before .before .pre) in end-use (p .0) (p .1)
-
-same-length : tie.Need-same-length
-same-length c = search needs
 
 returns : tie.Need-returns
 returns c = let p = (c .before .before .before .before .before .before .before .before .before .before .before .pre) in part-single (p .0) (p .1) _ refl (c .before .before .before .before .before .if1 .taken) (c .before .before .break-up .ensures)
@@ -36,20 +15,11 @@ returns c = let p = (c .before .before .before .before .before .before .before .
 update-mips-requires : tie.Need-update-mips-requires
 update-mips-requires c κs = let p = (c .before .before .before .before .before .before .before .before .before .before .pre) in (end-many (p .0) (c .before .before .before .before .if1 .left), selects (p .0) (p .1))
 
-same-length-2 : tie.Need-same-length-2
-same-length-2 c = search needs
-
 returns-2 : tie.Need-returns-2
 returns-2 c = let p = (c .before .before .before .before .before .before .before .before .before .before .before .before .before .pre) in part-kept (p .0) (p .1) (c .before .before .before .before .before .before .before .if1 .left) (c .before .before .before .before .before .if2 .taken) (c .before .before .update-mips .ensures)
 
 update-both-mips-requires : tie.Need-update-both-mips-requires
 update-both-mips-requires c κs = let p = (c .before .before .before .before .before .before .before .before .before .before .before .pre) in (both-many (p .0) (c .before .before .before .if2 .left) (c .before .before .before .before .before .if1 .left), selects (p .0) (p .1))
-
-same-length-3 : tie.Need-same-length-3
-same-length-3 c = search needs
-
-same-length-4 : tie.Need-same-length-4
-same-length-4 c = search needs
 
 returns-3 : tie.Need-returns-3
 returns-3 c = let p = (c .before .before .before .before .before .before .before .before .before .before .before .before .before .before .before .before .pre) in part-learnt (p .0) (p .1) (c .before .before .before .before .before .before .before .before .before .before .if1 .left) (c .before .before .before .before .before .before .before .before .if2 .left) (c .before .before .before .before .update-both-mips .ensures)
@@ -57,20 +27,6 @@ returns-3 c = let p = (c .before .before .before .before .before .before .before
 pub update-use-spec : {M : Type 1} → statement M
 update-use-spec =
     tie.close
-    (tie.spec
-    add-cur
-    mul-cur
-    element-copy-out-cur
-    add-first
-    mul-first
-    element-copy-out-first
-    break-up-requires
-    same-length
-    returns
-    update-mips-requires
-    same-length-2
-    returns-2
-    update-both-mips-requires
-    same-length-3
-    same-length-4
-    returns-3)
+    (tie.spec (λ c. search needs) (λ c. search needs) (λ c. search needs) (λ c. search needs) (λ c. search needs)
+    (λ c. search needs) break-up-requires (λ c. search needs) returns update-mips-requires (λ c. search needs) returns-2
+    update-both-mips-requires (λ c. search needs) (λ c. search needs) returns-3)

@@ -9,14 +9,8 @@ use Rattle.usage.proofs.flags.apart.Tie as tie
 returns : tie.Need-returns
 returns c = search tests
 
-is-bit-requires : tie.Need-is-bit-requires
-is-bit-requires c κs = search needs
-
 returns-2 : tie.Need-returns-2
 returns-2 c = let e0 = sym (c .before .is-bit .ensures) ∙ not-true _ (c .if2 .taken) in search (tests, e0)
-
-is-bit-requires-2 : tie.Need-is-bit-requires-2
-is-bit-requires-2 c κs = search needs
 
 returns-3 : tie.Need-returns-3
 returns-3 c = let e0 = sym (c .before .before .before .is-bit .ensures) ∙ not-false _ (c .before .before .if2 .left) in let e1 = sym (c .before .is-bit2 .ensures) ∙ not-true _ (c .if3 .taken) in search (tests, e0, e1)
@@ -30,14 +24,8 @@ returns-5 c = let e0 = sym (c .before .before .before .before .before .before .b
 returns-6 : tie.Need-returns-6
 returns-6 c = let e0 = sym (c .before .before .before .before .before .before .before .before .before .is-bit .ensures) ∙ not-false _ (c .before .before .before .before .before .before .before .before .if2 .left) in let e1 = sym (c .before .before .before .before .before .before .before .is-bit2 .ensures) ∙ not-false _ (c .before .before .before .before .before .before .if3 .left) in search (tests, e0, e1)
 
-meets-requires : tie.Need-meets-requires
-meets-requires c κs = search needs
-
 returns-7 : tie.Need-returns-7
 returns-7 c = let e0 = sym (c .before .before .before .before .before .before .before .before .before .before .before .is-bit .ensures) ∙ not-false _ (c .before .before .before .before .before .before .before .before .before .before .if2 .left) in let e1 = sym (c .before .before .before .before .before .before .before .before .before .is-bit2 .ensures) ∙ not-false _ (c .before .before .before .before .before .before .before .before .if3 .left) in let e2 = sym (c .before .meets .ensures) ∙ (c .if7 .taken) in rw (lt-ltb _ _ (c .before .before .before .before .before .before .before .before .before .before .before .before .if1 .left), e0, e1, ne-eqb _ _ (c .before .before .before .before .before .before .if4 .left), ne-eqb _ _ (c .before .before .before .before .if5 .left), ne-eqb _ _ (c .before .before .if6 .left), e2)
-
-meets-requires-2 : tie.Need-meets-requires-2
-meets-requires-2 c κs = search needs
 
 returns-8 : tie.Need-returns-8
 returns-8 c = let e0 = sym (c .before .before .before .before .before .before .before .before .before .before .before .before .is-bit .ensures) ∙ not-false _ (c .before .before .before .before .before .before .before .before .before .before .before .if2 .left) in let e1 = sym (c .before .before .before .before .before .before .before .before .before .before .is-bit2 .ensures) ∙ not-false _ (c .before .before .before .before .before .before .before .before .before .if3 .left) in let e2 = sym (c .before .before .meets .ensures) ∙ (c .before .if7 .left) in rw (lt-ltb _ _ (c .before .before .before .before .before .before .before .before .before .before .before .before .before .if1 .left), e0, e1, ne-eqb _ _ (c .before .before .before .before .before .before .before .if4 .left), ne-eqb _ _ (c .before .before .before .before .before .if5 .left), ne-eqb _ _ (c .before .before .before .if6 .left), e2, (c .meets2 .ensures))
@@ -45,16 +33,5 @@ returns-8 c = let e0 = sym (c .before .before .before .before .before .before .b
 pub apart-spec : {M : Type 1} → statement M
 apart-spec =
     tie.close
-    (tie.spec
-    returns
-    is-bit-requires
-    returns-2
-    is-bit-requires-2
-    returns-3
-    returns-4
-    returns-5
-    returns-6
-    meets-requires
-    returns-7
-    meets-requires-2
-    returns-8)
+    (tie.spec returns (λ c κs. search needs) returns-2 (λ c κs. search needs) returns-3 returns-4 returns-5 returns-6
+    (λ c κs. search needs) returns-7 (λ c κs. search needs) returns-8)

@@ -5,12 +5,6 @@ use borrow.Author.Needs.{needs}
 use Rattle.usage.proofs.flags.flags_fit.Statement.{statement}
 use Rattle.usage.proofs.flags.flags_fit.Tie as tie
 
-is-bit-requires : tie.Need-is-bit-requires
-is-bit-requires c κs = search needs
-
-apart-requires : tie.Need-apart-requires
-apart-requires c κs = search needs
-
 returns : tie.Need-returns
 unfolding flagsFit
 returns c = let m = sym (c .before .before .is-bit .ensures) ∙ (c .before .if1 .taken) in rw m (c .apart .ensures)
@@ -20,4 +14,6 @@ unfolding flagsFit
 returns-2 c = let m = sym (c .before .is-bit .ensures) ∙ (c .if1 .left) in rw m
 
 pub flags-fit-spec : {M : Type 1} → statement M
-flags-fit-spec = tie.close (tie.spec is-bit-requires apart-requires returns returns-2)
+flags-fit-spec =
+    tie.close
+    (tie.spec (λ c κs. search needs) (λ c κs. search needs) returns returns-2)

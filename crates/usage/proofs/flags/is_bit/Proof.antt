@@ -4,9 +4,6 @@ use borrow.Author.Needs.{needs}
 use Rattle.usage.proofs.flags.is_bit.Statement.{statement}
 use Rattle.usage.proofs.flags.is_bit.Tie as tie
 
-one-bit-requires : tie.Need-one-bit-requires
-one-bit-requires c κs = search needs
-
 returns : tie.Need-returns
 returns c = let m = sym (c .before .one-bit .ensures) ∙ (c .if1 .taken) in rw m
 
@@ -14,4 +11,6 @@ returns-2 : tie.Need-returns-2
 returns-2 c = let m = sym (c .before .one-bit .ensures) ∙ (c .if1 .left) in rw m
 
 pub is-bit-spec : {M : Type 1} → statement M
-is-bit-spec = tie.close (tie.spec one-bit-requires returns returns-2)
+is-bit-spec =
+    tie.close
+    (tie.spec (λ c κs. search needs) returns returns-2)

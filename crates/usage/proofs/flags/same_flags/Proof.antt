@@ -16,4 +16,6 @@ returns-4 : tie.Need-returns-4
 returns-4 c = search tests
 
 pub same-flags-spec : {M : Type 1} → statement M
-same-flags-spec = tie.close (tie.spec returns returns-2 returns-3 returns-4)
+same-flags-spec =
+    tie.close
+    (tie.spec returns returns-2 returns-3 returns-4)

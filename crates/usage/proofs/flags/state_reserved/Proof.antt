@@ -9,18 +9,13 @@ use Rattle.usage.proofs.flags.state_reserved.Tie as tie
 returns : tie.Need-returns
 returns c = search tests
 
-meets-requires : tie.Need-meets-requires
-meets-requires c κs = search needs
-
 returns-2 : tie.Need-returns-2
 returns-2 c = let m = sym (c .before .meets .ensures) ∙ (c .if2 .taken) in search (tests, m)
-
-meets-requires-2 : tie.Need-meets-requires-2
-meets-requires-2 c κs = search needs
 
 returns-3 : tie.Need-returns-3
 returns-3 c = let m = sym (c .before .before .meets .ensures) ∙ (c .before .if2 .left) in rw (ne-eqb _ _ (c .before .before .before .if1 .left), m) (c .meets2 .ensures)
 
 pub state-reserved-spec : {M : Type 1} → statement M
 state-reserved-spec =
-    tie.close (tie.spec returns meets-requires returns-2 meets-requires-2 returns-3)
+    tie.close
+    (tie.spec returns (λ c κs. search needs) returns-2 (λ c κs. search needs) returns-3)

@@ -6,12 +6,6 @@ use borrow.Author.Needs.{needs}
 use Rattle.usage.proofs.united.unite.Statement.{statement}
 use Rattle.usage.proofs.united.unite.Tie as tie
 
-union-requires : tie.Need-union-requires
-union-requires c κs = search needs
-
-incompatible-requires : tie.Need-incompatible-requires
-incompatible-requires c κs = search needs
-
 returns : tie.Need-returns
 unfolding unite
 returns c = let i = invalid-is _ _ ∙ sym (c .before .incompatible .ensures) ∙ (c .if1 .taken) in rw (← (c .before .before .union .ensures), i)
@@ -21,4 +15,6 @@ unfolding unite
 returns-2 c = let i = invalid-is _ _ ∙ sym (c .before .incompatible .ensures) ∙ (c .if1 .left) in rw (← (c .before .before .union .ensures), i)
 
 pub unite-spec : {M : Type 1} → statement M
-unite-spec = tie.close (tie.spec union-requires incompatible-requires returns returns-2)
+unite-spec =
+    tie.close
+    (tie.spec (λ c κs. search needs) (λ c κs. search needs) returns returns-2)

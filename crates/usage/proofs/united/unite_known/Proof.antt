@@ -7,18 +7,9 @@ use borrow.Author.Needs.{needs}
 use Rattle.usage.proofs.united.unite_known.Statement.{statement}
 use Rattle.usage.proofs.united.unite_known.Tie as tie
 
-union-requires : tie.Need-union-requires
-union-requires c κs = search needs
-
-less-requires : tie.Need-less-requires
-less-requires c κs = search needs
-
 returns : tie.Need-returns
 unfolding uniteKnown
 returns c = let l = (c .before .less .ensures) in let e = rw (c .before .before .union .ensures) at l in rw (← e, eq-eqb _ _ (c .if1 .taken))
-
-incompatible-requires : tie.Need-incompatible-requires
-incompatible-requires c κs = search needs
 
 returns-2 : tie.Need-returns-2
 unfolding uniteKnown
@@ -31,4 +22,4 @@ returns-3 c = let l = (c .before .before .before .less .ensures) in let e = rw (
 pub unite-known-spec : {M : Type 1} → statement M
 unite-known-spec =
     tie.close
-    (tie.spec union-requires less-requires returns incompatible-requires returns-2 returns-3)
+    (tie.spec (λ c κs. search needs) (λ c κs. search needs) returns (λ c κs. search needs) returns-2 returns-3)

@@ -11,4 +11,6 @@ returns-2 : tie.Need-returns-2
 returns-2 c = rw (lt-leb _ _ (c .if1 .left)) (search needs)
 
 pub advance-spec : {M : Type 1} → statement M
-advance-spec = tie.close (tie.spec returns returns-2)
+advance-spec =
+    tie.close
+    (tie.spec returns returns-2)

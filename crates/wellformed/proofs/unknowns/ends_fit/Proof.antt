@@ -5,14 +5,8 @@ use borrow.Author.Needs.{needs}
 use Rattle.wellformed.proofs.unknowns.ends_fit.Statement.{statement}
 use Rattle.wellformed.proofs.unknowns.ends_fit.Tie as tie
 
-held-fits-requires : tie.Need-held-fits-requires
-held-fits-requires c κs = search needs
-
 returns : tie.Need-returns
 returns c = rw (sym (c .before .held-fits .ensures) ∙ not-true _ (c .if1 .taken))
-
-held-fits-requires-2 : tie.Need-held-fits-requires-2
-held-fits-requires-2 c κs = search needs
 
 returns-2 : tie.Need-returns-2
 returns-2 c = rw (sym (c .before .before .before .held-fits .ensures) ∙ not-false _ (c .before .before .if1 .left), sym (c .before .held-fits2 .ensures) ∙ not-true _ (c .if2 .taken))
@@ -26,10 +20,4 @@ returns-3 c = rw (sym (c .before .before .before .before .held-fits .ensures) �
 pub ends-fit-spec : {M : Type 1} → statement M
 ends-fit-spec =
     tie.close
-    (tie.spec
-    held-fits-requires
-    returns
-    held-fits-requires-2
-    returns-2
-    ends-agree-requires
-    returns-3)
+    (tie.spec (λ c κs. search needs) returns (λ c κs. search needs) returns-2 ends-agree-requires returns-3)

@@ -5,27 +5,10 @@ use borrow.Author.Needs.{needs}
 use Rattle.wellformed.proofs.unknowns.layers_agree.Statement.{statement}
 use Rattle.wellformed.proofs.unknowns.layers_agree.Tie as tie
 
-ranges-known-requires : tie.Need-ranges-known-requires
-ranges-known-requires c κs = search needs
-
-ranges-known-requires-2 : tie.Need-ranges-known-requires-2
-ranges-known-requires-2 c κs = search needs
-
 returns : tie.Need-returns
 returns c = let q = (c .before .before .before .before .before .before .pre) in sym (known-agree _ _ _ _ (q .left-tiles) (q .right-tiles) (sym (c .before .before .before .ranges-known .ensures) ∙ (c .before .before .if1 .taken)) (sym (c .before .ranges-known2 .ensures) ∙ (c .if2 .taken)))
-
-ranges-agree-requires : tie.Need-ranges-agree-requires
-ranges-agree-requires c κs = search needs
-
-returns-2 : tie.Need-returns-2
-returns-2 c = search needs
 
 pub layers-agree-spec : {M : Type 1} → statement M
 layers-agree-spec =
     tie.close
-    (tie.spec
-    ranges-known-requires
-    ranges-known-requires-2
-    returns
-    ranges-agree-requires
-    returns-2)
+    (tie.spec (λ c κs. search needs) (λ c κs. search needs) returns (λ c κs. search needs) (λ c. search needs))

@@ -26,12 +26,6 @@ mip-agrees-requires c κs = (mip-of _ (c .before .before .before .before .pre .0
 returns : tie.Need-returns Inv-loop μ-loop
 returns c = sym (every-stop _ _ _ _ (c .before .before .before .loop .inv .1) (sym (c .before .mip-agrees .ensures) ∙ not-true _ (c .if1 .taken)) (c .before .before .loop-test .taken))
 
-add-m : tie.Need-add-m Inv-loop μ-loop
-add-m c = search needs
-
-loop-less : tie.Need-loop-less Inv-loop μ-loop
-loop-less c = search needs
-
 loop-again : tie.Need-loop-again Inv-loop μ-loop
 loop-again c = (omega arith, every-more _ _ _ (c .before .before .before .loop .inv .1) (sym (c .before .mip-agrees .ensures) ∙ not-false _ (c .if1 .left)))
 
@@ -41,13 +35,5 @@ returns-2 c = let z : (c .before .loop .m) ≡ (c .before .before .before .befor
 pub mips-agree-spec : {M : Type 1} → statement M
 mips-agree-spec =
     tie.close
-    (tie.spec
-    Inv-loop
-    μ-loop
-    loop-holds
-    mip-agrees-requires
-    returns
-    add-m
-    loop-less
-    loop-again
+    (tie.spec Inv-loop μ-loop loop-holds mip-agrees-requires returns (λ c. search needs) (λ c. search needs) loop-again
     returns-2)

@@ -29,12 +29,6 @@ mip-known-requires c κs = mip-of _ (c .before .before .before .pre) (c .loop-te
 returns : tie.Need-returns Inv-loop μ-loop
 returns c = let q = (c .before .before .before .before .before .pre) in rw (mips-told _ (q .ready) (q .told) (q .top)) (sym (every-stop _ _ _ _ (c .before .before .before .loop .inv .1) (sym (c .before .mip-known .ensures) ∙ not-true _ (c .if1 .taken)) (c .before .before .loop-test .taken)))
 
-add-m : tie.Need-add-m Inv-loop μ-loop
-add-m c = search needs
-
-loop-less : tie.Need-loop-less Inv-loop μ-loop
-loop-less c = search needs
-
 loop-again : tie.Need-loop-again Inv-loop μ-loop
 loop-again c = (omega arith, every-more _ _ _ (c .before .before .before .loop .inv .1) (sym (c .before .mip-known .ensures) ∙ not-false _ (c .if1 .left)))
 
@@ -44,13 +38,5 @@ returns-2 c = let q = (c .before .before .before .pre) in let z : (c .before .lo
 pub mips-known-spec : {M : Type 1} → statement M
 mips-known-spec =
     tie.close
-    (tie.spec
-    Inv-loop
-    μ-loop
-    loop-holds
-    mip-known-requires
-    returns
-    add-m
-    loop-less
-    loop-again
+    (tie.spec Inv-loop μ-loop loop-holds mip-known-requires returns (λ c. search needs) (λ c. search needs) loop-again
     returns-2)

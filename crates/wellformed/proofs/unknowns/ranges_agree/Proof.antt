@@ -24,23 +24,8 @@ get-requires c κs = omega (arith, (c .before .before .before .before .pre .left
 get-requires-2 : tie.Need-get-requires-2 Inv-loop μ-loop
 get-requires-2 c κs = let h = still (c .before .before .before .before .before .pre) (c .before .before .loop .inv .1 .1) (c .before .loop-test .taken) (c .get .ensures) (c .before .before .loop .inv .1 .0) in omega (arith, (c .before .before .before .before .before .pre .right))
 
-states-agree-requires : tie.Need-states-agree-requires Inv-loop μ-loop
-states-agree-requires c κs = search needs
-
 returns : tie.Need-returns Inv-loop μ-loop
 returns c = walk-differ (c .before .before .before .before .before .before .before .before .pre) (c .before .before .before .before .before .loop .inv .1 .1) (c .before .before .before .before .loop-test .taken) (c .before .before .before .get .ensures) (still (c .before .before .before .before .before .before .before .before .pre) (c .before .before .before .before .before .loop .inv .1 .1) (c .before .before .before .before .loop-test .taken) (c .before .before .before .get .ensures) (c .before .before .before .before .before .loop .inv .1 .0)) (c .before .before .get2 .ensures) (sym (c .before .states-agree .ensures) ∙ not-true _ (c .if1 .taken))
-
-advance-requires : tie.Need-advance-requires Inv-loop μ-loop
-advance-requires c κs = search needs
-
-add-i : tie.Need-add-i Inv-loop μ-loop
-add-i c = search needs
-
-advance-requires-2 : tie.Need-advance-requires-2 Inv-loop μ-loop
-advance-requires-2 c κs = search needs
-
-add-j : tie.Need-add-j Inv-loop μ-loop
-add-j c = search needs
 
 loop-less : tie.Need-loop-less Inv-loop μ-loop
 loop-less c = let h = still (c .before .before .before .before .before .before .before .before .before .before .pre) (c .before .before .before .before .before .before .before .loop .inv .1 .1) (c .before .before .before .before .before .before .loop-test .taken) (c .before .before .before .before .before .get .ensures) (c .before .before .before .before .before .before .before .loop .inv .1 .0) in let s = passed-some ((c .before .before .before .before .before .get .result) .end) ((c .before .before .before .before .get2 .result) .end) in omega (arith, (c .before .advance .ensures .0), (c .advance2 .ensures .0), (c .before .advance .ensures .1), (c .advance2 .ensures .1))
@@ -54,18 +39,5 @@ returns-2 c = walk-end (c .before .before .before .before .pre) (c .before .loop
 pub ranges-agree-spec : {M : Type 1} → statement M
 ranges-agree-spec =
     tie.close
-    (tie.spec
-    Inv-loop
-    μ-loop
-    loop-holds
-    get-requires
-    get-requires-2
-    states-agree-requires
-    returns
-    advance-requires
-    add-i
-    advance-requires-2
-    add-j
-    loop-less
-    loop-again
-    returns-2)
+    (tie.spec Inv-loop μ-loop loop-holds get-requires get-requires-2 (λ c κs. search needs) returns
+    (λ c κs. search needs) (λ c. search needs) (λ c κs. search needs) (λ c. search needs) loop-less loop-again returns-2)

@@ -14,17 +14,8 @@ abbrev μ-loop : tie.MeasureT-loop
 loop-holds : tie.Need-loop-holds Inv-loop μ-loop
 loop-holds c = knowing-start _ _ _
 
-get-requires : tie.Need-get-requires Inv-loop μ-loop
-get-requires c κs = search needs
-
 returns : tie.Need-returns Inv-loop μ-loop
 returns c = knowing-stop (c .before .before .before .before .before .before .pre) (c .before .before .before .before .loop .inv) (c .before .before .before .loop-test .taken) (c .before .before .get .ensures) (c .if1 .taken)
-
-add-k : tie.Need-add-k Inv-loop μ-loop
-add-k c = search needs
-
-loop-less : tie.Need-loop-less Inv-loop μ-loop
-loop-less c = search needs
 
 loop-again : tie.Need-loop-again Inv-loop μ-loop
 loop-again c = knowing-turn (c .before .before .before .before .before .before .pre) (c .before .before .before .before .loop .inv) (c .before .before .before .loop-test .taken) (c .before .before .get .ensures) (c .if1 .left)
@@ -35,4 +26,5 @@ returns-2 c = knowing-end (c .before .loop .inv) (c .loop-test .left)
 pub ranges-known-spec : {M : Type 1} → statement M
 ranges-known-spec =
     tie.close
-    (tie.spec Inv-loop μ-loop loop-holds get-requires returns add-k loop-less loop-again returns-2)
+    (tie.spec Inv-loop μ-loop loop-holds (λ c κs. search needs) returns (λ c. search needs) (λ c. search needs)
+    loop-again returns-2)

@@ -5,36 +5,6 @@ use borrow.Author.Needs.{needs}
 use Rattle.wellformed.proofs.unknowns.slot_fits.Statement.{statement}
 use Rattle.wellformed.proofs.unknowns.slot_fits.Tie as tie
 
-add-plain-pair : tie.Need-add-plain-pair
-add-plain-pair c = search needs
-
-mul-plain-pair : tie.Need-mul-plain-pair
-mul-plain-pair c = search needs
-
-element-copy-out-plain-pair : tie.Need-element-copy-out-plain-pair
-element-copy-out-plain-pair c = search needs
-
-add-plain-pair-2 : tie.Need-add-plain-pair-2
-add-plain-pair-2 c = search needs
-
-mul-plain-pair-2 : tie.Need-mul-plain-pair-2
-mul-plain-pair-2 c = search needs
-
-element-copy-out-plain-pair-2 : tie.Need-element-copy-out-plain-pair-2
-element-copy-out-plain-pair-2 c = search needs
-
-add-plain-pair-3 : tie.Need-add-plain-pair-3
-add-plain-pair-3 c = search needs
-
-mul-plain-pair-3 : tie.Need-mul-plain-pair-3
-mul-plain-pair-3 c = search needs
-
-element-copy-out-plain-pair-3 : tie.Need-element-copy-out-plain-pair-3
-element-copy-out-plain-pair-3 c = search needs
-
-plain-pair-requires : tie.Need-plain-pair-requires
-plain-pair-requires c κs = search needs
-
 returns : tie.Need-returns
 returns c = let a = (c .before .before .before .before .before .before .before .args) in let f = rw (c .before .before .before .before .before .before .before .pre .1 .1 .0) at (sym (c .before .plain-pair .ensures) ∙ (c .if1 .taken)) in sym (tracker-plain (a .table .now) (a .starts .now) (a .ends .now) (a .i) (c .before .before .before .before .before .before .before .pre .1 .1 .1) (c .before .before .before .before .before .before .before .pre .0) (c .before .before .before .before .before .before .before .pre .1 .0) f)
 
@@ -47,17 +17,6 @@ returns-2 c = let a = (c .before .before .before .before .before .before .before
 pub slot-fits-spec : {M : Type 1} → statement M
 slot-fits-spec =
     tie.close
-    (tie.spec
-    add-plain-pair
-    mul-plain-pair
-    element-copy-out-plain-pair
-    add-plain-pair-2
-    mul-plain-pair-2
-    element-copy-out-plain-pair-2
-    add-plain-pair-3
-    mul-plain-pair-3
-    element-copy-out-plain-pair-3
-    plain-pair-requires
-    returns
-    ends-fit-requires
-    returns-2)
+    (tie.spec (λ c. search needs) (λ c. search needs) (λ c. search needs) (λ c. search needs) (λ c. search needs)
+    (λ c. search needs) (λ c. search needs) (λ c. search needs) (λ c. search needs) (λ c κs. search needs) returns
+    ends-fit-requires returns-2)

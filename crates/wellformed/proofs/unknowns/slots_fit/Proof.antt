@@ -26,12 +26,6 @@ slot-fits-requires c κs = let q = (c .before .before .before .before .pre) in (
 returns : tie.Need-returns Inv-loop μ-loop
 returns c = sym (every-stop _ _ _ _ (c .before .before .before .loop .inv .1) (sym (c .before .slot-fits .ensures) ∙ not-true _ (c .if1 .taken)) (c .before .before .loop-test .taken))
 
-add-i : tie.Need-add-i Inv-loop μ-loop
-add-i c = search needs
-
-loop-less : tie.Need-loop-less Inv-loop μ-loop
-loop-less c = search needs
-
 loop-again : tie.Need-loop-again Inv-loop μ-loop
 loop-again c = (omega arith, every-more _ _ _ (c .before .before .before .loop .inv .1) (sym (c .before .slot-fits .ensures) ∙ not-false _ (c .if1 .left)))
 
@@ -41,13 +35,5 @@ returns-2 c = let z : (c .before .loop .i) ≡ (c .before .before .before .befor
 pub slots-fit-spec : {M : Type 1} → statement M
 slots-fit-spec =
     tie.close
-    (tie.spec
-    Inv-loop
-    μ-loop
-    loop-holds
-    slot-fits-requires
-    returns
-    add-i
-    loop-less
-    loop-again
+    (tie.spec Inv-loop μ-loop loop-holds slot-fits-requires returns (λ c. search needs) (λ c. search needs) loop-again
     returns-2)

@@ -10,4 +10,6 @@ returns-2 : tie.Need-returns-2
 returns-2 c = rw (ne-eqb _ _ (c .if1 .left))
 
 pub states-agree-spec : {M : Type 1} → statement M
-states-agree-spec = tie.close (tie.spec returns returns-2)
+states-agree-spec =
+    tie.close
+    (tie.spec returns returns-2)

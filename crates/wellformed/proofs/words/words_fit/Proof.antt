@@ -3,14 +3,10 @@ use borrow.Author.Needs.{needs}
 use Rattle.wellformed.proofs.words.words_fit.Statement.{statement}
 use Rattle.wellformed.proofs.words.words_fit.Tie as tie
 
-extent-fits-requires : tie.Need-extent-fits-requires
-extent-fits-requires c κs = search needs
-
-single-fits-requires : tie.Need-single-fits-requires
-single-fits-requires c κs = search needs
-
 returns : tie.Need-returns
 returns c = rw (c .before .before .extent-fits .ensures, c .single-fits .ensures)
 
 pub words-fit-spec : {M : Type 1} → statement M
-words-fit-spec = tie.close (tie.spec extent-fits-requires single-fits-requires returns)
+words-fit-spec =
+    tie.close
+    (tie.spec (λ c κs. search needs) (λ c κs. search needs) returns)
