@@ -5,7 +5,7 @@ use Rattle.model.specs.declared.Outcome.the-variants.{Done, Refused, Conflict}
 use Rattle.model.specs.declared.Refusal.{Refusal}
 use Rattle.model.specs.declared.Refusal.the-variants.{NumbersOutOfLimits, FlagsBreakRule, ShortRoom, NotWellFormed, LogTooShort, FlagsDiffer, NoSuchIndex, ExtentOutOfLimits, ExtentDiffers, SelectorEmpty, SelectorPastExtent, StateReserved, StateIncompatible, RangesOutOfOrder, NoFreeEntry}
 use Rattle.model.specs.Refusals.{numberOf, placeOf}
-use Rattle.setting.specs.declared.Answered.{Answered}
+use Rattle.call_set.specs.declared.Answered.{Answered}
 use Rattle.exports.specs.Answers.{answerOf, outcomeOf, refusalOf, loggedOf, answeredOf}
 
 -- a refusal, by its number and place

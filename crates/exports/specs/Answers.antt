@@ -16,7 +16,7 @@ use Rattle.model.specs.declared.UsageFlags.{UsageFlags}
 use Rattle.model.specs.Base.{if_then_else_}
 use Rattle.model.specs.Refusals.{numberOf, placeOf, trackerIndex}
 use Rattle.model.specs.Representation.{select, mipStart, mipEnd, layerStart, layerEnd}
-use Rattle.setting.specs.declared.Answered.{Answered}
+use Rattle.call_set.specs.declared.Answered.{Answered}
 use Rattle.exports.specs.declared.Answer.{Answer}
 use Rattle.exports.specs.declared.LoggedAnswer.{LoggedAnswer}
 

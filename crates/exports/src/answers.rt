@@ -1,6 +1,7 @@
 // Outcomes in numbers, and numbers as what the calls take.
 use crate::Answer;
 use crate::LoggedAnswer;
+use call_set::Answered;
 use model::Conflict;
 use model::Layer;
 use model::LayerRange;
@@ -10,7 +11,6 @@ use model::Outcome;
 use model::Refusal;
 use model::Selection;
 use model::Selector;
-use setting::Answered;
 ghost use mathlib.Core.Path.{_≡_};
 ghost use Rattle.model.specs.Refusals.{numberOf, placeOf};
 ghost use Rattle.model.specs.Representation.{select};

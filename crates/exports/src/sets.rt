@@ -2,12 +2,12 @@
 use crate::Answer;
 use crate::answers::flat;
 use model::UsageFlags;
-use storage::Table;
-use wellformed::scope_fits;
-use wellformed::tracker_fits;
+use set_storage::Table;
+use set_wellformed::scope_fits;
+use set_wellformed::tracker_fits;
 ghost use mathlib.Core.Path.{_≡_};
 ghost use Rattle.model.specs.Base.{if_then_else_};
-ghost use Rattle.opening.specs.Open.{OpenedScope, OpenedTracker};
+ghost use Rattle.call_open.specs.Open.{OpenedScope, OpenedTracker};
 ghost use Rattle.track.specs.Trace.{scopeTest, trackerTest};
 ghost use Rattle.exports.specs.Answers.{answerOf, outcomeOf, flagsOf};
 
@@ -63,7 +63,7 @@ pub extern "C" fn track_open_tracker(
     flat(track::open_tracker(table, starts, ends, n, m, w, flags, mask))
 }
 
-// `wellformed::scope_fits`.
+// `set_wellformed::scope_fits`.
 #[no_mangle]
 pub extern "C" fn track_scope_is_well_formed(table: &Table, ranges: &[u32]) -> u32
     ensures { λ r. ⌜ r ≡ (if scopeTest (record { table = now (table .entry); ranges = now (ranges .entry) }) then 1 else 0) ⌝ }
@@ -74,7 +74,7 @@ pub extern "C" fn track_scope_is_well_formed(table: &Table, ranges: &[u32]) -> u
     0
 }
 
-// `wellformed::tracker_fits`.
+// `set_wellformed::tracker_fits`.
 #[no_mangle]
 pub extern "C" fn track_tracker_is_well_formed(table: &Table, starts: &[u32], ends: &[u32]) -> u32
     ensures { λ r. ⌜ r ≡ (if trackerTest (record { table = now (table .entry); starts = now (starts .entry); ends = now (ends .entry) }) then 1 else 0) ⌝ }

@@ -7,11 +7,11 @@ use mathlib.Core.Option.{none, some}
 use lib.ListN.{length}
 use Rattle.model.specs.declared.Refusal.{Refusal}
 use Rattle.model.specs.RangeCalls.{isolateRefusal, isolated, coalesceRefusal, coalesced, filterRefusal, filtered}
-use Rattle.ranges.specs.View.{view, becomes-none}
-use Rattle.ranges.specs.Coalescing.{Coalesced}
-use Rattle.ranges.specs.Filtering.{Filtered}
-use Rattle.isolating.specs.declared.isolation.Isolated.{Isolated}
-use Rattle.isolating.specs.Isolation.{Isolating}
+use Rattle.range_states.specs.View.{view, becomes-none}
+use Rattle.range_states.specs.Coalescing.{Coalesced}
+use Rattle.range_states.specs.Filtering.{Filtered}
+use Rattle.range_isolate.specs.declared.isolation.Isolated.{Isolated}
+use Rattle.range_isolate.specs.Isolation.{Isolating}
 use Rattle.range_checks.specs.Calls.{isolated-is, coalesced-is}
 use Rattle.range_calls.specs.Answers.{isolateAnswer, isolateRecords, coalesceAnswer, coalesceRecords, filterAnswer, filterRecords, Isolates, Coalesces, Filters}
 use Rattle.range_calls.specs.declared.IsolateAnswer.the-variants as isolate

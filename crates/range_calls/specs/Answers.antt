@@ -7,7 +7,7 @@ use lib.ListN.{length}
 use Rattle.model.specs.declared.Range.{Range}
 use Rattle.model.specs.declared.Refusal.{Refusal}
 use Rattle.model.specs.RangeCalls.{isolateRefusal, isolated, coalesceRefusal, coalesced, filterRefusal, filtered}
-use Rattle.ranges.specs.View.{view, spare}
+use Rattle.range_states.specs.View.{view, spare}
 use Rattle.range_calls.specs.declared.Isolation.{Isolation}
 use Rattle.range_calls.specs.declared.IsolateAnswer.{IsolateAnswer}
 use Rattle.range_calls.specs.declared.IsolateAnswer.the-variants as isolate

@@ -1,7 +1,7 @@
 // Range calls: `isolate`, `coalesce` and `iter_filter` of range.rs as public calls on plain numbers in a borrowed slice.
 //
-// Place in the picture: over `range_checks`, which tells what is refused, and `ranges` and `isolating`, which do the work; under `exports`
-// and `lines`, and beside `records`, which has the same calls on a slice of range records.
+// Place in the picture: over `range_checks`, which tells what is refused, and `range_states` and `range_isolate`, which do the work; under `exports`
+// and `replay_lines`, and beside `range_records`, which has the same calls on a slice of range records.
 //
 // What holds: nothing is required. The first `told` records of the slice are in use. Each answer, and the records afterwards, equal the
 // definitions of model/specs/RangeCalls (specs/Answers); a refusal (10, 14, 15) leaves every number as it was, and up to two numbers that
@@ -42,7 +42,7 @@ pub fn isolate(s: &mut [u32], told: usize, start: u32, end: u32, default: u32) -
     match range_checks::check_isolate(s, told, start, end) {
         Verdict::Refused(r) => IsolateAnswer::Refused(r),
         Verdict::Accepted => {
-            let i = isolating::isolate(s, told, start, end, default);
+            let i = range_isolate::isolate(s, told, start, end, default);
             IsolateAnswer::Isolated(Isolation {
                 position: i.position,
                 count: i.end - i.position,
@@ -59,7 +59,7 @@ pub fn coalesce(s: &mut [u32], told: usize) -> CoalesceAnswer
     match range_checks::check_coalesce(s, told) {
         Verdict::Refused(r) => CoalesceAnswer::Refused(r),
         Verdict::Accepted => {
-            let n = ranges::coalesce(s, told);
+            let n = range_states::coalesce(s, told);
             CoalesceAnswer::Coalesced(n)
         }
     }
@@ -72,7 +72,7 @@ pub fn iter_filter(s: &[u32], told: usize, start: u32, end: u32, out: &mut [u32]
     match range_checks::check_filter(s, told, start, end, out) {
         Verdict::Refused(r) => FilterAnswer::Refused(r),
         Verdict::Accepted => {
-            let n = ranges::iter_filter(s, told, start, end, out);
+            let n = range_states::iter_filter(s, told, start, end, out);
             FilterAnswer::Filtered(n)
         }
     }

@@ -9,8 +9,8 @@ use lib.ListN.{length, getD, drop}
 use lib.Seq.{slice-empty}
 use Rattle.model.specs.declared.Range.{Range}
 use Rattle.model.specs.RangeCalls.{ascends}
-use Rattle.ranges.specs.View.{view, decode, blank}
-use Rattle.ranges.proofs.Inserting.{next-is}
+use Rattle.range_states.specs.View.{view, decode, blank}
+use Rattle.range_states.proofs.Inserting.{next-is}
 
 pub record Testing (l : List ℕ) (len k from : ℕ) : Type 0 where
   pub high : k ≤ len

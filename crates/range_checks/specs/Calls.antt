@@ -15,11 +15,11 @@ use Rattle.model.specs.RangedStates.{listOf, isolate, iterFilter}
 use Rattle.model.specs.RangeCalls.{ascends, isolateRefusal, isolated, coalesceRefusal, coalesced, filterRefusal, filtered}
 use Rattle.range_checks.specs.declared.checking.Verdict.{Verdict}
 use Rattle.range_checks.specs.declared.checking.Verdict.the-variants.{Accepted, Refused}
-use Rattle.isolating.specs.declared.isolation.Isolated.{Isolated as Told}
-use Rattle.ranges.specs.View.{view, decode, view-count}
-use Rattle.isolating.specs.Isolation.{IsolateRoom, Isolating}
-use Rattle.ranges.specs.Coalescing.{Coalesced as Coalescing}
-use Rattle.ranges.specs.Filtering.{Filtered as Filtering}
+use Rattle.range_isolate.specs.declared.isolation.Isolated.{Isolated as Told}
+use Rattle.range_states.specs.View.{view, decode, view-count}
+use Rattle.range_isolate.specs.Isolation.{IsolateRoom, Isolating}
+use Rattle.range_states.specs.Coalescing.{Coalesced as Coalescing}
+use Rattle.range_states.specs.Filtering.{Filtered as Filtering}
 
 -- what a verdict means: the model's refusal, if there is one
 abbrev pub refusalOf : Verdict → Option Refusal

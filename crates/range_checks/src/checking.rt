@@ -1,17 +1,17 @@
 // The checks of the calls on ranged states (01, "Turned away": 10, 14 and 15, in the table's order), on unchanged storage.
 //
 // Each tells the refusal or `Accepted`; what is accepted has the room that the call asks for (specs/Calls).
-use isolating::isolated_count;
 use model::Refusal;
-use ranges::filtered_count;
-use ranges::get;
+use range_isolate::isolated_count;
+use range_states::filtered_count;
+use range_states::get;
 ghost use mathlib.Core.Path.{_≡_};
 ghost use mathlib.Core.Bool.{_||_, not};
 ghost use Prim.Native.Nat.{ℕ, _*_, _/_, _≤_};
 ghost use lib.Dec.{ltb};
 ghost use lib.ListN.{length, take};
 ghost use Rattle.model.specs.RangeCalls.{ascends as ascendsOf, isolateRefusal, coalesceRefusal, filterRefusal};
-ghost use Rattle.ranges.specs.View.{view, decode};
+ghost use Rattle.range_states.specs.View.{view, decode};
 ghost use Rattle.range_checks.specs.Calls.{refusalOf};
 
 // What a check tells.

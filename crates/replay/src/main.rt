@@ -2,24 +2,24 @@
 //
 // Place in the picture: over all, a user of the public calls. The file `stdin` has the stored calls and `stdout` the answers, written by the
 // oracle, which runs the Rust itself; `rt check` runs this program and compares. `oracle/compare` hands it fresh calls. Lines, answers and
-// storage: oracle/README.md. Crate `lines` reads the lines and writes the answers; here the bytes come in, and `call` makes a call: what it
+// storage: oracle/README.md. Crate `replay_lines` reads the lines and writes the answers; here the bytes come in, and `call` makes a call: what it
 // is lent, the call, and what it leaves.
 mod call;
 
 use libc::STDIN_FILENO;
-use lines::numbers;
-use lines::numbers::at;
-use lines::numbers::smaller;
-use lines::out;
-use lines::out::Out;
-use lines::ranged;
-use lines::scan;
-use lines::scan::Scan;
-use lines::sets;
-use lines::sets::Book;
-use lines::silent;
-use lines::tell;
-use storage::Table;
+use replay_lines::numbers;
+use replay_lines::numbers::at;
+use replay_lines::numbers::smaller;
+use replay_lines::out;
+use replay_lines::out::Out;
+use replay_lines::ranged;
+use replay_lines::scan;
+use replay_lines::scan::Scan;
+use replay_lines::sets;
+use replay_lines::sets::Book;
+use replay_lines::silent;
+use replay_lines::tell;
+use set_storage::Table;
 ghost use Prim.Native.Nat.{_≤_};
 
 // Room for sets of 4,096 ranges a half, and for a log of as many entries.

@@ -12,7 +12,7 @@ use Rattle.model.specs.declared.TrackerIndex.{TrackerIndex}
 use Rattle.model.specs.Sets.{Set}
 use Rattle.model.specs.Calls.{callMergeSingle, newly}
 use Rattle.model.specs.Texture.{ranged}
-use Rattle.ready.specs.Answers.{turnedAway}
+use Rattle.set_ready.specs.Answers.{turnedAway}
 use Rattle.agreement.specs.Shared.{afterCalls}
 use Rattle.agreement.specs.WellFormedSets.{All}
 use Rattle.agreement.specs.WebGpu.{Usage, Renders, Histories, histories, InConflict, GivenUsage, NotCompatible}

@@ -20,12 +20,12 @@ use Rattle.model.specs.Calls.{done, CallResult, unless, Call, callMergeSingle, 
 use Rattle.model.specs.Texture.{Held, single, Entry, ranged}
 use Rattle.model.specs.WellFormed.{scopeFits, trackerFits}
 use Rattle.model.specs.Log.{pending, outcomeOf, merging, logging}
-use Rattle.checks.specs.Head.{selectorOf}
-use Rattle.merging.specs.Merged.{Merged}
-use Rattle.setting.specs.declared.Answered.{Answered}
-use Rattle.setting.specs.Tracked.{logOf, Logs}
-use Rattle.storage.specs.Stays.{only}
-use Rattle.removing.specs.Removed.{Removed}
+use Rattle.set_checks.specs.Head.{selectorOf}
+use Rattle.call_merge.specs.Merged.{Merged}
+use Rattle.call_set.specs.declared.Answered.{Answered}
+use Rattle.call_set.specs.Tracked.{logOf, Logs}
+use Rattle.set_storage.specs.Stays.{only}
+use Rattle.call_remove.specs.Removed.{Removed}
 use Rattle.agreement.specs.WellFormedSets.{All, Word, GivenWord}
 use Rattle.agreement.specs.LogBound.{entries, ownedStates, ofTracker, ownedOf}
 use Rattle.agreement.specs.BoolLaws.{by-test, both, and-left, and-right}

@@ -28,19 +28,19 @@ use Rattle.model.specs.StateRules.{Move}
 use Rattle.model.specs.Texture.{Held, Entry, ranged}
 use Rattle.model.specs.WellFormed.{wellFormedScope, wellFormedTracker}
 use Rattle.model.specs.Log.{emptying, outcomeOf, pending}
-use Rattle.storage.specs.Storage.{scopeOf, trackerOf}
-use Rattle.storage.specs.Stays.{only, ownedBy}
-use Rattle.barrier.specs.Entries.{entriesOf}
-use Rattle.checks.specs.Head.{selectorOf}
+use Rattle.set_storage.specs.Storage.{scopeOf, trackerOf}
+use Rattle.set_storage.specs.Stays.{only, ownedBy}
+use Rattle.texture_barrier.specs.Entries.{entriesOf}
+use Rattle.set_checks.specs.Head.{selectorOf}
 use Rattle.agreement.specs.Grid.{Grid, SubresourceConflict, grid}
 use Rattle.agreement.specs.Shared.{gridOf, gridEnds, firstOf, seen, itself, movedAt}
 use Rattle.agreement.specs.WellFormedSets.{All, GivenWord}
 use Rattle.agreement.specs.LogBound.{ownedOf, listed}
-use Rattle.opening.specs.Open.{OpenedScope, OpenedTracker, asked}
-use Rattle.merging.specs.Merged.{Merged}
-use Rattle.setting.specs.declared.Answered.{Answered}
-use Rattle.setting.specs.Tracked.{logOf, Logs, Tracked}
-use Rattle.removing.specs.Removed.{Removed}
+use Rattle.call_open.specs.Open.{OpenedScope, OpenedTracker, asked}
+use Rattle.call_merge.specs.Merged.{Merged}
+use Rattle.call_set.specs.declared.Answered.{Answered}
+use Rattle.call_set.specs.Tracked.{logOf, Logs, Tracked}
+use Rattle.call_remove.specs.Removed.{Removed}
 
 -- ---- What is lent: "the same scopes and trackers, however many"; nothing is asked of the numbers, nor of how many they are
 -- for a scope: a table and the ranges

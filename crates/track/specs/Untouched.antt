@@ -10,18 +10,18 @@ use Rattle.model.specs.declared.Outcome.{Outcome}
 use Rattle.model.specs.declared.Selection.{Selection}
 use Rattle.model.specs.declared.Selector.{Selector}
 use Rattle.model.specs.declared.TrackerIndex.{TrackerIndex}
-use Rattle.storage.specs.Storage.{numbersOf, ownedOf, tableIndices, rangesAt}
-use Rattle.storage.specs.Stays.{only, ownedBy, ScopeFrame, TrackerFrame}
-use Rattle.ready.specs.Answers.{turnedAway}
-use Rattle.ready.specs.Named.{within, WordsStay, scope-room, scope-past, scope-unnamed, tracker-room, tracker-past, tracker-unnamed}
-use Rattle.setting.specs.declared.Answered.{Answered}
-use Rattle.removing.specs.Gone.{Listed, disowned}
+use Rattle.set_storage.specs.Storage.{numbersOf, ownedOf, tableIndices, rangesAt, texturesAt}
+use Rattle.set_storage.specs.Stays.{only, ownedBy, ScopeFrame, TrackerFrame}
+use Rattle.set_ready.specs.Answers.{turnedAway}
+use Rattle.set_ready.specs.Named.{within, WordsStay, scope-room, scope-past, scope-unnamed, tracker-room, tracker-past, tracker-unnamed}
+use Rattle.call_set.specs.declared.Answered.{Answered}
+use Rattle.call_remove.specs.Gone.{Listed, disowned}
 use Rattle.track.specs.Trace.{LentScope, LentTracker, MergeSingle, MergeUsageScope, SetSingle, SetFromUsageScope, SetFromTracker, SetAndRemoveSparse}
 
 -- ---- Of a scope: every number from 3 × N × M × W on, every word of an index from N on, every word of a texture that is not named
 pub record ScopeUntouched (named : ℕ → Type 0) (s s′ : LentScope) : Type 0 where
-  pub room : (y : ℕ) → rangesAt (numbersOf (s .table)) (getD (s .table) 0 0) ≤ y → getD (s′ .ranges) y 0 ≡ getD (s .ranges) y 0
-  pub past : (j : ℕ) → getD (s .table) 0 0 ≤ j → j < tableIndices → WordsStay j (s .table) (s′ .table)
+  pub room : (y : ℕ) → rangesAt (numbersOf (s .table)) (getD (s .table) texturesAt 0) ≤ y → getD (s′ .ranges) y 0 ≡ getD (s .ranges) y 0
+  pub past : (j : ℕ) → getD (s .table) texturesAt 0 ≤ j → j < tableIndices → WordsStay j (s .table) (s′ .table)
   pub others : (j : ℕ) → j < tableIndices → ((i : ℕ) → named i → j ≡ i → ⊥) → WordsStay j (s .table) (s′ .table)
 
 untouched : {named : ℕ → Type 0} (s s′ : LentScope) → ScopeFrame (within (s .table) named) (numbersOf (s .table)) (s .table) (s .ranges) (s′ .table) (s′ .ranges) → ScopeUntouched named s s′
@@ -35,8 +35,8 @@ merge-usage-scope-leaves s s′ g x c = untouched s s′ (c .stays)
 
 -- ---- Of a tracker: the same, of both its slices
 pub record TrackerUntouched (named : ℕ → Type 0) (t t′ : LentTracker) : Type 0 where
-  pub room : (y : ℕ) → rangesAt (numbersOf (t .table)) (getD (t .table) 0 0) ≤ y → (getD (t′ .starts) y 0 ≡ getD (t .starts) y 0) × (getD (t′ .ends) y 0 ≡ getD (t .ends) y 0)
-  pub past : (j : ℕ) → getD (t .table) 0 0 ≤ j → j < tableIndices → WordsStay j (t .table) (t′ .table)
+  pub room : (y : ℕ) → rangesAt (numbersOf (t .table)) (getD (t .table) texturesAt 0) ≤ y → (getD (t′ .starts) y 0 ≡ getD (t .starts) y 0) × (getD (t′ .ends) y 0 ≡ getD (t .ends) y 0)
+  pub past : (j : ℕ) → getD (t .table) texturesAt 0 ≤ j → j < tableIndices → WordsStay j (t .table) (t′ .table)
   pub others : (j : ℕ) → j < tableIndices → ((i : ℕ) → named i → j ≡ i → ⊥) → WordsStay j (t .table) (t′ .table)
 
 untouched₂ : {named : ℕ → Type 0} (t t′ : LentTracker) → TrackerFrame (within (t .table) named) (numbersOf (t .table)) (t .table) (t .starts) (t .ends) (t′ .table) (t′ .starts) (t′ .ends) → TrackerUntouched named t t′

@@ -17,7 +17,7 @@ use Rattle.model.specs.Refusals.{singleRefusal}
 use Rattle.model.specs.Calls.{Answer, done, refused, inConflict, Call, callMergeSingle, Sets, step, newly}
 use Rattle.model.specs.Texture.{Held, ranged}
 use Rattle.model.specs.Log.{outcomeOf}
-use Rattle.ready.specs.Answers.{turnedAway}
+use Rattle.set_ready.specs.Answers.{turnedAway}
 use Rattle.agreement.specs.Shared.{seenAnswer, afterCalls}
 use Rattle.agreement.specs.WellFormedSets.{All, GivenWord}
 use Rattle.agreement.specs.WebGpu.{Usage, Renders, Histories, histories, InConflict, GivenUsage, NotCompatible}

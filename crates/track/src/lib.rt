@@ -1,7 +1,7 @@
 // Track: the public calls of the tracker, and demand 3, proved of their own contracts.
 //
-// Place in the picture: the top of the calls by value; `exports` and `heads` stand on it. Each call is proved equal to the ranged model on the view of the lent numbers, in the crate that it is
-// handed on to (`opening`, `merging`, `setting`, `joining`, `removing`), and the ranged model agrees with the grid (crate `agreement`);
+// Place in the picture: the top of the calls by value; `exports` and `log_heads` stand on it. Each call is proved equal to the ranged model on the view of the lent numbers, in the crate that it is
+// handed on to (`call_open`, `call_merge`, `call_set`, `call_join`, `call_remove`), and the ranged model agrees with the grid (crate `agreement`);
 // here the two meet. The `ensures` below are the definitions that specs/Trace makes traces of: a trace is any list of calls whose steps
 // meet these contracts, from newly opened storage or any that is well formed; at each of its steps the lent numbers show what the grid's run
 // gives, and no step is refused because of what it was lent (4, 5 and 15). So nothing but contracts stands between demand 3 and the code.
@@ -13,6 +13,7 @@
 // trace is the ranged model's run, and the WebGPU rule at its last step). Below them are proofs: LogLaws (an emptied log never refuses, and its
 // entries tell the model's transitions), OpenedLaws (opened storage is the model's, and well formed), StepLaws (a step that meets its contract
 // is the model's), TraceLaws (step by step, for every trace) and UsageLaws (a last step that merges a usage).
+use call_set::Answered;
 use model::Extent;
 use model::LogHead;
 use model::Outcome;
@@ -20,9 +21,8 @@ use model::Selection;
 use model::Selector;
 use model::TrackerIndex;
 use model::UsageFlags;
-use setting::Answered;
-use storage::Table;
-ghost use Rattle.opening.specs.Open.{OpenedScope, OpenedTracker};
+use set_storage::Table;
+ghost use Rattle.call_open.specs.Open.{OpenedScope, OpenedTracker};
 ghost use Rattle.track.specs.Trace.{MergeSingle, MergeUsageScope, SetSingle, SetFromUsageScope, SetFromTracker, SetAndRemoveSparse, Emptying};
 
 // Opens a scope for n textures of m mips and w layers.
@@ -36,7 +36,7 @@ pub fn open_scope(
 ) -> Outcome
     ensures { λ x. ⌜ OpenedScope (now (table .entry)) (now (ranges .entry)) n m w p x (now (table .exit)) ⌝ }
 {
-    opening::open_scope(table, ranges, n, m, w, p)
+    call_open::open_scope(table, ranges, n, m, w, p)
 }
 
 // Opens a tracker, with an ordered mask.
@@ -52,7 +52,7 @@ pub fn open_tracker(
 ) -> Outcome
     ensures { λ x. ⌜ OpenedTracker (now (table .entry)) (now (starts .entry)) (now (ends .entry)) n m w p mask x (now (table .exit)) ⌝ }
 {
-    opening::open_tracker(table, starts, ends, n, m, w, p, mask)
+    call_open::open_tracker(table, starts, ends, n, m, w, p, mask)
 }
 
 // Merges one use of one texture into a scope.
@@ -66,7 +66,7 @@ pub fn merge_single(
 ) -> Outcome
     ensures { λ x. ⌜ MergeSingle (record { table = now (table .entry); ranges = now (ranges .entry) }) index extent selection state x (record { table = now (table .exit); ranges = now (ranges .exit) }) ⌝ }
 {
-    merging::merge_single(table, ranges, index, extent, selection, state)
+    call_merge::merge_single(table, ranges, index, extent, selection, state)
 }
 
 // Merges every texture of another scope into a scope, up to the first conflict.
@@ -78,7 +78,7 @@ pub fn merge_usage_scope(
 ) -> Outcome
     ensures { λ x. ⌜ MergeUsageScope (record { table = now (table .entry); ranges = now (ranges .entry) }) (record { table = now (given .entry); ranges = now (lent .entry) }) x (record { table = now (table .exit); ranges = now (ranges .exit) }) ⌝ }
 {
-    merging::merge_usage_scope(table, ranges, given, lent)
+    call_merge::merge_usage_scope(table, ranges, given, lent)
 }
 
 // Sets one use of one texture in a tracker, and logs its transitions.
@@ -95,7 +95,7 @@ pub fn set_single(
 ) -> Answered
     ensures { λ x. ⌜ SetSingle (record { table = now (table .entry); starts = now (starts .entry); ends = now (ends .entry) }) index extent selector state head (now (log .entry)) x (record { table = now (table .exit); starts = now (starts .exit); ends = now (ends .exit) }) (now (log .exit)) ⌝ }
 {
-    setting::set_single(
+    call_set::set_single(
         table,
         starts,
         ends,
@@ -120,7 +120,7 @@ pub fn set_from_usage_scope(
 ) -> Answered
     ensures { λ x. ⌜ SetFromUsageScope (record { table = now (table .entry); starts = now (starts .entry); ends = now (ends .entry) }) (record { table = now (given .entry); ranges = now (lent .entry) }) head (now (log .entry)) x (record { table = now (table .exit); starts = now (starts .exit); ends = now (ends .exit) }) (now (log .exit)) ⌝ }
 {
-    joining::set_from_usage_scope(table, starts, ends, given, lent, log, head)
+    call_join::set_from_usage_scope(table, starts, ends, given, lent, log, head)
 }
 
 // Joins a tracker with another: transitions go to the other's start, and its end is what they leave.
@@ -136,7 +136,7 @@ pub fn set_from_tracker(
 ) -> Answered
     ensures { λ x. ⌜ SetFromTracker (record { table = now (table .entry); starts = now (starts .entry); ends = now (ends .entry) }) (record { table = now (given .entry); starts = now (first .entry); ends = now (last .entry) }) head (now (log .entry)) x (record { table = now (table .exit); starts = now (starts .exit); ends = now (ends .exit) }) (now (log .exit)) ⌝ }
 {
-    joining::set_from_tracker(table, starts, ends, given, first, last, log, head)
+    call_join::set_from_tracker(table, starts, ends, given, first, last, log, head)
 }
 
 // Moves the listed textures of a scope into a tracker, and logs their transitions: the scope no longer owns them.
@@ -152,7 +152,7 @@ pub fn set_and_remove_from_usage_scope_sparse(
 ) -> Answered
     ensures { λ x. ⌜ SetAndRemoveSparse (record { table = now (table .entry); starts = now (starts .entry); ends = now (ends .entry) }) (record { table = now (given .entry); ranges = now (lent .entry) }) (now (indices .entry)) head (now (log .entry)) x (record { table = now (table .exit); starts = now (starts .exit); ends = now (ends .exit) }) (now (given .exit)) (now (log .exit)) ⌝ }
 {
-    removing::set_and_remove_from_usage_scope_sparse(
+    call_remove::set_and_remove_from_usage_scope_sparse(
         table,
         starts,
         ends,
@@ -168,5 +168,5 @@ pub fn set_and_remove_from_usage_scope_sparse(
 pub fn empty_log(log: &[u32], head: LogHead) -> Answered
     ensures { λ x. ⌜ Emptying head (now (log .entry)) x ⌝ }
 {
-    setting::empty_log(log, head)
+    call_set::empty_log(log, head)
 }

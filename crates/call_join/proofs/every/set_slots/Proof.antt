@@ -1,0 +1,44 @@
+-- `set_slots`: the slots below `k` are the model's, the others as they were.
+use Prim.Native.Nat.{_≤_, _-_}
+use native.Mathlib.Omega.{arith}
+use Rattle.set_storage.specs.Stays.{ownedBy}
+use Rattle.set_ready.specs.Named.{within}
+use Rattle.call_join.proofs.Setting.{Setting, setting-start, setting-ready, setting-next, setting-end}
+use Rattle.call_join.specs.Slot.{slotAfter}
+use Rattle.call_join.proofs.every.set_slots.Statement.{statement}
+use Rattle.call_join.proofs.every.set_slots.Tie as tie
+
+abbrev Inv-loop : tie.InvT-loop
+Inv-loop table₀ starts₀ ends₀ given first from last to n p k₀ table starts ends k = (k ≤ n) × Setting (within table₀ (ownedBy given)) table₀ starts₀ ends₀ (slotAfter p from to given first last) k table starts ends
+
+abbrev μ-loop : tie.MeasureT-loop
+μ-loop table₀ starts₀ ends₀ given first from last to n p k₀ table starts ends k = n - k
+
+loop-holds : tie.Need-loop-holds Inv-loop μ-loop
+loop-holds c = (omega arith, setting-start _ _ _ _)
+
+set-at-requires : tie.Need-set-at-requires Inv-loop μ-loop
+set-at-requires c κs = let p = c .before .before .before .before .before .before .before .before .before .pre in setting-ready (p .0) ((c .before .before .before .before .loop .inv) .1) (rw (p .1 .0) at (c .before .before .before .loop-test .taken)) (p .1 .1)
+
+add-k : tie.Need-add-k Inv-loop μ-loop
+add-k c = let p = c .before .before .before .before .before .before .before .before .before .before .before .before .before .before .pre in omega (arith, p .0 .given .start .textures, (c .before .before .before .before .before .before .before .before .loop-test .taken), p .1 .0)
+
+loop-less : tie.Need-loop-less Inv-loop μ-loop
+loop-less c = omega (arith, (c .before .before .before .before .before .before .before .before .loop-test .taken))
+
+loop-again : tie.Need-loop-again Inv-loop μ-loop
+loop-again c = (omega (arith, (c .before .before .before .before .before .before .before .before .loop-test .taken)), let p = c .before .before .before .before .before .before .before .before .before .before .before .before .before .before .pre in setting-next (p .0) (rw (p .1 .0) at (c .before .before .before .before .before .before .before .before .loop-test .taken)) ((c .before .before .before .before .before .before .before .before .before .loop .inv) .1) (c .before .before .before .before .set-at .ensures))
+
+same-length : tie.Need-same-length Inv-loop μ-loop
+same-length c = (c .before .loop .inv) .1 .frame .starts .long
+
+same-length-2 : tie.Need-same-length-2 Inv-loop μ-loop
+same-length-2 c = (c .before .loop .inv) .1 .frame .ends .long
+
+returns : tie.Need-returns Inv-loop μ-loop
+returns c = let p = c .before .before .before .before .before .before .pre in let v = c .before .loop .inv in setting-end _ _ (p .1 .1) (omega (arith, v .0, (c .loop-test .left), p .1 .0)) (v .1)
+
+pub set-slots-spec : {M : Type 1} → statement M
+set-slots-spec =
+    tie.close
+    (tie.spec Inv-loop μ-loop loop-holds set-at-requires add-k loop-less loop-again same-length same-length-2 returns)

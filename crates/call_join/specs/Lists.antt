@@ -1,0 +1,78 @@
+-- Two lists side by side, made position by position: what the model's walks over them give.
+use Prim.Native.Nat.{ℕ, zero, suc, _+_, _≤_, _<_}
+use native.Mathlib.Omega.{arith}
+use mathlib.Core.Path.{_≡_, refl, sym, ap, _∙_}
+use mathlib.Core.List.{List, [], _∷_, _++_, append-assoc, append-nil}
+use Rattle.model.specs.Base.{each, eachAt₂, over₂}
+use Rattle.set_storage.specs.Storage.{listFrom}
+use Rattle.set_storage.specs.Lists.{list-ext}
+use Rattle.call_join.specs.Adds.{upTo}
+
+-- ---- `over₂`
+module _ {A B : Type 0} (f : ℕ → A → B → A) (F H : ℕ → A) (G : ℕ → B) where
+  -- f where both lists go on, and the first as it was past the second
+  pub over-list : (k n m : ℕ) → ((x : ℕ) → k ≤ x → x < k + n → x < k + m → H x ≡ f x (F x) (G x)) → ((x : ℕ) → k + m ≤ x → x < k + n → H x ≡ F x)
+      → listFrom H k n ≡ over₂ f k (listFrom F k n) (listFrom G k m)
+  unfolding listFrom
+  over-list k zero m a b = refl
+  over-list k (suc n) zero a b = rw (b k (omega arith) (omega arith), list-ext F H (suc k) n (λ x p q. b x (omega arith) (omega arith)))
+  over-list k (suc n) (suc m) a b =
+      rw (a k (omega arith) (omega arith) (omega arith), over-list (suc k) n m (λ x p q r. a x (omega arith) (omega arith) (omega arith)) (λ x p q. b x (omega arith) (omega arith)))
+
+-- the second list of another kind
+pub over-same : {A B D : Type 0} (f : ℕ → A → B → A) (g : ℕ → A → D → A) (F : ℕ → B) (G : ℕ → D) → ((x : ℕ) (y : A) → f x y (F x) ≡ g x y (G x)) → (s : List A) (k n : ℕ) → over₂ f k s (listFrom F k n) ≡ over₂ g k s (listFrom G k n)
+unfolding listFrom
+over-same f g F G e [] k n = refl
+over-same f g F G e (y ∷ s) k zero = refl
+over-same f g F G e (y ∷ s) k (suc n) = rw (e k y, over-same f g F G e s (suc k) n)
+
+-- and of what each pair makes
+pub each-same : {A B D E : Type 0} (f : ℕ → A → B → List E) (g : ℕ → A → D → List E) (F : ℕ → B) (G : ℕ → D) → ((x : ℕ) (y : A) → f x y (F x) ≡ g x y (G x)) → (s : List A) (k n : ℕ) → eachAt₂ f k s (listFrom F k n) ≡ eachAt₂ g k s (listFrom G k n)
+unfolding listFrom
+each-same f g F G e [] k n = refl
+each-same f g F G e (y ∷ s) k zero = refl
+each-same f g F G e (y ∷ s) k (suc n) = rw (e k y, each-same f g F G e s (suc k) n)
+
+-- ---- `eachAt₂`
+-- what h makes at k, k + 1 and so on, n of them
+unfoldable allFrom : {A : Type 0} → (ℕ → List A) → ℕ → ℕ → List A
+allFrom h k zero = []
+allFrom h k (suc n) = h k ++ allFrom h (suc k) n
+
+module _ {A : Type 0} (h : ℕ → List A) where
+  all-none : (k n : ℕ) → ((x : ℕ) → k ≤ x → x < k + n → h x ≡ []) → allFrom h k n ≡ []
+  unfolding allFrom
+  all-none k zero e = refl
+  all-none k (suc n) e = rw (e k (omega arith) (omega arith), all-none (suc k) n (λ x a b. e x (omega arith) (omega arith)))
+
+  all-last : (k n : ℕ) → allFrom h k (suc n) ≡ allFrom h k n ++ h (k + n)
+  unfolding allFrom
+  all-last k zero = let e : k ≡ k + 0 = omega arith in append-nil (h k) ∙ ap h e
+  all-last k (suc n) =
+      let e : suc k + n ≡ k + suc n = omega arith in
+      ap (λ (y : List A). h k ++ y) (all-last (suc k) n) ∙ sym (append-assoc (h k) (allFrom h (suc k) n) (h (suc k + n))) ∙ ap (λ (x : ℕ). (h k ++ allFrom h (suc k) n) ++ h x) e
+
+  all-up : (n : ℕ) → allFrom h 0 n ≡ upTo h n
+  unfolding allFrom upTo
+  all-up zero = refl
+  all-up (suc n) = let e : 0 + n ≡ n = omega arith in all-last 0 n ∙ rw (e, all-up n)
+
+-- what each makes of one list and then another
+each-append : {A B : Type 0} (r : A → List B) (s t : List A) → each r (s ++ t) ≡ each r s ++ each r t
+each-append r [] t = refl
+each-append r (x ∷ s) t = rw (each-append r s t) (sym (append-assoc (r x) (each r s) (each r t)))
+
+module _ {A B D E : Type 0} (r : D → List E) (f : ℕ → A → B → List D) (F : ℕ → A) (G : ℕ → B) (h : ℕ → List E) where
+  each-from : (k n m : ℕ) → ((x : ℕ) → k ≤ x → x < k + n → x < k + m → each r (f x (F x) (G x)) ≡ h x) → ((x : ℕ) → k + n ≤ x → x < k + m → h x ≡ [])
+      → each r (eachAt₂ f k (listFrom F k n) (listFrom G k m)) ≡ allFrom h k m
+  unfolding listFrom allFrom
+  each-from k zero m a b = sym (all-none h k m (λ x p q. b x (omega arith) (omega arith)))
+  each-from k (suc n) zero a b = refl
+  each-from k (suc n) (suc m) a b =
+      each-append r (f k (F k) (G k)) (eachAt₂ f (suc k) (listFrom F (suc k) n) (listFrom G (suc k) m))
+      ∙ rw (a k (omega arith) (omega arith) (omega arith), each-from (suc k) n m (λ x p q w. a x (omega arith) (omega arith) (omega arith)) (λ x p q. b x (omega arith) (omega arith)))
+
+  -- where the first list ends, h makes nothing
+  pub each-list : (n m : ℕ) → ((x : ℕ) → x < n → x < m → each r (f x (F x) (G x)) ≡ h x) → ((x : ℕ) → n ≤ x → x < m → h x ≡ [])
+      → each r (eachAt₂ f 0 (listFrom F 0 n) (listFrom G 0 m)) ≡ upTo h m
+  each-list n m a b = each-from 0 n m (λ x p q w. a x (omega arith) (omega arith)) (λ x p q. b x (omega arith) (omega arith)) ∙ all-up h m

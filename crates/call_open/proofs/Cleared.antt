@@ -1,0 +1,251 @@
+-- The view of a table that was written by opening: no index is owned, and each state is UNINITIALIZED.
+use Prim.Native.Nat.{ℕ, zero, suc, _+_, _/_, _≤_, _<_, min}
+use native.Mathlib.Omega.{arith}
+use mathlib.Core.Path.{_≡_, refl, sym, ap, _∙_}
+use mathlib.Core.Bool.{Bool, true, false, not, _&&_, and-eq-true-iff, false≢true}
+use mathlib.Core.List.{List, [], _∷_}
+use mathlib.Core.Option.{Option, none, some}
+use lib.Dec.{eqb, ltb}
+use lib.ListN.{length, getD, set, replicate, drop, length-set, length-drop, length-replicate, getD-replicate}
+use lib.Seq.{getD-set-same, getD-set-other, ext-getD, sets, sets-eq}
+use borrow.Author.Tests.{eq-eqb}
+use Rattle.model.specs.declared.UsageFlags.{UsageFlags}
+use Rattle.model.specs.declared.Refusal.{Refusal}
+use Rattle.model.specs.declared.Refusal.the-variants.{NumbersOutOfLimits, FlagsBreakRule, ShortRoom}
+use Rattle.model.specs.declared.Conflict.{Conflict}
+use Rattle.model.specs.declared.Outcome.{Outcome}
+use Rattle.model.specs.declared.Outcome.the-variants as outcome
+use Rattle.model.specs.declared.Outcome.the-variants.{Done, Refused}
+use Rattle.model.specs.Base.{if_then_else_}
+use Rattle.model.specs.Flags.{isBit, meets, apart, flagsFit}
+use Rattle.model.specs.Representation.{Ends}
+use Rattle.model.specs.Sets.{Numbers, Slot, Set, Opening, emptySlot, openSet, openTracker, numbersFit}
+use Rattle.model.specs.Refusals.{firstFailing, openingRefusal, accepted, opens}
+use Rattle.model.specs.Log.{verdict}
+use Rattle.model.specs.Texture.{Held, single}
+use Rattle.set_storage.specs.Storage.{numbersOf, flagsOf, startHalf, endHalf, heldOf, endsOf, slotWith, setWith, scopeOf, trackerOf, listFrom, layersAt, maskAt, mipsAt, ownedAt, stateAt, tableLength}
+use Rattle.set_storage.specs.Lists.{list-long, list-at}
+use Rattle.set_storage.specs.Slots.{held-single}
+use Rattle.set_storage.specs.Part.{by-eq, by-lt}
+use Rattle.call_open.specs.Open.{asked, headed, clearedAt, cleared, OpenedScope, OpenedTracker}
+use Rattle.agreement.specs.OpeningLaws.{opened-numbers, opened-fits}
+use Rattle.set_wellformed.proofs.Numbers.{numbers-in}
+
+-- ---- one index
+module _ (l : List ℕ) (u k : ℕ) where
+  at-long : length (clearedAt l u k) ≡ length l
+  at-long = simp length-set
+
+  -- a word that is none of the five
+  at-other : (x : ℕ) → (x ≡ ownedAt k → ⊥) → (x ≡ mipsAt k → ⊥) → (x ≡ layersAt k → ⊥) → (x ≡ stateAt startHalf k → ⊥) → (x ≡ stateAt endHalf k → ⊥) → getD (clearedAt l u k) x 0 ≡ getD l x 0
+  at-other x a b c d e =
+      getD-set-other (set (set (set (set l (ownedAt k) 0) (mipsAt k) 0) (layersAt k) 0) (stateAt startHalf k) u) (stateAt endHalf k) x u 0 e
+      ∙ getD-set-other (set (set (set l (ownedAt k) 0) (mipsAt k) 0) (layersAt k) 0) (stateAt startHalf k) x u 0 d
+      ∙ getD-set-other (set (set l (ownedAt k) 0) (mipsAt k) 0) (layersAt k) x 0 0 c
+      ∙ getD-set-other (set l (ownedAt k) 0) (mipsAt k) x 0 0 b
+      ∙ getD-set-other l (ownedAt k) x 0 0 a
+
+  module _ (h : k < 64) (n : length l ≡ tableLength) where
+    at-end : getD (clearedAt l u k) (stateAt endHalf k) 0 ≡ u
+    at-end = getD-set-same (set (set (set (set l (ownedAt k) 0) (mipsAt k) 0) (layersAt k) 0) (stateAt startHalf k) u) (stateAt endHalf k) u 0 (simp length-set (omega arith))
+
+    at-start : getD (clearedAt l u k) (stateAt startHalf k) 0 ≡ u
+    at-start =
+        getD-set-other (set (set (set (set l (ownedAt k) 0) (mipsAt k) 0) (layersAt k) 0) (stateAt startHalf k) u) (stateAt endHalf k) (stateAt startHalf k) u 0 (λ z. omega arith)
+        ∙ getD-set-same (set (set (set l (ownedAt k) 0) (mipsAt k) 0) (layersAt k) 0) (stateAt startHalf k) u 0 (simp length-set (omega arith))
+
+    -- the words of ownership and extent: the halves' words are written after them
+    low : (x : ℕ) → x < startHalf → getD (clearedAt l u k) x 0 ≡ getD (set (set (set l (ownedAt k) 0) (mipsAt k) 0) (layersAt k) 0) x 0
+    low x q =
+        getD-set-other (set (set (set (set l (ownedAt k) 0) (mipsAt k) 0) (layersAt k) 0) (stateAt startHalf k) u) (stateAt endHalf k) x u 0 (λ z. omega arith)
+        ∙ getD-set-other (set (set (set l (ownedAt k) 0) (mipsAt k) 0) (layersAt k) 0) (stateAt startHalf k) x u 0 (λ z. omega arith)
+
+    at-layers : getD (clearedAt l u k) (layersAt k) 0 ≡ 0
+    at-layers = low (layersAt k) (omega arith) ∙ getD-set-same (set (set l (ownedAt k) 0) (mipsAt k) 0) (layersAt k) 0 0 (simp length-set (omega arith))
+
+    at-mips : getD (clearedAt l u k) (mipsAt k) 0 ≡ 0
+    at-mips =
+        low (mipsAt k) (omega arith) ∙ getD-set-other (set (set l (ownedAt k) 0) (mipsAt k) 0) (layersAt k) (mipsAt k) 0 0 (λ z. omega arith)
+        ∙ getD-set-same (set l (ownedAt k) 0) (mipsAt k) 0 0 (simp length-set (omega arith))
+
+    at-owned : getD (clearedAt l u k) (ownedAt k) 0 ≡ 0
+    at-owned =
+        low (ownedAt k) (omega arith) ∙ getD-set-other (set (set l (ownedAt k) 0) (mipsAt k) 0) (layersAt k) (ownedAt k) 0 0 (λ z. omega arith)
+        ∙ getD-set-other (set l (ownedAt k) 0) (mipsAt k) (ownedAt k) 0 0 (λ z. omega arith) ∙ getD-set-same l (ownedAt k) 0 0 (omega arith)
+
+-- ---- all of them
+cleared-long : (t : List ℕ) (u n : ℕ) → length (cleared t u n) ≡ length t
+unfolding cleared
+cleared-long t u zero = refl
+cleared-long t u (suc k) = at-long (cleared t u k) u k ∙ cleared-long t u k
+
+-- a word of the head
+cleared-head : (t : List ℕ) (u n x : ℕ) → x < 8 → getD (cleared t u n) x 0 ≡ getD t x 0
+unfolding cleared
+cleared-head t u zero x h = refl
+cleared-head t u (suc k) x h = at-other (cleared t u k) u k x (λ z. omega arith) (λ z. omega arith) (λ z. omega arith) (λ z. omega arith) (λ z. omega arith) ∙ cleared-head t u k x h
+
+-- the word at b + i of an index, where the five words of two indices do not meet
+module _ (t : List ℕ) (u b v : ℕ) (long : length t ≡ tableLength)
+    (here : (l : List ℕ) (k : ℕ) → k < 64 → length l ≡ tableLength → getD (clearedAt l u k) (b + k) 0 ≡ v)
+    (far : (l : List ℕ) (k i : ℕ) → k < 64 → i < 64 → (i ≡ k → ⊥) → getD (clearedAt l u k) (b + i) 0 ≡ getD l (b + i) 0) where
+  cleared-word : (n i : ℕ) → n ≤ 64 → i < n → getD (cleared t u n) (b + i) 0 ≡ v
+  unfolding cleared
+  cleared-word zero i m h = absurd (omega arith)
+  cleared-word (suc k) i m h =
+      by-eq i k
+      (λ e. rw e (here (cleared t u k) k (omega arith) (cleared-long t u k ∙ long)))
+      (λ ne. far (cleared t u k) k i (omega arith) (omega arith) ne ∙ cleared-word k i (omega arith) (by-lt i k (λ q. q) (λ q. absurd (ne (omega arith)))))
+
+-- ---- the flags that fit have UNINITIALIZED apart from COMPLEX
+fourth : (a b c d e f g h : Bool) → a && b && c && d && e && f && g && h ≡ true → d ≡ true
+fourth a b c d e f g h q =
+    let x = and-eq-true-iff (a && b && c && d && e && f && g) h .0 q in
+    let y = and-eq-true-iff (a && b && c && d && e && f) g .0 (x .0) in
+    let z = and-eq-true-iff (a && b && c && d && e) f .0 (y .0) in
+    let w = and-eq-true-iff (a && b && c && d) e .0 (z .0) in
+    and-eq-true-iff (a && b && c) d .0 (w .0) .1
+
+flags-apart : (p : UsageFlags) → flagsFit p ≡ true → p .uninitialized ≡ p .complex → ⊥
+unfolding flagsFit
+flags-apart p e z =
+    let a = and-eq-true-iff (isBit (p .unknown)) (apart p) .0 e .1 in
+    let b = fourth (ltb (p .exclusive) 65536) (isBit (p .uninitialized)) (isBit (p .complex)) (not (eqb (p .uninitialized) (p .complex))) (not (eqb (p .uninitialized) (p .unknown))) (not (eqb (p .complex) (p .unknown))) (not (meets (p .complex) (p .exclusive))) (not (meets (p .unknown) (p .exclusive))) a in
+    false≢true (rw (eq-eqb (p .uninitialized) (p .complex) z) at b)
+
+-- ---- the view
+module _ (t : List ℕ) (n m w : ℕ) (p : UsageFlags) (mask : ℕ) (long : length t ≡ tableLength) (few : n ≤ 64) (fit : flagsFit p ≡ true) where
+  abbrev h : List ℕ
+  h = headed t n m w p mask
+
+  abbrev t′ : List ℕ
+  t′ = cleared h (p .uninitialized) n
+
+  abbrev d : Numbers
+  d = record { textures = n; mips = m; layers = w }
+
+  head-is : h ≡ n ∷ m ∷ w ∷ p .exclusive ∷ p .uninitialized ∷ p .complex ∷ p .unknown ∷ mask ∷ drop 8 t
+  head-is = sets-eq (n ∷ m ∷ w ∷ p .exclusive ∷ p .uninitialized ∷ p .complex ∷ p .unknown ∷ mask ∷ []) t 0 (omega arith)
+
+  head-long : length h ≡ tableLength
+  head-long = ap length head-is ∙ simp length-drop (omega arith)
+
+  word : (x v : ℕ) → x < 8 → getD (n ∷ m ∷ w ∷ p .exclusive ∷ p .uninitialized ∷ p .complex ∷ p .unknown ∷ mask ∷ drop 8 t) x 0 ≡ v → getD t′ x 0 ≡ v
+  word x v q e = cleared-head h (p .uninitialized) n x q ∙ ap (λ (l : List ℕ). getD l x 0) head-is ∙ e
+
+  numbers-are : numbersOf t′ ≡ d
+  numbers-are = rw (word 0 n (omega arith) refl, word 1 m (omega arith) refl, word 2 w (omega arith) refl)
+
+  flags-are : flagsOf t′ ≡ p
+  flags-are = rw (word 3 (p .exclusive) (omega arith) refl, word 4 (p .uninitialized) (omega arith) refl, word 5 (p .complex) (omega arith) refl, word 6 (p .unknown) (omega arith) refl)
+
+  mask-is : getD t′ maskAt 0 ≡ mask
+  mask-is = word 7 mask (omega arith) refl
+
+  module _ (i : ℕ) (q : i < n) where
+    owned-at : getD t′ (ownedAt i) 0 ≡ 0
+    owned-at = cleared-word h (p .uninitialized) 8 0 head-long (λ l k a b. at-owned l (p .uninitialized) k a b)
+        (λ l k j a b ne. at-other l (p .uninitialized) k (ownedAt j) (λ z. ne (omega arith)) (λ z. omega arith) (λ z. omega arith) (λ z. omega arith) (λ z. omega arith)) n i few q
+
+    mips-at : getD t′ (mipsAt i) 0 ≡ 0
+    mips-at = cleared-word h (p .uninitialized) 72 0 head-long (λ l k a b. at-mips l (p .uninitialized) k a b)
+        (λ l k j a b ne. at-other l (p .uninitialized) k (mipsAt j) (λ z. omega arith) (λ z. ne (omega arith)) (λ z. omega arith) (λ z. omega arith) (λ z. omega arith)) n i few q
+
+    layers-at : getD t′ (layersAt i) 0 ≡ 0
+    layers-at = cleared-word h (p .uninitialized) 136 0 head-long (λ l k a b. at-layers l (p .uninitialized) k a b)
+        (λ l k j a b ne. at-other l (p .uninitialized) k (layersAt j) (λ z. omega arith) (λ z. omega arith) (λ z. ne (omega arith)) (λ z. omega arith) (λ z. omega arith)) n i few q
+
+    start-at : getD t′ (stateAt startHalf i) 0 ≡ p .uninitialized
+    start-at = cleared-word h (p .uninitialized) startHalf (p .uninitialized) head-long (λ l k a b. at-start l (p .uninitialized) k a b)
+        (λ l k j a b ne. at-other l (p .uninitialized) k (stateAt startHalf j) (λ z. omega arith) (λ z. omega arith) (λ z. omega arith) (λ z. ne (omega arith)) (λ z. omega arith)) n i few q
+
+    end-at : getD t′ (stateAt endHalf i) 0 ≡ p .uninitialized
+    end-at = cleared-word h (p .uninitialized) endHalf (p .uninitialized) head-long (λ l k a b. at-end l (p .uninitialized) k a b)
+        (λ l k j a b ne. at-other l (p .uninitialized) k (stateAt endHalf j) (λ z. omega arith) (λ z. omega arith) (λ z. omega arith) (λ z. omega arith) (λ z. ne (omega arith))) n i few q
+
+    -- a half whose word is UNINITIALIZED
+    held-at : (b : ℕ) (r : List ℕ) → getD t′ (b + i) 0 ≡ p .uninitialized → heldOf d b t′ r i ≡ single (p .uninitialized)
+    held-at b r e = held-single d b t′ r i (λ z. flags-apart p fit (sym e ∙ z ∙ word 5 (p .complex) (omega arith) refl)) ∙ ap single e
+
+  slots-are : {H : Type 0} (held : ℕ → H) (x : H) → ((i : ℕ) → i < n → held i ≡ x) → listFrom (slotWith held t′) 0 n ≡ replicate n (emptySlot x)
+  slots-are held x e =
+      ext-getD (emptySlot x) (listFrom (slotWith held t′) 0 n) (replicate n (emptySlot x)) (list-long (slotWith held t′) 0 n ∙ sym (length-replicate n (emptySlot x)))
+      (λ i l. let q : i < n = omega (arith, list-long (slotWith held t′) 0 n) in
+      let y : slotWith held t′ i ≡ emptySlot x = rw (owned-at i q, mips-at i q, layers-at i q, e i q) in
+      list-at (slotWith held t′) n i (emptySlot x) q ∙ y ∙ sym (getD-replicate n i (emptySlot x) (emptySlot x) q))
+
+  scope-opened : (r : List ℕ) (room : ℕ) → scopeOf t′ r ≡ openSet single (asked n m w p mask room)
+  unfolding scopeOf
+  scope-opened r room =
+      rw (numbers-are, flags-are, word 0 n (omega arith) refl, slots-are (heldOf d startHalf t′ r) (single (p .uninitialized)) (λ i q. held-at i q startHalf r (start-at i q)))
+
+  tracker-opened : (s e : List ℕ) (room : ℕ) → trackerOf t′ s e ≡ openTracker single (asked n m w p mask room)
+  unfolding trackerOf
+  tracker-opened s e room =
+      rw (
+        mask-is,
+        numbers-are,
+        flags-are,
+        word 0 n (omega arith) refl,
+        slots-are (endsOf d t′ s e) (record { start = single (p .uninitialized); end = single (p .uninitialized) })
+            (λ i q. rw (held-at i q startHalf s (start-at i q), held-at i q endHalf e (end-at i q))),
+      )
+
+-- ---- what the answer says of the opening
+done-opens : (q : Option Refusal) → Done ≡ verdict q → accepted q ≡ true
+done-opens none e = refl
+done-opens (some r) e = absurd (let z : _≡_ {A = ℕ} 0 1 = cc in omega arith)
+
+refused-shuts : (q : Option Refusal) (r : Refusal) → Refused r ≡ verdict q → accepted q ≡ false
+refused-shuts none r e = absurd (let z : _≡_ {A = ℕ} 0 1 = cc in omega arith)
+refused-shuts (some x) r e = refl
+
+conflict-never : (q : Option Refusal) (k : Conflict) → outcome.Conflict k ≡ verdict q → ⊥
+conflict-never none k e = let z : _≡_ {A = ℕ} 0 1 = cc in omega arith
+conflict-never (some x) k e = let z : _≡_ {A = ℕ} 0 1 = cc in omega arith
+
+opened-few : (o : Opening) → opens o ≡ true → o .numbers .textures ≤ 64
+opened-few o e = numbers-in (o .numbers .textures) (o .numbers .mips) (o .numbers .layers) (opened-numbers o e) .textures .high
+
+pub few-of : (n m w : ℕ) (p : UsageFlags) (mask room : ℕ) → Done ≡ verdict (openingRefusal (asked n m w p mask room)) → n ≤ 64
+few-of n m w p mask room e = opened-few (asked n m w p mask room) (done-opens (openingRefusal (asked n m w p mask room)) e)
+
+-- ---- the contracts
+module _ (t r : List ℕ) (n m w : ℕ) (p : UsageFlags) where
+  abbrev asks : Opening
+  asks = asked n m w p 0 (length r / 3)
+
+  pub scope-done : length t ≡ tableLength → Done ≡ verdict (openingRefusal asks) → OpenedScope t r n m w p Done (cleared (headed t n m w p 0) (p .uninitialized) n)
+  scope-done long q =
+      let o : opens asks ≡ true = done-opens (openingRefusal asks) q in
+      record { answer = q; content = rw o; view = λ _. scope-opened t n m w p 0 long (opened-few asks o) (opened-fits asks o) r (length r / 3) }
+
+  pub scope-refused : (x : Refusal) → Refused x ≡ verdict (openingRefusal asks) → OpenedScope t r n m w p (Refused x) t
+  scope-refused x q =
+      let o : opens asks ≡ false = refused-shuts (openingRefusal asks) x q in
+      record { answer = q; content = rw o; view = λ z. absurd (false≢true (sym o ∙ z)) }
+
+  pub scope-conflict : (k : Conflict) → outcome.Conflict k ≡ verdict (openingRefusal asks) → OpenedScope t r n m w p (outcome.Conflict k) t
+  scope-conflict k q = absurd (conflict-never (openingRefusal asks) k q)
+
+module _ (t s e : List ℕ) (n m w : ℕ) (p : UsageFlags) (mask : ℕ) where
+  abbrev asks-both : Opening
+  asks-both = asked n m w p mask (min (length s / 3) (length e / 3))
+
+  pub tracker-done : length t ≡ tableLength → Done ≡ verdict (openingRefusal asks-both) → OpenedTracker t s e n m w p mask Done (cleared (headed t n m w p mask) (p .uninitialized) n)
+  tracker-done long q =
+      let o : opens asks-both ≡ true = done-opens (openingRefusal asks-both) q in
+      record { answer = q; content = rw o; view = λ _. tracker-opened t n m w p mask long (opened-few asks-both o) (opened-fits asks-both o) s e (min (length s / 3) (length e / 3)) }
+
+  pub tracker-refused : (x : Refusal) → Refused x ≡ verdict (openingRefusal asks-both) → OpenedTracker t s e n m w p mask (Refused x) t
+  tracker-refused x q =
+      let o : opens asks-both ≡ false = refused-shuts (openingRefusal asks-both) x q in
+      record { answer = q; content = rw o; view = λ z. absurd (false≢true (sym o ∙ z)) }
+
+  pub tracker-conflict : (k : Conflict) → outcome.Conflict k ≡ verdict (openingRefusal asks-both) → OpenedTracker t s e n m w p mask (outcome.Conflict k) t
+  tracker-conflict k q = absurd (conflict-never (openingRefusal asks-both) k q)
+
+-- the mask is not looked at
+pub any-mask : (n m w : ℕ) (p : UsageFlags) (mask room : ℕ) → openingRefusal (asked n m w p 0 room) ≡ openingRefusal (asked n m w p mask room)
+unfolding openingRefusal firstFailing
+any-mask n m w p mask room = refl

@@ -1,0 +1,42 @@
+-- What opening asks for, answers and writes.
+use Prim.Native.Nat.{ℕ, zero, suc, _+_, _/_, _≤_, _<_, min}
+use mathlib.Core.Path.{_≡_}
+use mathlib.Core.Bool.{Bool, true, false}
+use mathlib.Core.List.{List, [], _∷_}
+use lib.ListN.{length, set}
+use lib.Seq.{sets}
+use Rattle.model.specs.declared.UsageFlags.{UsageFlags}
+use Rattle.model.specs.declared.Outcome.{Outcome}
+use Rattle.model.specs.Base.{if_then_else_}
+use Rattle.model.specs.Sets.{Opening, openSet, openTracker}
+use Rattle.model.specs.Refusals.{openingRefusal, opens}
+use Rattle.model.specs.Log.{verdict}
+use Rattle.model.specs.Texture.{single}
+use Rattle.set_storage.specs.Storage.{scopeOf, trackerOf, endHalf, layersAt, mipsAt, ownedAt, startHalf, stateAt}
+
+abbrev pub asked : ℕ → ℕ → ℕ → UsageFlags → ℕ → ℕ → Opening
+asked n m w p mask room = record { numbers = record { textures = n; mips = m; layers = w }; flags = p; mask = mask; room = room }
+
+-- ---- The table, number by number
+abbrev pub headed : List ℕ → ℕ → ℕ → ℕ → UsageFlags → ℕ → List ℕ
+headed t n m w p mask = sets t 0 (n ∷ m ∷ w ∷ p .exclusive ∷ p .uninitialized ∷ p .complex ∷ p .unknown ∷ mask ∷ [])
+
+-- index k: not owned, no extent, in the state u
+abbrev pub clearedAt : List ℕ → ℕ → ℕ → List ℕ
+clearedAt t u k = set (set (set (set (set t (ownedAt k) 0) (mipsAt k) 0) (layersAt k) 0) (stateAt startHalf k) u) (stateAt endHalf k) u
+
+unfoldable pub cleared : List ℕ → ℕ → ℕ → List ℕ
+cleared t u zero = t
+cleared t u (suc k) = clearedAt (cleared t u k) u k
+
+-- THE CONTRACTS: the answer; the table as it was, or written; and then its view
+pub record OpenedScope (t r : List ℕ) (n m w : ℕ) (p : UsageFlags) (x : Outcome) (t′ : List ℕ) : Type 0 where
+  pub answer : x ≡ verdict (openingRefusal (asked n m w p 0 (length r / 3)))
+  pub content : t′ ≡ (if opens (asked n m w p 0 (length r / 3)) then cleared (headed t n m w p 0) (p .uninitialized) n else t)
+  pub view : opens (asked n m w p 0 (length r / 3)) ≡ true → scopeOf t′ r ≡ openSet single (asked n m w p 0 (length r / 3))
+
+-- a tracker's room is that of its start or of its end, whichever is less
+pub record OpenedTracker (t s e : List ℕ) (n m w : ℕ) (p : UsageFlags) (mask : ℕ) (x : Outcome) (t′ : List ℕ) : Type 0 where
+  pub answer : x ≡ verdict (openingRefusal (asked n m w p mask (min (length s / 3) (length e / 3))))
+  pub content : t′ ≡ (if opens (asked n m w p mask (min (length s / 3) (length e / 3))) then cleared (headed t n m w p mask) (p .uninitialized) n else t)
+  pub view : opens (asked n m w p mask (min (length s / 3) (length e / 3))) ≡ true → trackerOf t′ s e ≡ openTracker single (asked n m w p mask (min (length s / 3) (length e / 3)))

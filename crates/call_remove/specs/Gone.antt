@@ -1,0 +1,25 @@
+-- What the sparse call names, and the scope's table once it no longer owns it.
+use Prim.Native.Nat.{ℕ, zero, suc, _+_, _<_}
+use mathlib.Core.Path.{_≡_, refl, ap}
+use mathlib.Core.Bool.{true}
+use mathlib.Core.List.{List, [], _∷_}
+use lib.ListN.{length, getD, set}
+use Rattle.set_storage.specs.Storage.{ownedAt, ownedOf}
+
+-- index j stands in the list, and the scope with the table g owns it
+pub record Listed (is g : List ℕ) (j : ℕ) : Type 0 where
+  pub at : ℕ
+  pub below : at < length is
+  pub here : getD is at 0 ≡ j
+  pub owned : ownedOf g j ≡ true
+
+-- the scope's table, with each listed index no longer owned: every other word stays
+unfoldable pub disowned : List ℕ → List ℕ → List ℕ
+disowned [] g = g
+disowned (i ∷ is) g = disowned is (set g (ownedAt i) 0)
+
+-- a word that is 0 may be made 0
+pub set-zero : (l : List ℕ) (k : ℕ) → getD l k 0 ≡ 0 → set l k 0 ≡ l
+set-zero [] k e = refl
+set-zero (x ∷ l) zero e = rw e
+set-zero (x ∷ l) (suc k) e = ap (λ (y : List ℕ). x ∷ y) (set-zero l k e)

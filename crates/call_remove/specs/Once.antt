@@ -1,0 +1,114 @@
+-- Lists of indices, each of which counts once: whether one was listed before, and what a list makes.
+use Prim.Native.Nat.{ℕ, zero, suc, _+_, _≤_, _<_}
+use native.Mathlib.Omega.{arith}
+use native.Mathlib.Numerals.{add-one}
+use mathlib.Core.Path.{_≡_, refl, sym, ap, _∙_}
+use mathlib.Core.Logic.{_⊎_, inl, inr}
+use mathlib.Core.Bool.{Bool, true, false, false≢true}
+use mathlib.Core.List.{List, [], _∷_, _++_, append-assoc, append-nil}
+use lib.Dec.{eqb}
+use lib.ListN.{length, getD, take, drop}
+use lib.Seq.{take-suc, drop-cons, drop-length}
+use borrow.Author.Tests.{eq-eqb, ne-eqb, eqb-true, eqb-false}
+use Rattle.model.specs.Base.{if_then_else_, each}
+use Rattle.agreement.specs.LogBound.{listed}
+use Rattle.call_join.specs.Adds.{upTo}
+
+-- ---- Whether an index is listed
+-- one more index at the end
+listed-last : (is : List ℕ) (i j : ℕ) → listed j (is ++ (i ∷ [])) ≡ (if listed j is then true else eqb i j)
+listed-last [] i j = go (eqb i j)
+  where
+    go : (b : Bool) → (if b then true else false) ≡ b
+    go true = refl
+    go false = refl
+listed-last (x ∷ is) i j = go (eqb x j) (listed-last is i j)
+  where
+    go : (b : Bool) → listed j (is ++ (i ∷ [])) ≡ (if listed j is then true else eqb i j) → (if b then true else listed j (is ++ (i ∷ []))) ≡ (if (if b then true else listed j is) then true else eqb i j)
+    go true e = refl
+    go false e = e
+
+-- not after one more index: not before it, and it is another
+pub not-listed : (is : List ℕ) (i j : ℕ) → listed j (is ++ (i ∷ [])) ≡ false → (listed j is ≡ false) × (j ≡ i → ⊥)
+not-listed is i j e = go (listed j is) (sym (listed-last is i j) ∙ e)
+  where
+    go : (b : Bool) → (if b then true else eqb i j) ≡ false → (b ≡ false) × (j ≡ i → ⊥)
+    go true z = absurd (false≢true (sym z))
+    go false z = (refl, λ w. eqb-false i j z (sym w))
+
+-- after one more index: before it, or it is that
+pub is-listed : (is : List ℕ) (i j : ℕ) → listed j (is ++ (i ∷ [])) ≡ true → (listed j is ≡ true) ⊎ (j ≡ i)
+is-listed is i j e = go (listed j is) (sym (listed-last is i j) ∙ e)
+  where
+    go : (b : Bool) → (if b then true else eqb i j) ≡ true → (b ≡ true) ⊎ (j ≡ i)
+    go true z = inl refl
+    go false z = inr (sym (eqb-true i j z))
+
+-- ---- A scan of the first k
+-- the next is another
+pub scan-next : (is : List ℕ) (i k : ℕ) → k < length is → listed i (take k is) ≡ false → (getD is k 0 ≡ i → ⊥) → listed i (take (k + 1) is) ≡ false
+scan-next is i k h e ne = rw (add-one, take-suc is k 0 h, listed-last (take k is) (getD is k 0) i, e, ne-eqb (getD is k 0) i ne)
+
+-- it stands among them
+pub scan-found : (is : List ℕ) (i j k : ℕ) → j < k → k ≤ length is → getD is j 0 ≡ i → listed i (take k is) ≡ true
+scan-found [] i j k a b e = absurd (omega arith)
+scan-found (x ∷ is) i j zero a b e = absurd (omega arith)
+scan-found (x ∷ is) i zero (suc k) a b e = rw (eq-eqb x i e)
+scan-found (x ∷ is) i (suc j) (suc k) a b e = go (eqb x i) (scan-found is i j k (omega arith) (omega arith) e)
+  where
+    go : (b : Bool) → listed i (take k is) ≡ true → (if b then true else listed i (take k is)) ≡ true
+    go true z = refl
+    go false z = z
+
+-- ---- What f makes of the indices of a list, in its order, of each once and of those in `seen` no more
+unfoldable pub eachOnce : {A : Type 0} → (ℕ → List A) → List ℕ → List ℕ → List A
+eachOnce f seen [] = []
+eachOnce f seen (i ∷ is) = (if listed i seen then [] else f i) ++ eachOnce f (seen ++ (i ∷ [])) is
+
+-- at position k of the list
+abbrev pub onceAt : {A : Type 0} → (ℕ → List A) → List ℕ → ℕ → List A
+onceAt f is k = if listed (getD is k 0) (take k is) then [] else f (getD is k 0)
+
+module _ {A : Type 0} (f : ℕ → List A) (is : List ℕ) where
+  -- position k first
+  once-next : (k : ℕ) → k < length is → eachOnce f (take k is) (drop k is) ≡ onceAt f is k ++ eachOnce f (take (suc k) is) (drop (suc k) is)
+  unfolding eachOnce
+  once-next k h = rw (drop-cons is k 0 h, take-suc is k 0 h)
+
+  -- the first k positions, and then the others
+  once-front : (k : ℕ) → k ≤ length is → upTo (onceAt f is) k ++ eachOnce f (take k is) (drop k is) ≡ eachOnce f [] is
+  unfolding upTo
+  once-front zero h = refl
+  once-front (suc k) h =
+      append-assoc (upTo (onceAt f is) k) (onceAt f is k) (eachOnce f (take (suc k) is) (drop (suc k) is))
+      ∙ ap (λ (y : List A). upTo (onceAt f is) k ++ y) (sym (once-next k h)) ∙ once-front k (omega arith)
+
+  -- one position after another
+  pub once-up : eachOnce f [] is ≡ upTo (onceAt f is) (length is)
+  unfolding eachOnce
+  once-up =
+      sym (once-front (length is) (omega arith))
+      ∙ ap (λ (y : List ℕ). upTo (onceAt f is) (length is) ++ eachOnce f (take (length is) is) y) (drop-length is) ∙ append-nil (upTo (onceAt f is) (length is))
+
+-- what is made alike at each position
+pub up-ext : {A : Type 0} (f g : ℕ → List A) (n : ℕ) → ((k : ℕ) → k < n → f k ≡ g k) → upTo f n ≡ upTo g n
+unfolding upTo
+up-ext f g zero e = refl
+up-ext f g (suc n) e = rw (up-ext f g n (λ k h. e k (omega arith)), e n (omega arith))
+
+-- what r makes of one list after another
+each-append : {A B : Type 0} (r : A → List B) (s t : List A) → each r (s ++ t) ≡ each r s ++ each r t
+each-append r [] t = refl
+each-append r (x ∷ s) t = rw (each-append r s t) (sym (append-assoc (r x) (each r s) (each r t)))
+
+-- what r makes of all that
+pub once-each : {A B : Type 0} (r : A → List B) (f : ℕ → List A) (seen is : List ℕ) → each r (eachOnce f seen is) ≡ eachOnce (λ (i : ℕ). each r (f i)) seen is
+unfolding eachOnce
+once-each r f seen [] = refl
+once-each r f seen (i ∷ is) =
+    each-append r (if listed i seen then [] else f i) (eachOnce f (seen ++ (i ∷ [])) is)
+    ∙ rw (once-each r f (seen ++ (i ∷ [])) is, go (listed i seen))
+  where
+    go : (b : Bool) → each r (if b then [] else f i) ≡ (if b then [] else each r (f i))
+    go true = refl
+    go false = refl

@@ -1,0 +1,15 @@
+-- `joins` is the model's test: the two comparisons, in its order.
+use borrow.Author.Tests.{eq-eqb, ne-eqb}
+use Rattle.range_states.proofs.coalescing.joins.Statement.{statement}
+use Rattle.range_states.proofs.coalescing.joins.Tie as tie
+
+returns : tie.Need-returns
+returns c = simp (eq-eqb _ _ (c .before .before .if1 .taken))
+
+returns-2 : tie.Need-returns-2
+returns-2 c = simp (ne-eqb _ _ (c .if1 .left))
+
+pub joins-spec : {M : Type 1} → statement M
+joins-spec =
+    tie.close
+    (tie.spec returns returns-2)

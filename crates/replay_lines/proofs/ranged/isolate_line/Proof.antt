@@ -1,0 +1,20 @@
+-- The records that are borrowed lie within the room.
+use native.Mathlib.Omega.{arith}
+use Prim.Native.Nat.{_*_}
+use lib.Seq.{length-take-le}
+use borrow.Author.Needs.{needs}
+use Rattle.replay_lines.proofs.ranged.isolate_line.Statement.{statement}
+use Rattle.replay_lines.proofs.ranged.isolate_line.Tie as tie
+
+slice-aggregate-isolate-on : tie.Need-slice-aggregate-isolate-on
+slice-aggregate-isolate-on c = let q = length-take-le (3 * (c .before .before .wide .result)) (c .before .before .before .before .before .before .before .args .records .now) (c .before .if1 .taken) in omega arith
+
+isolate-on-requires : tie.Need-isolate-on-requires
+isolate-on-requires c κs = let q = length-take-le (3 * (c .before .before .before .wide .result)) (c .before .before .before .before .before .before .before .before .args .records .now) (c .before .before .if1 .taken) in ((c .before .before .before .before .borrowed .ensures), omega (arith, (c .before .before .before .wide .ensures)))
+
+pub isolate-line-spec : {M : Type 1} → statement M
+isolate-line-spec =
+    tie.close
+    (tie.spec (λ c κs. search needs) (λ c κs. search needs) (λ c κs. search needs) (λ c. search needs)
+    (λ c. search needs) slice-aggregate-isolate-on isolate-on-requires (λ c. search needs) (λ c. search needs)
+    (λ c. search needs))

@@ -1,0 +1,19 @@
+-- `run` stays within the run.
+use Prim.Native.Nat.{_-_, _≤_}
+use lib.ListN.{length}
+use borrow.Author.Needs.{needs}
+use Rattle.replay_lines.proofs.ranged.run.Statement.{statement}
+use Rattle.replay_lines.proofs.ranged.run.Tie as tie
+
+abbrev Inv-loop : tie.InvT-loop
+Inv-loop out₀ s i₀ out i = i ≤ length s
+
+abbrev μ-loop : tie.MeasureT-loop
+μ-loop out₀ s i₀ out i = length s - i
+
+pub run-spec : {M : Type 1} → statement M
+run-spec =
+    tie.close
+    (tie.spec Inv-loop μ-loop (λ c. search needs) (λ c. search needs) (λ c. search needs) (λ c κs. search needs)
+    (λ c κs. search needs) (λ c. search needs) (λ c. search needs) (λ c. search needs) (λ c κs. search needs)
+    (λ c. search needs))

@@ -1,0 +1,14 @@
+-- An index that is not owned has no extent to differ from.
+use Rattle.set_checks.proofs.Passing.{other-is}
+use borrow.Author.Needs.{needs}
+use Rattle.set_checks.proofs.other_extent.Statement.{statement}
+use Rattle.set_checks.proofs.other_extent.Tie as tie
+
+returns : tie.Need-returns
+returns c = other-is ((c .before .before .before .before .before .args) .table .now) ((c .before .before .before .before .before .args) .k) ((c .before .before .before .before .before .args) .extent)
+
+pub other-extent-spec : {M : Type 1} → statement M
+other-extent-spec =
+    tie.close
+    (tie.spec (λ c. search needs) (λ c. search needs) (λ c. search needs) (λ c. search needs) (λ c. search needs)
+    (λ c. search needs) (λ c. search needs) (λ c. search needs) (λ c. search needs) returns)

@@ -1,0 +1,37 @@
+-- `check_each`: index by index; the first check that fails is told.
+use Prim.Native.Nat.{_-_}
+use Rattle.model.specs.Refusals.{setRefusal}
+use Rattle.set_checks.specs.Head.{headIn}
+use Rattle.set_checks.specs.Sets.{ownedRefusal}
+use Rattle.set_checks.proofs.Turns.{Left, turn, stop, never, end, set-begins}
+use borrow.Author.Needs.{needs}
+use Rattle.set_checks.proofs.sets.check_each.Statement.{statement}
+use Rattle.set_checks.proofs.sets.check_each.Tie as tie
+
+abbrev Inv-loop : tie.InvT-loop
+Inv-loop table given n i₀ i = Left (ownedRefusal table given) n (setRefusal (headIn table) (headIn given)) i
+
+abbrev μ-loop : tie.MeasureT-loop
+μ-loop table given n i₀ i = n - i
+
+loop-holds : tie.Need-loop-holds Inv-loop μ-loop
+loop-holds c = set-begins _ _ (c .before .pre .1)
+
+loop-again : tie.Need-loop-again Inv-loop μ-loop
+loop-again c = turn (c .before .before .before .before .loop .inv) (c .before .before .before .loop-test .taken) ((c .before .before .check-owned .ensures) .is) ((c .enum-told .given) .1)
+
+returns : tie.Need-returns Inv-loop μ-loop
+returns c = record { is = stop (c .before .before .before .before .before .loop .inv) (c .before .before .before .before .loop-test .taken) ((c .before .before .before .check-owned .ensures) .is) ((c .before .r .given) .1) }
+
+returns-2 : tie.Need-returns-2 Inv-loop μ-loop
+returns-2 c = absurd (never (c .before .before .before .before .before .loop .inv) ((c .before .before .before .check-owned .ensures) .is) ((c .before .k .given) .1))
+
+returns-3 : tie.Need-returns-3 Inv-loop μ-loop
+returns-3 c = record { is = end (c .before .loop .inv) (c .loop-test .left) }
+
+pub check-each-spec : {M : Type 1} → statement M
+check-each-spec =
+    tie.close
+    (tie.spec Inv-loop μ-loop (λ c. search needs) loop-holds (λ c κs. search needs) (λ c. search needs)
+    (λ c. search needs) (λ c. search needs) loop-again (λ c. search needs) returns (λ c. search needs) returns-2
+    returns-3)

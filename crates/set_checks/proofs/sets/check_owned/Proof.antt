@@ -1,0 +1,18 @@
+-- `check_owned`: an index that is not owned has no check, another those of its extent.
+use borrow.Author.Needs.{needs}
+use Rattle.set_checks.proofs.Verdicts.{other-tells, owned-tells}
+use Rattle.set_checks.proofs.sets.check_owned.Statement.{statement}
+use Rattle.set_checks.proofs.sets.check_owned.Tie as tie
+
+returns : tie.Need-returns
+returns c = other-tells _ _ _ (rw ((c .before .before .wide .ensures) .0) at (c .if1 .taken))
+
+returns-2 : tie.Need-returns-2
+returns-2 c = owned-tells _ _ _ (rw ((c .before .before .before .before .before .wide .ensures) .0) at (c .before .before .before .if1 .left)) (rw ((c .before .before .before .before .before .wide .ensures) .0) at (c .check-texture .ensures))
+
+pub check-owned-spec : {M : Type 1} → statement M
+check-owned-spec =
+    tie.close
+    (tie.spec (λ c κs. search needs) (λ c. search needs) (λ c. search needs) (λ c. search needs) returns
+    (λ c. search needs) (λ c. search needs) (λ c. search needs) (λ c. search needs) (λ c. search needs)
+    (λ c. search needs) (λ c κs. search needs) returns-2)

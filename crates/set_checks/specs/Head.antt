@@ -1,0 +1,97 @@
+-- What the checks read of a table: the head of its view.
+use Prim.Native.Nat.{ℕ, zero, suc, _+_, _<_}
+use native.Mathlib.Omega.{arith}
+use mathlib.Core.Path.{_≡_, refl, ap, _∙_}
+use mathlib.Core.Bool.{Bool, true, false}
+use mathlib.Core.List.{List, [], _∷_, _++_, map}
+use mathlib.Core.Option.{Option, none, some}
+use lib.ListN.{getD}
+use Rattle.model.specs.declared.UsageFlags.{UsageFlags}
+use Rattle.model.specs.declared.Extent.{Extent}
+use Rattle.model.specs.declared.Refusal.{Refusal}
+use Rattle.model.specs.declared.Selector.{Selector}
+use Rattle.model.specs.declared.Selection.{Selection}
+use Rattle.model.specs.declared.Selection.the-variants.{Full, Part}
+use Rattle.model.specs.Base.{if_then_else_}
+use Rattle.model.specs.Sets.{Head, ownExtent, headOf}
+use Rattle.model.specs.Refusals.{Check, firstFailing, textureChecks, selectorChecks, stateChecks, singleRefusal}
+use Rattle.model.specs.Log.{verdict, orNext}
+use Rattle.model.specs.declared.Outcome.{Outcome}
+use Rattle.set_storage.specs.Storage.{numbersOf, flagsOf, ownedOf, extentOf, slotWith, setWith, scopeOf, trackerOf, listFrom, texturesAt}
+use Rattle.set_storage.specs.Lists.{list-at}
+
+-- the extent of an index that is owned
+abbrev pub ownedExtent : List ℕ → ℕ → Option Extent
+ownedExtent t i = if ownedOf t i then some (extentOf t i) else none
+
+abbrev pub headIn : List ℕ → Head
+headIn t = record { numbers = numbersOf t; flags = flagsOf t; extents = listFrom (ownedExtent t) 0 (getD t texturesAt 0) }
+
+-- a selection, as the model takes it
+abbrev pub selectorOf : Selection → Option Selector
+selectorOf Full = none
+selectorOf (Part q) = some q
+
+-- ---- The checks of a call on one texture, in three parts, and all of them
+unfoldable pub textureRefusal : List ℕ → ℕ → Extent → Option Refusal
+textureRefusal t i sh = firstFailing (textureChecks (headIn t) i sh)
+
+unfoldable pub selectorRefusal : Extent → Selection → Option Refusal
+selectorRefusal sh s = firstFailing (selectorChecks sh (selectorOf s))
+
+unfoldable pub stateRefusal : UsageFlags → ℕ → Option Refusal
+stateRefusal p st = firstFailing (stateChecks p st)
+
+unfoldable pub useRefusal : List ℕ → ℕ → Extent → Selection → ℕ → Option Refusal
+useRefusal t i sh s st = singleRefusal (headIn t) i sh (selectorOf s) st
+
+-- THE CONTRACTS: the answer of each
+pub record TextureTold (t : List ℕ) (i : ℕ) (sh : Extent) (x : Outcome) : Type 0 where
+  pub is : x ≡ verdict (textureRefusal t i sh)
+
+pub record SelectorTold (sh : Extent) (s : Selection) (x : Outcome) : Type 0 where
+  pub is : x ≡ verdict (selectorRefusal sh s)
+
+pub record StateTold (p : UsageFlags) (st : ℕ) (x : Outcome) : Type 0 where
+  pub is : x ≡ verdict (stateRefusal p st)
+
+pub record UseTold (t : List ℕ) (i : ℕ) (sh : Extent) (s : Selection) (st : ℕ) (x : Outcome) : Type 0 where
+  pub is : x ≡ verdict (useRefusal t i sh s st)
+
+-- ---- it is the head of a scope's view and of a tracker's
+extents-are : {H : Type 0} (held : ℕ → H) (t : List ℕ) (k n : ℕ) → map ownExtent (listFrom (slotWith held t) k n) ≡ listFrom (ownedExtent t) k n
+unfolding listFrom
+extents-are held t k zero = refl
+extents-are held t k (suc n) = rw (extents-are held t (suc k) n)
+
+pub head-is : {H : Type 0} (held : ℕ → H) (t : List ℕ) → headOf (setWith held t) ≡ headIn t
+head-is held t = rw (extents-are held t 0 (getD t texturesAt 0))
+
+pub scope-head : (t r : List ℕ) → headOf (scopeOf t r) ≡ headIn t
+unfolding scopeOf
+scope-head t r = head-is _ t
+
+pub tracker-head : (t s e : List ℕ) → headOf (trackerOf t s e .set) ≡ headIn t
+unfolding trackerOf
+tracker-head t s e = head-is _ t
+
+-- an index within the set
+pub extent-at : (t : List ℕ) (i : ℕ) → i < getD t texturesAt 0 → getD (headIn t .extents) i none ≡ ownedExtent t i
+extent-at t i h = list-at (ownedExtent t) (getD t texturesAt 0) i none h
+
+-- ---- one list of checks after another
+pub checks-append : (xs ys : List Check) → firstFailing (xs ++ ys) ≡ orNext (firstFailing xs) (firstFailing ys)
+unfolding firstFailing
+checks-append [] ys = refl
+checks-append (c ∷ xs) ys = go (c .fails) (checks-append xs ys)
+  where
+    go : (b : Bool) → firstFailing (xs ++ ys) ≡ orNext (firstFailing xs) (firstFailing ys)
+        → (if b then some (c .answer) else firstFailing (xs ++ ys)) ≡ orNext (if b then some (c .answer) else firstFailing xs) (firstFailing ys)
+    go true e = refl
+    go false e = e
+
+pub use-splits : (t : List ℕ) (i : ℕ) (sh : Extent) (s : Selection) (st : ℕ) → useRefusal t i sh s st ≡ orNext (orNext (textureRefusal t i sh) (selectorRefusal sh s)) (stateRefusal (flagsOf t) st)
+unfolding useRefusal textureRefusal selectorRefusal stateRefusal
+use-splits t i sh s st =
+    checks-append (textureChecks (headIn t) i sh ++ selectorChecks sh (selectorOf s)) (stateChecks (flagsOf t) st)
+    ∙ ap (λ (o : Option Refusal). orNext o (firstFailing (stateChecks (flagsOf t) st))) (checks-append (textureChecks (headIn t) i sh) (selectorChecks sh (selectorOf s)))

@@ -1,0 +1,174 @@
+-- What checks that passed show: of a texture, a selector, a state, a use, a set and a list.
+use Prim.Native.Nat.{ℕ, zero, suc, _≤_, _<_}
+use native.Mathlib.Omega.{arith}
+use mathlib.Core.Path.{_≡_, refl, sym}
+use mathlib.Core.Bool.{Bool, true, false, _||_, and-eq-true-iff}
+use mathlib.Core.List.{List, _∷_}
+use mathlib.Core.Option.{Option, none, some}
+use lib.Dec.{ltb, eqb}
+use lib.ListN.{length, getD}
+use borrow.Author.Tests.{ltb-true, ltb-false, eqb-true, eqb-false, not-false}
+use Rattle.model.specs.declared.Extent.{Extent}
+use Rattle.model.specs.declared.Refusal.{Refusal}
+use Rattle.model.specs.declared.Refusal.the-variants.{FlagsDiffer}
+use Rattle.model.specs.declared.Selector.{Selector}
+use Rattle.model.specs.declared.Selection.{Selection}
+use Rattle.model.specs.declared.Selection.the-variants.{Part}
+use Rattle.model.specs.declared.UsageFlags.{UsageFlags}
+use Rattle.model.specs.Base.{if_then_else_}
+use Rattle.model.specs.Flags.{meets, incompatible, sameFlags}
+use Rattle.model.specs.Representation.{mipStart, mipEnd, layerStart, layerEnd}
+use Rattle.model.specs.Sets.{outside}
+use Rattle.model.specs.Refusals.{Check, firstFailing, sameExtent, otherExtent, setRefusal, sparseRefusal}
+use Rattle.model.specs.Log.{orNext}
+use Rattle.set_storage.specs.Part.{by-lt}
+use Rattle.set_storage.specs.Storage.{flagsOf, ownedOf, extentOf, layerLimitAt, mipLimitAt, texturesAt}
+use Rattle.set_checks.specs.Head.{ownedExtent, headIn, extent-at, textureRefusal, selectorRefusal, stateRefusal, useRefusal, use-splits}
+use Rattle.set_checks.specs.Verdict.{none-both}
+use Rattle.set_checks.specs.Sets.{firstOf, first-none, ownedRefusal, listedRefusal, listedAt, listed-in, listed-past, set-splits, sparse-splits}
+
+-- what 7, 8 and 9 show of texture i with extent sh
+pub record TexturePassed (t : List ℕ) (i : ℕ) (sh : Extent) : Type 0 where
+  pub texture : i < getD t texturesAt 0
+  pub mip : 0 < sh .mips
+  pub top : sh .mips ≤ getD t mipLimitAt 0
+  pub some : 0 < sh .layers
+  pub low : sh .layers ≤ getD t layerLimitAt 0
+  pub own : ownedOf t i ≡ true → extentOf t i ≡ sh
+
+-- what 10 and 11 show of a selector in an extent
+pub record SelectorPassed (sh : Extent) (q : Selector) : Type 0 where
+  pub order : mipStart q < mipEnd q
+  pub span : layerStart q < layerEnd q
+  pub in-mips : mipEnd q ≤ sh .mips
+  pub in-layers : layerEnd q ≤ sh .layers
+
+-- what 12 and 13 show of a state
+pub record StatePassed (p : UsageFlags) (st : ℕ) : Type 0 where
+  pub nonzero : st ≡ 0 → ⊥
+  pub plain : meets st (p .complex) ≡ false
+  pub known : meets st (p .unknown) ≡ false
+  pub fits : incompatible p st ≡ false
+
+-- what 6 to 9 show of every texture that a given set owns
+pub record SetPassed (t g : List ℕ) : Type 0 where
+  pub flags : flagsOf g ≡ flagsOf t
+  pub each : (i : ℕ) → i < getD g texturesAt 0 → ownedOf g i ≡ true → TexturePassed t i (extentOf g i)
+
+-- what 6 to 9 show of the listed textures that a given scope owns
+pub record SparsePassed (t g list : List ℕ) : Type 0 where
+  pub flags : flagsOf g ≡ flagsOf t
+  pub below : (k : ℕ) → k < length list → getD list k 0 < getD g texturesAt 0
+  pub each : (k : ℕ) → k < length list → ownedOf g (getD list k 0) ≡ true → TexturePassed t (getD list k 0) (extentOf g (getD list k 0))
+
+-- ---- tests that failed, and what they tell
+neither : (a b : Bool) → a || b ≡ false → (a ≡ false) × (b ≡ false)
+neither true b e = absurd (let z : _≡_ {A = ℕ} 0 1 = cc in omega arith)
+neither false b e = (refl, e)
+
+-- the first check of several passed, and so did the others
+first-passed : (c : Check) (cs : List Check) → firstFailing (c ∷ cs) ≡ none → (c .fails ≡ false) × (firstFailing cs ≡ none)
+unfolding firstFailing
+first-passed c cs e = go (c .fails) e
+  where
+    go : (b : Bool) → (if b then some (c .answer) else firstFailing cs) ≡ none → (b ≡ false) × (firstFailing cs ≡ none)
+    go true h = absurd (let z : _≡_ {A = ℕ} 0 1 = cc in omega arith)
+    go false h = (refl, h)
+
+positive : (n : ℕ) → (n ≡ 0 → ⊥) → 0 < n
+positive zero e = absurd (e refl)
+positive (suc n) e = omega arith
+
+inside : (n top : ℕ) → outside n top ≡ false → (0 < n) × (n ≤ top)
+inside n top e =
+    let s = neither (eqb n 0) (ltb top n) e in (positive n (eqb-false n 0 (s .0)), ltb-false top n (s .1))
+
+same-extent : (a b : Extent) → sameExtent a b ≡ true → a ≡ b
+same-extent a b e =
+    let h = and-eq-true-iff (eqb (a .mips) (b .mips)) (eqb (a .layers) (b .layers)) .0 e in
+    let m = eqb-true (a .mips) (b .mips) (h .0) in let l = eqb-true (a .layers) (b .layers) (h .1) in
+    λ i. record { mips = m i; layers = l i }
+
+same-flags : (p q : UsageFlags) → sameFlags p q ≡ true → q ≡ p
+same-flags p q e =
+    let h = and-eq-true-iff _ _ .0 e in let g = and-eq-true-iff _ _ .0 (h .0) in let f = and-eq-true-iff _ _ .0 (g .0) in
+    let x = sym (eqb-true (p .exclusive) (q .exclusive) (f .0)) in let u = sym (eqb-true (p .uninitialized) (q .uninitialized) (f .1)) in
+    let c = sym (eqb-true (p .complex) (q .complex) (g .1)) in let n = sym (eqb-true (p .unknown) (q .unknown) (h .1)) in
+    λ i. record { exclusive = x i; uninitialized = u i; complex = c i; unknown = n i }
+
+-- ---- 7, 8, 9
+pub texture-passed : (t : List ℕ) (i : ℕ) (sh : Extent) → textureRefusal t i sh ≡ none → TexturePassed t i sh
+unfolding textureRefusal
+texture-passed t i sh e =
+    let a = first-passed _ _ e in let b = first-passed _ _ (a .1) in let c = first-passed _ _ (b .1) in
+    let h = ltb-true i (getD t texturesAt 0) (not-false (ltb i (getD t texturesAt 0)) (a .0)) in
+    let l = neither (outside (sh .mips) (getD t mipLimitAt 0)) (outside (sh .layers) (getD t layerLimitAt 0)) (b .0) in
+    let m = inside (sh .mips) (getD t mipLimitAt 0) (l .0) in let w = inside (sh .layers) (getD t layerLimitAt 0) (l .1) in
+    record { texture = h; mip = m .0; top = m .1; some = w .0; low = w .1; own = λ o. owned o (rw (extent-at t i h) at (c .0)) }
+  where
+    owned : ownedOf t i ≡ true → otherExtent (ownedExtent t i) sh ≡ false → extentOf t i ≡ sh
+    owned o d = same-extent (extentOf t i) sh (not-false (sameExtent (extentOf t i) sh) (rw o at d))
+
+-- ---- 10, 11
+pub selector-passed : (sh : Extent) (q : Selector) → selectorRefusal sh (Part q) ≡ none → SelectorPassed sh q
+unfolding selectorRefusal
+selector-passed sh q e =
+    let a = first-passed _ _ e in let b = first-passed _ _ (a .1) in
+    let o = and-eq-true-iff (ltb (mipStart q) (mipEnd q)) (ltb (layerStart q) (layerEnd q)) .0 (not-false _ (a .0)) in
+    let p = neither (ltb (sh .mips) (mipEnd q)) (ltb (sh .layers) (layerEnd q)) (b .0) in
+    record {
+      order = ltb-true (mipStart q) (mipEnd q) (o .0);
+      span = ltb-true (layerStart q) (layerEnd q) (o .1);
+      in-mips = ltb-false (sh .mips) (mipEnd q) (p .0);
+      in-layers = ltb-false (sh .layers) (layerEnd q) (p .1);
+    }
+
+-- ---- 12, 13
+pub state-passed : (p : UsageFlags) (st : ℕ) → stateRefusal p st ≡ none → StatePassed p st
+unfolding stateRefusal
+state-passed p st e =
+    let a = first-passed _ _ e in let b = first-passed _ _ (a .1) in
+    let r = neither (eqb st 0 || meets st (p .unknown)) (meets st (p .complex)) (a .0) in
+    let z = neither (eqb st 0) (meets st (p .unknown)) (r .0) in
+    record { nonzero = eqb-false st 0 (z .0); plain = r .1; known = z .1; fits = b .0 }
+
+-- ---- 7 to 13: all of a use's
+pub use-passed : (t : List ℕ) (i : ℕ) (sh : Extent) (s : Selection) (st : ℕ) → useRefusal t i sh s st ≡ none
+    → (textureRefusal t i sh ≡ none) × ((selectorRefusal sh s ≡ none) × (stateRefusal (flagsOf t) st ≡ none))
+use-passed t i sh s st e =
+    let a = none-both (orNext (textureRefusal t i sh) (selectorRefusal sh s)) (stateRefusal (flagsOf t) st) (rw (use-splits t i sh s st) at e) in
+    let b = none-both (textureRefusal t i sh) (selectorRefusal sh s) (a .0) in (b .0, (b .1, a .1))
+
+-- ---- 6 to 9: a set's, and a list's
+owned-passed : (t g : List ℕ) (i : ℕ) → ownedRefusal t g i ≡ none → ownedOf g i ≡ true → TexturePassed t i (extentOf g i)
+unfolding ownedRefusal textureRefusal
+owned-passed t g i e o = texture-passed t i (extentOf g i) (rw o at e)
+
+listed-passed : (t g : List ℕ) (i : ℕ) → listedRefusal t g i ≡ none → (i < getD g texturesAt 0) × (ownedRefusal t g i ≡ none)
+listed-passed t g i e =
+    by-lt i (getD g texturesAt 0) (λ h. (h, rw (listed-in t g i h) at e)) (λ h. absurd (let q = listed-past t g i h in let z : _≡_ {A = ℕ} 0 1 = cc in omega arith))
+
+-- the flags are the same, and of the rest none fails
+flags-passed : (t g : List ℕ) (q : Option Refusal) → (if sameFlags (flagsOf t) (flagsOf g) then q else some FlagsDiffer) ≡ none → (flagsOf g ≡ flagsOf t) × (q ≡ none)
+flags-passed t g q e = let s = go (sameFlags (flagsOf t) (flagsOf g)) e in (same-flags (flagsOf t) (flagsOf g) (s .0), s .1)
+  where
+    go : (b : Bool) → (if b then q else some FlagsDiffer) ≡ none → (b ≡ true) × (q ≡ none)
+    go true h = (refl, h)
+    go false h = absurd (let z : _≡_ {A = ℕ} 0 1 = cc in omega arith)
+
+pub set-passed : (t g : List ℕ) → setRefusal (headIn t) (headIn g) ≡ none → SetPassed t g
+set-passed t g e =
+    let s = flags-passed t g _ (rw (set-splits t g) at e) in
+    record { flags = s .0; each = λ i h o. owned-passed t g i (first-none (ownedRefusal t g) 0 (getD g texturesAt 0) (s .1) i (omega arith) (omega arith)) o }
+
+pub sparse-passed : (t g list : List ℕ) → sparseRefusal (headIn t) (headIn g) list ≡ none → SparsePassed t g list
+sparse-passed t g list e =
+    let s = flags-passed t g _ (rw (sparse-splits t g list) at e) in
+    record {
+      flags = s .0;
+      below = λ k h. at (s .1) k h .0;
+      each = λ k h o. owned-passed t g (getD list k 0) (at (s .1) k h .1) o;
+    }
+  where
+    at : firstOf (listedAt t g list) 0 (length list) ≡ none → (k : ℕ) → k < length list → (getD list k 0 < getD g texturesAt 0) × (ownedRefusal t g (getD list k 0) ≡ none)
+    at n k h = listed-passed t g (getD list k 0) (first-none (listedAt t g list) 0 (length list) n k (omega arith) (omega arith))

@@ -1,0 +1,108 @@
+-- What the test of a set has shown of its storage, index by index.
+use Prim.Native.Nat.{ℕ, zero, suc, _+_, _*_, _/_, _≤_, _<_}
+use native.Mathlib.Omega.{arith}
+use mathlib.Core.Path.{_≡_, refl, sym, ap, subst, _∙_}
+use mathlib.Core.Bool.{Bool, true, false, _&&_, not, and-eq-true-iff}
+use mathlib.Core.List.{List, [], _∷_}
+use lib.Bits.{bitAnd, bitOr, and-comm, and-self}
+use lib.Dec.{leb, ltb, eqb}
+use lib.ListN.{length, getD}
+use borrow.Author.Tests.{leb-true, not-true, eqb-true}
+use Rattle.model.specs.declared.UsageFlags.{UsageFlags}
+use Rattle.model.specs.declared.Extent.{Extent}
+use Rattle.model.specs.declared.Range.{Range}
+use Rattle.model.specs.Base.{if_then_else_}
+use Rattle.model.specs.Flags.{flagsFit}
+use Rattle.model.specs.Representation.{Ends}
+use Rattle.model.specs.RangedStates.{Tiles}
+use Rattle.model.specs.Sets.{Numbers, Slot, Set, Tracker, outside, numbersFit, capacity}
+use Rattle.model.specs.Texture.{Held, single, many}
+use Rattle.model.specs.WellFormed.{scopeFits, trackerFits, wellFormedScope, wellFormedTracker}
+use Rattle.usage.specs.BitLaws.{and-or, or-zero}
+use Rattle.set_storage.specs.Storage.{numbersOf, flagsOf, extentOf, ownedOf, startHalf, endHalf, mipOf, mipsIn, mipsOf, heldOf, endsOf, slotWith, setWith, scopeOf, trackerOf, listFrom, complexAt, layerLimitAt, layersAt, mipLimitAt, mipsAt, tableLength, texturesAt}
+use Rattle.set_storage.specs.Frames.{Measured, mip-at, mips-long}
+use Rattle.set_storage.specs.Slots.{held-many, held-single}
+use Rattle.agreement.specs.ScopeLaws.{inside}
+use Rattle.agreement.specs.WellFormedSets.{All}
+use Rattle.agreement.specs.Fits.{StateFits, SingleFits, MipFits, HeldFits, EndsFit, ExtentFits, SlotFits, SetFits}
+use Rattle.agreement.specs.Decides.{scope-to, tracker-to}
+
+-- ---- What an owned texture holds in the half h: ranges that tile its layers where its word tells COMPLEX, otherwise a state that fits
+pub record HalfFits (h : ℕ) (t r : List ℕ) (i : ℕ) : Type 0 where
+  pub tiled : getD t (h + i) 0 ≡ getD t complexAt 0 → (k : ℕ) → k < getD t (mipsAt i) 0 → Tiles 0 (mipOf (numbersOf t) h t r i k) (getD t (layersAt i) 0)
+  pub state : (getD t (h + i) 0 ≡ getD t complexAt 0 → ⊥) → SingleFits (flagsOf t) (getD t (h + i) 0)
+
+all-at : {A : Type 0} (P : A → Type 0) (s : List A) (k : ℕ) (z : A) → All P s → k < length s → P (getD s k z)
+all-at P [] k z a h = absurd (omega arith)
+all-at P (x ∷ s) zero z a h = a .0
+all-at P (x ∷ s) (suc k) z a h = all-at P s k z (a .1) (omega arith)
+
+pub half-fits : (h : ℕ) (t r : List ℕ) (i : ℕ) → getD t (mipsAt i) 0 ≤ getD t mipLimitAt 0 → HeldFits (flagsOf t) (extentOf t i) (heldOf (numbersOf t) h t r i) → HalfFits h t r i
+half-fits h t r i top f = record {
+  tiled = λ c k l.
+      let g : HeldFits (flagsOf t) (extentOf t i) (many (mipsOf (numbersOf t) h t r i)) = subst (HeldFits (flagsOf t) (extentOf t i)) (held-many (numbersOf t) h t r i (mipsOf (numbersOf t) h t r i) c refl) f in
+      let n : k < length (mipsOf (numbersOf t) h t r i) = rw (g .0) l in
+      let m : k < mipsIn (numbersOf t) t i = rw (mips-long (numbersOf t) h t r i) at n in
+      subst (λ (s : List Range). Tiles 0 s (getD t (layersAt i) 0)) (mip-at (numbersOf t) h t r i k [] m)
+      (all-at (MipFits (flagsOf t) (getD t (layersAt i) 0)) (mipsOf (numbersOf t) h t r i) k [] (g .1) n .tiles);
+  state = λ c. subst (HeldFits (flagsOf t) (extentOf t i)) (held-single (numbersOf t) h t r i c) f;
+}
+
+-- ---- States without COMPLEX
+-- a nonzero state without a bit is not that bit
+pub not-bit : (s c : ℕ) → (s ≡ 0 → ⊥) → bitAnd s c ≡ 0 → s ≡ c → ⊥
+not-bit s c n e z = n (sym (and-self s) ∙ ap (bitAnd s) z ∙ e)
+
+-- nor is any union with it
+pub union-not-bit : (x s c : ℕ) → (s ≡ 0 → ⊥) → bitAnd s c ≡ 0 → bitOr x s ≡ c → ⊥
+union-not-bit x s c n e z =
+    let a : bitOr (bitAnd x s) s ≡ 0 = ap (bitOr (bitAnd x s)) (sym (and-self s)) ∙ sym (and-or x s s) ∙ ap (λ (y : ℕ). bitAnd y s) z ∙ and-comm c s ∙ e in
+    n (or-zero (bitAnd x s) s a .1)
+
+-- ---- A set that passed the test
+measured-of : (h : ℕ) (t r : List ℕ) → (startHalf ≤ h) × (h ≤ endHalf) → length t ≡ tableLength → numbersFit (numbersOf t) ≡ true → leb (capacity (numbersOf t)) (length r / 3) ≡ true → Measured (numbersOf t) h t r
+measured-of h t r half size e room =
+    let a = and-eq-true-iff _ _ .0 e in let b = and-eq-true-iff _ _ .0 (a .0) in
+    let n = inside (getD t texturesAt 0) 64 (not-true _ (b .0)) in let m = inside (getD t mipLimitAt 0) 16 (not-true _ (b .1)) in let w = inside (getD t layerLimitAt 0) 256 (not-true _ (a .1)) in
+    let c = leb-true (capacity (numbersOf t)) (length r / 3) room in
+    record { dims = refl; textures = n .1; mips = m .1; some = w .0; layers = w .1; fits = omega arith; half = half; table = size }
+
+-- each slot of a list that was made position by position
+list-all : {A : Type 0} (P : A → Type 0) (f : ℕ → A) (k n j : ℕ) → All P (listFrom f k n) → j < n → P (f (k + j))
+unfolding listFrom
+list-all P f k zero j a h = absurd (omega arith)
+list-all P f k (suc n) zero a h = let e : k ≡ k + 0 = omega arith in subst (λ (x : ℕ). P (f x)) e (a .0)
+list-all P f k (suc n) (suc j) a h = let e : suc k + j ≡ k + suc j = omega arith in subst (λ (x : ℕ). P (f x)) e (list-all P f (suc k) n j (a .1) (omega arith))
+
+slot-of : {H : Type 0} (P : UsageFlags → Extent → H → Type 0) (held : ℕ → H) (t : List ℕ) → SetFits P (setWith held t) → (i : ℕ) → i < getD t texturesAt 0 → SlotFits P (numbersOf t) (flagsOf t) (slotWith held t i)
+slot-of P held t f i h =
+    let z : 0 + i ≡ i = omega arith in
+    subst (λ (x : ℕ). SlotFits P (numbersOf t) (flagsOf t) (slotWith held t x)) z (list-all (SlotFits P (numbersOf t) (flagsOf t)) (slotWith held t) 0 (getD t texturesAt 0) i (f .slots) h)
+
+pub record ScopeTested (t r : List ℕ) : Type 0 where
+  pub measured : Measured (numbersOf t) startHalf t r
+  pub flags : flagsFit (flagsOf t) ≡ true
+  pub slots : (i : ℕ) → i < getD t texturesAt 0 → SlotFits HeldFits (numbersOf t) (flagsOf t) (slotWith (heldOf (numbersOf t) startHalf t r) t i)
+
+pub scope-tested : (t r : List ℕ) → length t ≡ tableLength → wellFormedScope (length r / 3) (scopeOf t r) ≡ true → ScopeTested t r
+unfolding scopeOf
+scope-tested t r size e =
+    let a = and-eq-true-iff _ _ .0 e in let f = scope-to (scopeOf t r) (a .0) in
+    record { measured = measured-of startHalf t r (omega arith, omega arith) size (f .numbers) (a .1); flags = f .flags; slots = slot-of HeldFits (heldOf (numbersOf t) startHalf t r) t f }
+
+pub record TrackerTested (t s e : List ℕ) : Type 0 where
+  pub starts : Measured (numbersOf t) startHalf t s
+  pub ends : Measured (numbersOf t) endHalf t e
+  pub flags : flagsFit (flagsOf t) ≡ true
+  pub slots : (i : ℕ) → i < getD t texturesAt 0 → SlotFits EndsFit (numbersOf t) (flagsOf t) (slotWith (endsOf (numbersOf t) t s e) t i)
+
+pub tracker-tested : (t s e : List ℕ) → length t ≡ tableLength → wellFormedTracker (length s / 3) (length e / 3) (trackerOf t s e) ≡ true → TrackerTested t s e
+unfolding trackerOf
+tracker-tested t s e size w =
+    let a = and-eq-true-iff _ _ .0 w in let b = and-eq-true-iff _ _ .0 (a .0) in let f = tracker-to (trackerOf t s e) (b .0) in
+    record {
+      starts = measured-of startHalf t s (omega arith, omega arith) size (f .numbers) (b .1);
+      ends = measured-of endHalf t e (omega arith, omega arith) size (f .numbers) (a .1);
+      flags = f .flags;
+      slots = slot-of EndsFit (endsOf (numbersOf t) t s e) t f;
+    }

@@ -1,0 +1,94 @@
+-- What the tests of the head tell: numbers within their limits, room for every range, and so storage that can be indexed.
+use Prim.Native.Nat.{ℕ, zero, suc, _*_, _/_, _≤_, _<_}
+use native.Mathlib.Omega.{arith}
+use native.Mathlib.Nat.{mul-le-mul-right}
+use mathlib.Core.Path.{_≡_, refl, sym}
+use mathlib.Core.Bool.{Bool, true, false, _&&_, _||_, not, false≢true}
+use mathlib.Core.List.{List}
+use lib.Dec.{leb, ltb, eqb}
+use lib.ListN.{length, getD}
+use borrow.Author.Tests.{leb-true, ltb-false, eqb-false, lt-leb, le-leb, lt-ltb, le-ltb}
+use Rattle.model.specs.Flags.{flagsFit}
+use Rattle.model.specs.Sets.{outside, numbersFit, capacity}
+use Rattle.set_storage.specs.Part.{by-lt}
+use Rattle.set_storage.specs.Storage.{numbersOf, flagsOf, endHalf, layerLimitAt, mipLimitAt, tableLength, texturesAt, startHalf}
+use Rattle.set_storage.specs.Frames.{Measured}
+use Rattle.set_wellformed.specs.Tests.{numbers, extentFits, headFits, both}
+
+neither : (a b : Bool) → not (a || b) ≡ true → (a ≡ false) × (b ≡ false)
+neither true b e = absurd (false≢true e)
+neither false true e = absurd (false≢true e)
+neither false false e = (refl, refl)
+
+pub neither-no : (a b : Bool) → not a ≡ false → false ≡ not (a || b)
+neither-no true b e = refl
+neither-no false b e = absurd (false≢true (sym e))
+
+pub neither-yes : (a b : Bool) → not a ≡ true → not b ≡ not (a || b)
+neither-yes true b e = absurd (false≢true e)
+neither-yes false b e = refl
+
+not-no : (a : Bool) → a ≡ false → not a ≡ true
+not-no true e = absurd (false≢true (sym e))
+not-no false e = refl
+
+pub leb-not : (a b : ℕ) → leb a b ≡ not (ltb b a)
+leb-not a b = by-lt b a (λ h. rw (lt-leb a b h, lt-ltb b a h)) (λ h. rw (le-leb a b h, le-ltb b a h))
+
+pub record Inside (x top : ℕ) : Type 0 where
+  pub low : 0 < x
+  pub high : x ≤ top
+
+positive : (n : ℕ) → (n ≡ 0 → ⊥) → 0 < n
+positive zero e = absurd (e refl)
+positive (suc n) e = omega arith
+
+inside-is : (x top : ℕ) → not (outside x top) ≡ true → Inside x top
+inside-is x top e =
+    let s = neither (eqb x 0) (ltb top x) e in
+    record { low = positive x (eqb-false x 0 (s .0)); high = ltb-false top x (s .1) }
+
+pub record Numbered (n m w : ℕ) : Type 0 where
+  pub textures : Inside n 64
+  pub mips : Inside m 16
+  pub layers : Inside w 256
+
+pub numbers-in : (n m w : ℕ) → numbersFit (numbers n m w) ≡ true → Numbered n m w
+numbers-in n m w e =
+    let a = both (not (outside n 64) && not (outside m 16)) (not (outside w 256)) e in
+    let b = both (not (outside n 64)) (not (outside m 16)) (a .0) in
+    record { textures = inside-is n 64 (b .0); mips = inside-is m 16 (b .1); layers = inside-is w 256 (a .1) }
+
+pub extent-in : (m w mips layers : ℕ) → extentFits m w mips layers ≡ true → Inside mips m × Inside layers w
+extent-in m w mips layers e =
+    let s = neither (outside mips m) (outside layers w) e in
+    (inside-is mips m (not-no (outside mips m) (s .0)), inside-is layers w (not-no (outside layers w) (s .1)))
+
+-- products of numbers within the limits are small
+pub record Small (n m w : ℕ) : Type 0 where
+  pub two : n * m ≤ 1024
+  pub three : n * m * w ≤ 262144
+
+pub small : (n m w : ℕ) → (n ≤ 64) × ((m ≤ 16) × (w ≤ 256)) → Small n m w
+small n m w h =
+    let x : n * m ≤ 64 * m = mul-le-mul-right m (h .0) in
+    let y : n * m * w ≤ 1024 * w = mul-le-mul-right w (omega arith) in
+    record { two = omega arith; three = omega arith }
+
+-- THE HEAD: the numbers are within their limits, and each half can be indexed
+pub head-numbers : (t : List ℕ) (room : ℕ) → headFits t room ≡ true → numbersFit (numbersOf t) ≡ true
+unfolding headFits
+head-numbers t room e =
+    both (numbersFit (numbersOf t)) (flagsFit (flagsOf t)) (both (numbersFit (numbersOf t) && flagsFit (flagsOf t)) (leb (capacity (numbersOf t)) (room / 3)) e .0) .0
+
+pub measured : (h : ℕ) (t r : List ℕ) → (startHalf ≤ h) × (h ≤ endHalf) → length t ≡ tableLength → numbersFit (numbersOf t) ≡ true → leb (capacity (numbersOf t)) (length r / 3) ≡ true → Measured (numbersOf t) h t r
+measured h t r half size e room =
+    let n = numbers-in (getD t texturesAt 0) (getD t mipLimitAt 0) (getD t layerLimitAt 0) e in
+    let c = leb-true (capacity (numbersOf t)) (length r / 3) room in
+    record { dims = refl; textures = n .textures .high; mips = n .mips .high; some = n .layers .low; layers = n .layers .high; fits = omega arith; half = half; table = size }
+
+pub head-measured : (t r : List ℕ) → length t ≡ tableLength → headFits t (length r) ≡ true → Measured (numbersOf t) 200 t r
+unfolding headFits
+head-measured t r size e =
+    let a = both (numbersFit (numbersOf t) && flagsFit (flagsOf t)) (leb (capacity (numbersOf t)) (length r / 3)) e in
+    measured startHalf t r (omega arith, omega arith) size (head-numbers t (length r) e) (a .1)

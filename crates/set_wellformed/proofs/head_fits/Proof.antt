@@ -1,0 +1,30 @@
+-- `head_fits` is the three tests, in order; the numbers' limits come before their product.
+use mathlib.Core.Path.{sym, _∙_}
+use borrow.Author.Tests.{not-true, not-false}
+use Rattle.set_wellformed.specs.Tests.{headFits}
+use Rattle.set_wellformed.proofs.Numbers.{numbers-in}
+use borrow.Author.Needs.{needs}
+use Rattle.set_wellformed.proofs.head_fits.Statement.{statement}
+use Rattle.set_wellformed.proofs.head_fits.Tie as tie
+
+returns : tie.Need-returns
+unfolding headFits
+returns c = rw (sym (c .before .numbers-fit .ensures) ∙ not-true _ (c .if1 .taken))
+
+returns-2 : tie.Need-returns-2
+unfolding headFits
+returns-2 c = rw (sym (c .before .before .before .before .numbers-fit .ensures) ∙ not-false _ (c .before .before .before .if1 .left), rw (c .before .before .flags-of .ensures) at (sym (c .before .flags-fit .ensures) ∙ not-true _ (c .if2 .taken)))
+
+room-fits-requires : tie.Need-room-fits-requires
+room-fits-requires c κs = let k = numbers-in _ _ _ (sym (c .before .before .before .before .before .before .before .numbers-fit .ensures) ∙ not-false _ (c .before .before .before .before .before .before .if1 .left)) in (k .textures .high, (k .mips .high, k .layers .high))
+
+returns-3 : tie.Need-returns-3
+unfolding headFits
+returns-3 c = rw (sym (c .before .before .before .before .before .before .before .before .numbers-fit .ensures) ∙ not-false _ (c .before .before .before .before .before .before .before .if1 .left), rw (c .before .before .before .before .before .before .flags-of .ensures) at (sym (c .before .before .before .before .before .flags-fit .ensures) ∙ not-false _ (c .before .before .before .before .if2 .left))) (c .room-fits .ensures)
+
+pub head-fits-spec : {M : Type 1} → statement M
+head-fits-spec =
+    tie.close
+    (tie.spec (λ c. search needs) (λ c. search needs) (λ c. search needs) (λ c κs. search needs) returns
+    (λ c κs. search needs) (λ c κs. search needs) returns-2 (λ c. search needs) (λ c. search needs) (λ c. search needs)
+    room-fits-requires returns-3)

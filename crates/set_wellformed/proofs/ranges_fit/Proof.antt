@@ -1,0 +1,38 @@
+-- `ranges_fit` tests range by range; the first that does not fit decides.
+use Prim.Native.Nat.{_-_}
+use mathlib.Core.Path.{sym, _∙_}
+use borrow.Author.Needs.{needs}
+use borrow.Author.Tests.{not-true, not-false}
+use Rattle.set_wellformed.proofs.Tiling.{Tiling, tiling-start, tiling-turn, tiling-end, bad-start, bad-end, bad-state}
+use Rattle.set_wellformed.proofs.ranges_fit.Statement.{statement}
+use Rattle.set_wellformed.proofs.ranges_fit.Tie as tie
+
+abbrev Inv-loop : tie.InvT-loop
+Inv-loop s len p layers at₀ k₀ at k = Tiling p layers s len at k
+
+abbrev μ-loop : tie.MeasureT-loop
+μ-loop s len p layers at₀ k₀ at k = len - k
+
+loop-holds : tie.Need-loop-holds Inv-loop μ-loop
+loop-holds c = tiling-start _ _ _ _
+
+returns : tie.Need-returns Inv-loop μ-loop
+returns c = bad-start (c .before .before .before .before .before .before .pre) (c .before .before .before .before .loop .inv) (c .before .before .before .loop-test .taken) (c .before .before .get .ensures) (c .if1 .taken)
+
+returns-2 : tie.Need-returns-2 Inv-loop μ-loop
+returns-2 c = bad-end (c .before .before .before .before .before .before .before .before .pre) (c .before .before .before .before .before .before .loop .inv) (c .before .before .before .before .before .loop-test .taken) (c .before .before .before .before .get .ensures) (c .before .before .if1 .left) (c .if2 .taken)
+
+returns-3 : tie.Need-returns-3 Inv-loop μ-loop
+returns-3 c = bad-state (c .before .before .before .before .before .before .before .before .before .before .pre) (c .before .before .before .before .before .before .before .before .loop .inv) (c .before .before .before .before .before .before .before .loop-test .taken) (c .before .before .before .before .before .before .get .ensures) (c .before .before .before .before .if1 .left) (c .before .before .if2 .left) (sym (c .before .state-fits .ensures) ∙ not-true _ (c .if3 .taken))
+
+loop-again : tie.Need-loop-again Inv-loop μ-loop
+loop-again c = tiling-turn (c .before .before .before .before .before .before .before .before .before .before .pre) (c .before .before .before .before .before .before .before .before .loop .inv) (c .before .before .before .before .before .before .before .loop-test .taken) (c .before .before .before .before .before .before .get .ensures) (c .before .before .before .before .if1 .left) (c .before .before .if2 .left) (sym (c .before .state-fits .ensures) ∙ not-false _ (c .if3 .left))
+
+returns-4 : tie.Need-returns-4 Inv-loop μ-loop
+returns-4 c = tiling-end (c .before .loop .inv) (c .loop-test .left)
+
+pub ranges-fit-spec : {M : Type 1} → statement M
+ranges-fit-spec =
+    tie.close
+    (tie.spec Inv-loop μ-loop loop-holds (λ c κs. search needs) returns returns-2 (λ c κs. search needs) returns-3
+    (λ c. search needs) (λ c. search needs) loop-again returns-4)

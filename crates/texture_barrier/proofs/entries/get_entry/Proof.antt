@@ -1,0 +1,18 @@
+-- `get_entry` reads the seven numbers of an entry.
+use native.Mathlib.Omega.{arith}
+use Rattle.texture_barrier.specs.Entries.{get-entry-is}
+use borrow.Author.Needs.{needs}
+use Rattle.texture_barrier.proofs.entries.get_entry.Statement.{statement}
+use Rattle.texture_barrier.proofs.entries.get_entry.Tie as tie
+
+returns : tie.Need-returns
+returns c = get-entry-is (c .before .before .before .before .before .before .before .args .log .now) (c .before .before .before .before .before .before .before .args .n) (omega arith)
+
+pub get-entry-spec : {M : Type 1} → statement M
+get-entry-spec =
+    tie.close
+    (tie.spec (λ c. search needs) (λ c. search needs) (λ c. search needs) (λ c. search needs) (λ c. search needs)
+    (λ c. search needs) (λ c. search needs) (λ c. search needs) (λ c. search needs) (λ c. search needs)
+    (λ c. search needs) (λ c. search needs) (λ c. search needs) (λ c. search needs) (λ c. search needs)
+    (λ c. search needs) (λ c. search needs) (λ c. search needs) (λ c. search needs) (λ c. search needs)
+    (λ c. search needs) returns)

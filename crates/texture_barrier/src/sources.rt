@@ -1,0 +1,182 @@
+// `barrier` of one texture: the transitions from a tracker's end of texture i to what is given as its start.
+//
+// A texture is held as Many where its word tells COMPLEX (the tracker's table and the given one each have the word), otherwise the word
+// is its one state.
+use crate::many::log_mip_pairs;
+use crate::many::log_mips;
+use crate::mip::Step;
+use crate::transition::Task;
+use crate::transition::log_move;
+use model::Extent;
+use model::Layer;
+use model::LayerRange;
+use model::Mip;
+use model::MipRange;
+use model::Range;
+use model::Selector;
+use model::TrackerIndex;
+use model::UsageFlags;
+use set_storage::END;
+use set_storage::Table;
+use set_storage::flags_of;
+ghost use mathlib.Core.Path.{_≡_};
+ghost use mathlib.Core.List.{[], _∷_};
+ghost use Prim.Native.Nat.{_≤_, _<_};
+ghost use Rattle.model.specs.Representation.{full as fullOf};
+ghost use Rattle.model.specs.StateRules.{moveOf};
+ghost use Rattle.model.specs.Texture.{givenSingle, givenMany, fromHeld, entry, barrier};
+ghost use Rattle.set_storage.specs.Storage.{numbersOf, endHalf, heldOf};
+ghost use Rattle.texture_barrier.specs.Logged.{Room, Logged};
+ghost use Rattle.texture_barrier.specs.Ready.{Textured, Selects};
+ghost use Rattle.texture_barrier.specs.Steps.{logTop};
+ghost use Rattle.texture_barrier.specs.Textures.{piece, taskOf};
+
+// The selector of all of a texture.
+fn full(extent: Extent) -> Selector
+    ensures { λ q. ⌜ q ≡ fullOf extent ⌝ }
+{
+    Selector {
+        mips: MipRange {
+            start: Mip(0),
+            end: Mip(extent.mips),
+        },
+        layers: LayerRange {
+            start: Layer(0),
+            end: Layer(extent.layers),
+        },
+    }
+}
+
+// What stays the same during one `barrier` of texture i.
+fn task_of(i: usize, p: UsageFlags, mask: u32, write: bool) -> Task
+    requires { ⌜ i < 64 ⌝ }
+    ensures { λ t. ⌜ t ≡ taskOf i p mask write ⌝ }
+{
+    Task {
+        index: TrackerIndex(i as u32),
+        unknown: p.unknown,
+        mask,
+        write,
+    }
+}
+
+// The transition of all of a texture that is held as one state to another.
+pub fn barrier_single(
+    i: usize,
+    extent: Extent,
+    p: UsageFlags,
+    mask: u32,
+    cur: u32,
+    new: u32,
+    log: &mut [u32],
+    at: usize,
+    write: bool,
+) -> usize
+    requires { ⌜ i < 64 ⌝ }
+    requires { ⌜ Room write (now log) at (entry (fullOf extent) (moveOf (p .unknown) mask cur new)) ⌝ }
+    ensures { λ x. ⌜ Logged 1 i write (now (log .entry)) at (entry (fullOf extent) (moveOf (p .unknown) mask cur new)) x (now (log .exit)) ⌝ }
+{
+    let t = task_of(i, p, mask, write);
+    let q = full(extent);
+    log_move(q, cur, new, t, log, at)
+}
+
+// The transitions to one state.
+pub fn barrier_state(
+    table: &Table,
+    ends: &[u32],
+    i: usize,
+    extent: Extent,
+    p: UsageFlags,
+    mask: u32,
+    new: u32,
+    log: &mut [u32],
+    at: usize,
+    write: bool,
+) -> usize
+    requires { ⌜ Textured endHalf (now table) (now ends) i extent ⌝ }
+    requires { ⌜ at ≤ logTop ⌝ }
+    requires { ⌜ Room write (now log) at (barrier p mask extent (heldOf (numbersOf (now table)) endHalf (now table) (now ends) i) (givenSingle new)) ⌝ }
+    ensures { λ x. ⌜ Logged 4096 i write (now (log .entry)) at (barrier p mask extent (heldOf (numbersOf (now (table .entry))) endHalf (now (table .entry)) (now (ends .entry)) i) (givenSingle new)) x (now (log .exit)) ⌝ }
+{
+    let t = task_of(i, p, mask, write);
+    let flags = flags_of(table);
+    let cur = table[END + i];
+    if cur == flags.complex {
+        let top = extent.mips;
+        return log_mips(table, ends, END, i, 0, top, Step::To(new), t, log, at);
+    }
+    barrier_single(i, extent, p, mask, cur, new, log, at, write)
+}
+
+// The transitions of what a selector names to one state. A Single texture makes one entry over all the mips of the selector.
+pub fn barrier_selector(
+    table: &Table,
+    ends: &[u32],
+    i: usize,
+    extent: Extent,
+    p: UsageFlags,
+    mask: u32,
+    q: Selector,
+    new: u32,
+    log: &mut [u32],
+    at: usize,
+    write: bool,
+) -> usize
+    requires { ⌜ Textured endHalf (now table) (now ends) i extent ⌝ }
+    requires { ⌜ Selects q extent ⌝ }
+    requires { ⌜ at ≤ logTop ⌝ }
+    requires { ⌜ Room write (now log) at (barrier p mask extent (heldOf (numbersOf (now table)) endHalf (now table) (now ends) i) (givenMany (piece q new ∷ []))) ⌝ }
+    ensures { λ x. ⌜ Logged 4096 i write (now (log .entry)) at (barrier p mask extent (heldOf (numbersOf (now (table .entry))) endHalf (now (table .entry)) (now (ends .entry)) i) (givenMany (piece q new ∷ []))) x (now (log .exit)) ⌝ }
+{
+    let t = task_of(i, p, mask, write);
+    let flags = flags_of(table);
+    let cur = table[END + i];
+    if cur == flags.complex {
+        let low = q.mips.start.0;
+        let high = q.mips.end.0;
+        let step = Step::Within(Range {
+            start: q.layers.start.0,
+            end: q.layers.end.0,
+            state: new,
+        });
+        return log_mips(table, ends, END, i, low, high, step, t, log, at);
+    }
+    log_move(q, cur, new, t, log, at)
+}
+
+// The transitions to what texture i of another set holds, in the half of `given` that begins at `side`, with its ranges in `pieces`.
+pub fn barrier_texture(
+    table: &Table,
+    ends: &[u32],
+    i: usize,
+    extent: Extent,
+    p: UsageFlags,
+    mask: u32,
+    given: &Table,
+    pieces: &[u32],
+    side: usize,
+    log: &mut [u32],
+    at: usize,
+    write: bool,
+) -> usize
+    requires { ⌜ Textured endHalf (now table) (now ends) i extent ⌝ }
+    requires { ⌜ Textured side (now given) (now pieces) i extent ⌝ }
+    requires { ⌜ at ≤ logTop ⌝ }
+    requires { ⌜ Room write (now log) at (barrier p mask extent (heldOf (numbersOf (now table)) endHalf (now table) (now ends) i) (fromHeld (heldOf (numbersOf (now given)) side (now given) (now pieces) i))) ⌝ }
+    ensures { λ x. ⌜ Logged 1048576 i write (now (log .entry)) at (barrier p mask extent (heldOf (numbersOf (now (table .entry))) endHalf (now (table .entry)) (now (ends .entry)) i) (fromHeld (heldOf (numbersOf (now (given .entry))) side (now (given .entry)) (now (pieces .entry)) i))) x (now (log .exit)) ⌝ }
+{
+    let flags = flags_of(given);
+    let new = given[side + i];
+    if new != flags.complex {
+        return barrier_state(table, ends, i, extent, p, mask, new, log, at, write);
+    }
+    let t = task_of(i, p, mask, write);
+    let own = flags_of(table);
+    let cur = table[END + i];
+    let top = extent.mips;
+    if cur == own.complex {
+        return log_mip_pairs(table, ends, END, given, pieces, side, i, top, t, log, at);
+    }
+    log_mips(given, pieces, side, i, 0, top, Step::From(cur), t, log, at)
+}

@@ -1,0 +1,22 @@
+-- `fresh_mip`: the one range that `fresh` leaves in the part is the mip's.
+use Rattle.set_storage.specs.Locate.{locates}
+use Rattle.texture_merge.specs.Ready.{mip-left}
+use borrow.Author.Needs.{needs}
+use Rattle.texture_merge.proofs.mip.fresh_mip.Statement.{statement}
+use Rattle.texture_merge.proofs.mip.fresh_mip.Tie as tie
+
+locate-requires : tie.Need-locate-requires
+locate-requires c κs = locates (c .before .before .pre)
+
+returns : tie.Need-returns
+returns c =
+    let q = c .before .before .before .before .before .before .before .before .before .pre in
+    let l = c .before .before .before .before .before .before .locate .ensures in
+    let u = c .before .before .before .before .fresh .ensures in
+    rw (c .set-count .ensures) (mip-left q l _ _ _ (u .long) (u .fits) (u .seen))
+
+pub fresh-mip-spec : {M : Type 1} → statement M
+fresh-mip-spec =
+    tie.close
+    (tie.spec locate-requires (λ c. search needs) (λ c. search needs) (λ c. search needs) (λ c. search needs)
+    (λ c κs. search needs) (λ c κs. search needs) (λ c. search needs) returns)

@@ -1,0 +1,31 @@
+-- `merge_every_mip`: what `merge_every` leaves in the part is the mip's, and what it met is told.
+use Rattle.set_storage.specs.Locate.{locates}
+use Rattle.texture_merge.specs.Ready.{count-fits, mip-left, lent-is, lent-fits}
+use borrow.Author.Needs.{needs}
+use Rattle.texture_merge.proofs.mip.merge_every_mip.Statement.{statement}
+use Rattle.texture_merge.proofs.mip.merge_every_mip.Tie as tie
+
+locate-requires : tie.Need-locate-requires
+locate-requires c κs = locates (c .before .before .pre .ready)
+
+merge-every-requires : tie.Need-merge-every-requires
+merge-every-requires c κs = lent-fits (c .before .before .before .before .pre) (c .before .locate .ensures)
+
+set-count-requires : tie.Need-set-count-requires
+set-count-requires c κs = count-fits (c .before .before .before .before .before .before .before .before .pre .ready) (c .before .before .before .before .before .locate .ensures) _ (c .before .before .before .merge-every .ensures .fits)
+
+returns : tie.Need-returns
+returns c =
+    let q = c .before .before .before .before .before .before .before .before .before .pre in
+    let l = c .before .before .before .before .before .before .locate .ensures in
+    let u = c .before .before .before .before .merge-every .ensures in
+    record {
+      conflict = rw (lent-is q l) at (u .conflict (c .before .before .before .before .before .before .before .before .before .args .m));
+      into = rw (c .set-count .ensures) (mip-left (q .ready) l _ _ _ (u .long) (u .fits) (rw (lent-is q l) at (u .seen (c .before .before .before .before .before .before .before .before .before .args .m))));
+    }
+
+pub merge-every-mip-spec : {M : Type 1} → statement M
+merge-every-mip-spec =
+    tie.close
+    (tie.spec locate-requires (λ c. search needs) (λ c. search needs) (λ c. search needs) (λ c. search needs)
+    merge-every-requires set-count-requires (λ c. search needs) returns)

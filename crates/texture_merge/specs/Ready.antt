@@ -1,0 +1,110 @@
+-- What the code needs of a mip, or of all mips of a texture, to change it in place, and what it leaves: the part of the ranges that is lent on.
+use Prim.Native.Nat.{ℕ, _+_, _*_, _-_, _≤_, _<_}
+use native.Mathlib.Omega.{arith}
+use mathlib.Core.Path.{_≡_, refl, sym, ap, subst, _∙_}
+use mathlib.Core.List.{List, [], _∷_, _++_}
+use lib.Dec.{leb}
+use lib.ListN.{length, getD, set, take, drop}
+use borrow.Author.Tests.{lt-leb}
+use Rattle.model.specs.declared.Range.{Range}
+use Rattle.model.specs.declared.Selector.{Selector}
+use Rattle.model.specs.Base.{if_then_else_}
+use Rattle.model.specs.Representation.{mipStart, mipEnd, layerStart, layerEnd}
+use Rattle.model.specs.Sets.{Numbers}
+use Rattle.model.specs.RangedStates.{Tiles}
+use Rattle.range_states.specs.View.{decode}
+use Rattle.range_isolate.specs.Isolation.{IsolateRoom}
+use Rattle.range_isolate.specs.Tiling.{isolate-room}
+use Rattle.set_storage.specs.Part.{baseOf, partOf, part-length, by-lt}
+use Rattle.set_storage.specs.Storage.{numbersOf, mipsIn, countAt, mipPart, mipOf, mipsOf, endHalf, layerLimitAt, layersAt, mipLimitAt}
+use Rattle.set_storage.specs.Frames.{Measured, MipsBecome, MipReady, mip-is, mip-put, room-of, mips-top, measured-then, mips-same}
+use Rattle.set_storage.specs.Locate.{LocatedAt}
+use Rattle.set_storage.specs.declared.Located.{Located}
+
+-- ---- A mip whose ranges tile its layers
+pub record MipTiled (d : Numbers) (h : ℕ) (t r : List ℕ) (i m layers : ℕ) : Type 0 where
+  pub ready : MipReady d h t r i m
+  pub some : 0 < layers
+  pub low : layers ≤ d .layers
+  pub tiled : Tiles 0 (mipOf d h t r i m) layers
+
+-- its count is not past the room, since no ranges tile nothing
+pub tiled-few : {d : Numbers} {h i m layers : ℕ} {t r : List ℕ} → MipTiled d h t r i m layers → getD t (countAt h i m) 0 ≤ d .layers
+unfolding mipOf
+tiled-few {d} {h} {i} {m} {layers} {t} {r} q =
+    by-lt (d .layers) (getD t (countAt h i m) 0)
+    (λ l. let z : Tiles 0 [] layers = rw (lt-leb (getD t (countAt h i m) 0) (d .layers) l) at (q .tiled) in absurd (omega (arith, q .some)))
+    (λ l. l)
+
+pub tiled-is : {d : Numbers} {h i m layers : ℕ} {t r : List ℕ} → MipTiled d h t r i m layers → mipOf d h t r i m ≡ decode (getD t (countAt h i m) 0) (mipPart d r i m)
+tiled-is {d} {h} {i} {m} {layers} {t} {r} q = mip-is d h t r i m (tiled-few q)
+
+-- ---- The part that is lent on: `ranges[x.base..x.end]`
+abbrev pub lentPart : Located → List ℕ → List ℕ
+lentPart x r = take (x .end - x .base) (drop (x .base) r)
+
+-- the ranges with p in its place
+abbrev pub putBack : Located → List ℕ → List ℕ → List ℕ
+putBack x r p = take (x .base) r ++ (p ++ drop (x .end - x .base) (drop (x .base) r))
+
+module _ {t r : List ℕ} {h i m : ℕ} (q : MipReady (numbersOf t) h t r i m) {x : Located} (l : LocatedAt t h i m (length r) x) where
+  pub part-is : lentPart x r ≡ mipPart (numbersOf t) r i m
+  unfolding partOf
+  part-is = rw (l .size, l .base)
+
+  pub part-long : length (lentPart x r) ≡ 3 * getD t layerLimitAt 0
+  part-long = ap length part-is ∙ part-length r (baseOf i m (getD t mipLimitAt 0) (getD t layerLimitAt 0)) (3 * getD t layerLimitAt 0) (room-of (q .measured) i m (q .texture) (omega (arith, q .mip, q .top)))
+
+  -- what a function leaves in the part, n ranges, is the texture's mip m
+  pub mip-left : (n : ℕ) (p : List ℕ) (xs : List Range) → length p ≡ length (lentPart x r) → 3 * n ≤ length (lentPart x r) → decode n p ≡ xs
+      → MipsBecome (numbersOf t) h i (set (mipsOf (numbersOf t) h t r i) m xs) t r (set t (countAt h i m) n) (putBack x r p)
+  mip-left n p xs long fits seen = mip-put q (x .base) (x .end - x .base) n p xs (l .base) (l .size) long (omega (arith, part-long, l .size)) seen
+
+  -- a count of ranges that fit is one that can be written
+  pub count-fits : (n : ℕ) → 3 * n ≤ length (lentPart x r) → (h ≤ endHalf) × ((i < 64) × ((m < 16) × (n < 4294967296)))
+  count-fits n f =
+      (q .measured .half .1, (omega (arith, q .texture, q .measured .textures), (omega (arith, q .mip, q .top, q .measured .mips), omega (arith, part-long, q .measured .layers))))
+
+-- the part of a tiled mip, as the functions on one mip see it
+module _ {t r : List ℕ} {h i m layers : ℕ} (q : MipTiled (numbersOf t) h t r i m layers) {x : Located} (l : LocatedAt t h i m (length r) x) where
+  pub lent-is : decode (x .len) (lentPart x r) ≡ mipOf (numbersOf t) h t r i m
+  lent-is = rw (l .len, part-is (q .ready) l) (sym (tiled-is q))
+
+  pub lent-fits : 3 * x .len ≤ length (lentPart x r)
+  lent-fits = let f = tiled-few q in omega (arith, part-long (q .ready) l, l .len)
+
+  pub lent-layers : 3 * layers ≤ length (lentPart x r)
+  lent-layers = omega (arith, part-long (q .ready) l, q .low)
+
+  pub lent-tiled : Tiles 0 (decode (x .len) (lentPart x r)) layers
+  lent-tiled = subst (λ (s : List Range). Tiles 0 s layers) (sym lent-is) (q .tiled)
+
+  pub lent-room : (a e u : ℕ) → a < e → e ≤ layers → IsolateRoom (lentPart x r) (x .len) a e u
+  lent-room a e u ae el = isolate-room (lentPart x r) (x .len) a e u layers lent-layers lent-fits lent-tiled ae el
+
+-- ---- All mips of a texture that is Many in the half h
+pub record ManyReady (d : Numbers) (h : ℕ) (t r : List ℕ) (i layers : ℕ) : Type 0 where
+  pub measured : Measured d h t r
+  pub texture : i < d .textures
+  pub some : 0 < layers
+  pub low : layers ≤ d .layers
+  pub tiled : (k : ℕ) → k < mipsIn d t i → Tiles 0 (mipOf d h t r i k) layers
+
+-- ---- A piece with the layers from a to e, on a tiled mip of texture i
+pub record PieceReady (h : ℕ) (t r : List ℕ) (i m a e : ℕ) : Type 0 where
+  pub tiled : MipTiled (numbersOf t) h t r i m (getD t (layersAt i) 0)
+  pub order : a < e
+  pub inside : e ≤ getD t (layersAt i) 0
+
+-- ---- A selector that the checks 10 and 11 pass, on texture i
+pub record Selects (d : Numbers) (t : List ℕ) (i : ℕ) (q : Selector) : Type 0 where
+  pub mips : mipStart q < mipEnd q
+  pub layers : layerStart q < layerEnd q
+  pub in-mips : mipEnd q ≤ mipsIn d t i
+  pub in-layers : layerEnd q ≤ getD t (layersAt i) 0
+
+-- the mips of texture i, all of them
+pub record EveryReady (d : Numbers) (h : ℕ) (t r : List ℕ) (i mips : ℕ) : Type 0 where
+  pub measured : Measured d h t r
+  pub texture : i < d .textures
+  pub all : mips ≡ mipsIn d t i

@@ -1,0 +1,29 @@
+-- `set_run` is a pass that nothing stops.
+use Prim.Native.Nat.{_-_}
+use Rattle.model.specs.RangedStates.{inState}
+use Rattle.texture_mips.proofs.Passing.{Passing, start-of, turn}
+use Rattle.texture_mips.proofs.Painted.{never, set-all}
+use borrow.Author.Needs.{needs}
+use Rattle.texture_mips.proofs.painting.set_run.Statement.{statement}
+use Rattle.texture_mips.proofs.painting.set_run.Tie as tie
+
+abbrev Inv-loop : tie.InvT-loop
+Inv-loop s₀ from to state k₀ s k = Passing never (inState state) s₀ from to s k
+
+abbrev μ-loop : tie.MeasureT-loop
+μ-loop s₀ from to state k₀ s k = to - k
+
+loop-holds : tie.Need-loop-holds Inv-loop μ-loop
+loop-holds c = search start-of
+
+loop-again : tie.Need-loop-again Inv-loop μ-loop
+loop-again c = search turn
+
+returns : tie.Need-returns Inv-loop μ-loop
+returns c = search set-all
+
+pub set-run-spec : {M : Type 1} → statement M
+set-run-spec =
+    tie.close
+    (tie.spec Inv-loop μ-loop loop-holds (λ c κs. search needs) (λ c κs. search needs) (λ c. search needs)
+    (λ c. search needs) loop-again (λ c. search needs) returns)

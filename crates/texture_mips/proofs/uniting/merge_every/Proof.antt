@@ -1,0 +1,17 @@
+-- `merge_every` is a merge of a run that is all of the mip.
+use Rattle.texture_mips.proofs.Walking.{every-met, every-done}
+use borrow.Author.Needs.{needs}
+use Rattle.texture_mips.proofs.uniting.merge_every.Statement.{statement}
+use Rattle.texture_mips.proofs.uniting.merge_every.Tie as tie
+
+returns : tie.Need-returns
+returns c = every-met _ _ (c .before .before .before .before .before .before .before .before .pre) (c .before .before .before .before .before .merge-run .ensures) (c .before .before .if1 .taken) (c .get .ensures)
+
+returns-2 : tie.Need-returns-2
+returns-2 c = every-done _ _ (c .before .before .before .before .before .before .before .before .before .before .pre) (c .before .before .before .before .before .before .before .merge-run .ensures) (c .before .before .before .before .if1 .left) (c .before .before .coalesce .ensures)
+
+pub merge-every-spec : {M : Type 1} → statement M
+merge-every-spec =
+    tie.close
+    (tie.spec (λ c κs. search needs) (λ c κs. search needs) (λ c. search needs) returns (λ c κs. search needs)
+    (λ c. search needs) returns-2)

@@ -1,0 +1,17 @@
+-- `merge_piece` is a merge of the run that `isolate` makes.
+use Rattle.texture_mips.proofs.Walking.{piece-met, piece-done}
+use borrow.Author.Needs.{needs}
+use Rattle.texture_mips.proofs.uniting.merge_piece.Statement.{statement}
+use Rattle.texture_mips.proofs.uniting.merge_piece.Tie as tie
+
+returns : tie.Need-returns
+returns c = piece-met _ _ _ _ (c .before .before .before .before .before .before .before .before .before .before .isolate .ensures) (c .before .before .before .before .before .before .merge-run .ensures) (c .before .before .if1 .taken) (c .get .ensures)
+
+returns-2 : tie.Need-returns-2
+returns-2 c = piece-done _ _ _ _ (c .before .before .before .before .before .before .before .before .before .before .before .before .isolate .ensures) (c .before .before .before .before .before .before .before .before .merge-run .ensures) (c .before .before .before .before .if1 .left) (c .before .before .coalesce .ensures)
+
+pub merge-piece-spec : {M : Type 1} → statement M
+merge-piece-spec =
+    tie.close
+    (tie.spec (λ c κs. search needs) (λ c κs. search needs) (λ c κs. search needs) (λ c. search needs) returns
+    (λ c κs. search needs) (λ c. search needs) returns-2)

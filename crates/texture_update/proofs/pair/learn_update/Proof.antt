@@ -1,0 +1,18 @@
+-- `learn_update`: the isolated run is read by the start, then takes the state, and the end is coalesced.
+use native.Mathlib.Omega.{arith}
+use Rattle.texture_update.proofs.Pairs.{run-room, pair-is}
+use borrow.Author.Needs.{needs}
+use Rattle.texture_update.proofs.pair.learn_update.Statement.{statement}
+use Rattle.texture_update.proofs.pair.learn_update.Tie as tie
+
+learn-requires : tie.Need-learn-requires
+learn-requires c κs = let i = (c .before .before .before .before .isolate .ensures) in (omega (arith, i .some), (omega (arith, i .in-all, i .fits, i .into .long), run-room i _ ((c .before .before .before .before .before .before .before .before .pre) .1)))
+
+returns : tie.Need-returns
+returns c = pair-is (c .before .before .before .before .before .before .before .before .before .before .before .before .before .before .before .isolate .ensures) (c .before .before .before .before .before .before .before .before .before .before .before .before .before .before .before .before .before .before .before .args .new) (c .before .before .before .before .before .before .before .before .before .before .before .before .before .before .before .before .before .before .before .args .slen) (c .before .before .before .before .before .before .before .before .before .before .learn .ensures) (c .before .before .before .before .before .before .set-run .ensures) (c .before .before .coalesce .ensures)
+
+pub learn-update-spec : {M : Type 1} → statement M
+learn-update-spec =
+    tie.close
+    (tie.spec (λ c κs. search needs) learn-requires (λ c κs. search needs) (λ c κs. search needs) (λ c. search needs)
+    (λ c. search needs) returns)
