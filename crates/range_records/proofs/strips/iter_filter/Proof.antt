@@ -125,8 +125,8 @@ iter-filter-spec 𝓤 H 𝓜 𝓖 𝓡 =
     entered 𝓤 H (tripleOf 𝓤 H (𝓖 .A) iter-filter.signature (iter-filter.spec 𝓤 H (𝓖 .A) (𝓜 .mem) (𝓡 .run))) (tables 𝓤 H 𝓜 𝓡 code.env .C) (tables 𝓤 H 𝓜 𝓡 code.env .Λ) #iter-filter code.function (code.unfolded 𝓤 H 𝓜 𝓡)
     (meets 𝓤 H (𝓖 .A) W params (plain (λ _. answer.the-row)) (iter-filter.clauses 𝓤 H (𝓖 .A) (𝓜 .mem) (𝓡 .run)) code.function 𝓣 (λ κs qs x g are.
     walk 𝓤 H (𝓖 .A) W (𝓜 .mem) (𝓡 .run) (κs .0) (κs .1 .0) (qs .0) (qs .1 .0) (x .0) (x .1 .0) (x .1 .1 .0) (x .1 .1 .1 .0) (x .1 .1 .1 .1 .0) (are .0 .0 .1) (are .1 .0 .1) (are .1 .1 .0 .1) (are .1 .1 .1 .0 .1) (are .1 .1 .1 .1 .0 .0 .1) 𝓣
-    (cited 𝓤 H _ 𝓜 𝓡 code.env within-def.name within-def.routine code.calls-records·decisions·within (within-thm.met 𝓤 H 𝓜 𝓖 𝓡))
-    (cited 𝓤 H _ 𝓜 𝓡 code.env survey-def.name survey-def.routine code.calls-records·strips·survey (survey-thm.met 𝓤 H 𝓜 𝓖 𝓡))
-    (cited 𝓤 H _ 𝓜 𝓡 code.env plan-def.name plan-def.routine code.calls-records·decisions·plan-filter (plan-thm.met 𝓤 H 𝓜 𝓖 𝓡))
-    (cited 𝓤 H _ 𝓜 𝓡 code.env count-def.name count-def.routine code.calls-records·decisions·filter-count (count-thm.met 𝓤 H 𝓜 𝓖 𝓡))
-    (cited 𝓤 H _ 𝓜 𝓡 code.env clip-def.name clip-def.routine code.calls-records·strips·clip (clip-thm.met 𝓤 H 𝓜 𝓖 𝓡))))
+    (cited 𝓤 H _ 𝓜 𝓡 code.env within-def.name within-def.routine code.calls-range-records·decisions·within (within-thm.met 𝓤 H 𝓜 𝓖 𝓡))
+    (cited 𝓤 H _ 𝓜 𝓡 code.env survey-def.name survey-def.routine code.calls-range-records·strips·survey (survey-thm.met 𝓤 H 𝓜 𝓖 𝓡))
+    (cited 𝓤 H _ 𝓜 𝓡 code.env plan-def.name plan-def.routine code.calls-range-records·decisions·plan-filter (plan-thm.met 𝓤 H 𝓜 𝓖 𝓡))
+    (cited 𝓤 H _ 𝓜 𝓡 code.env count-def.name count-def.routine code.calls-range-records·decisions·filter-count (count-thm.met 𝓤 H 𝓜 𝓖 𝓡))
+    (cited 𝓤 H _ 𝓜 𝓡 code.env clip-def.name clip-def.routine code.calls-range-records·strips·clip (clip-thm.met 𝓤 H 𝓜 𝓖 𝓡))))

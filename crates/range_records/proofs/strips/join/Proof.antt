@@ -158,5 +158,5 @@ join-spec 𝓤 H 𝓜 𝓖 𝓡 =
     (meets 𝓤 H (𝓖 .A) W params (plain (λ _. usize)) (joins.clauses 𝓤 H (𝓖 .A) (𝓜 .mem) (𝓡 .run)) code.function (tablesOf 𝓤 H 𝓜 (tables 𝓤 H 𝓜 𝓡 code.env))
     (λ κs qs x g are. needs 𝓤 (x .1 .0 ≤ length (x .0 .now)) _ (λ ok.
     walk 𝓤 H (𝓖 .A) W (𝓜 .mem) (𝓡 .run) (κs .0) (qs .0) (x .0) (x .1 .0) (are .0 .0 .1) (are .1 .0 .1) ok (tablesOf 𝓤 H 𝓜 (tables 𝓤 H 𝓜 𝓡 code.env))
-    (cited 𝓤 H (tripleOf 𝓤 H (𝓖 .A) blanked.signature (blanked.spec 𝓤 H (𝓖 .A) (𝓜 .mem) (𝓡 .run))) 𝓜 𝓡 code.env blanked-def.name blanked-def.routine code.calls-records·decisions·blank (blanked-thm.met 𝓤 H 𝓜 𝓖 𝓡))
-    (cited 𝓤 H (tripleOf 𝓤 H (𝓖 .A) join-next.signature (join-next.spec 𝓤 H (𝓖 .A) (𝓜 .mem) (𝓡 .run))) 𝓜 𝓡 code.env join-next-def.name join-next-def.routine code.calls-records·decisions·join-next (join-next-thm.met 𝓤 H 𝓜 𝓖 𝓡)))))
+    (cited 𝓤 H (tripleOf 𝓤 H (𝓖 .A) blanked.signature (blanked.spec 𝓤 H (𝓖 .A) (𝓜 .mem) (𝓡 .run))) 𝓜 𝓡 code.env blanked-def.name blanked-def.routine code.calls-range-records·decisions·blank (blanked-thm.met 𝓤 H 𝓜 𝓖 𝓡))
+    (cited 𝓤 H (tripleOf 𝓤 H (𝓖 .A) join-next.signature (join-next.spec 𝓤 H (𝓖 .A) (𝓜 .mem) (𝓡 .run))) 𝓜 𝓡 code.env join-next-def.name join-next-def.routine code.calls-range-records·decisions·join-next (join-next-thm.met 𝓤 H 𝓜 𝓖 𝓡)))))
