@@ -7,3 +7,5 @@ pub mod StepLaws
 pub mod TraceLaws
 pub mod UsageLaws
 pub mod Untouched
+pub mod Client
+pub mod ClientLaws

@@ -38,11 +38,17 @@ emptied-is : (log : Log) → headCheck log .fails ≡ false → emptying log ≡
 unfolding emptying firstFailing
 emptied-is log e = rw e
 
+-- the head that it leaves
+pub emptied-head : (l : List ℕ) (h : LogHead) (x : Answered) → h .written + h .free ≤ length (entriesOf l) → Logs (emptying (logOf l h)) l x l
+    → x .head ≡ record { written = 0; free = h .free + h .written }
+emptied-head l h x room c =
+    c .head ∙ ap (λ (r : Logged (Unit {0})). r .log .head) (emptied-is (logOf l h) (le-ltb (length (entriesOf l)) (h .written + h .free) room))
+
 pub empty-log : (l : List ℕ) (h : LogHead) (x : Answered) → h .written + h .free ≤ length (entriesOf l) → Logs (emptying (logOf l h)) l x l
     → (x .outcome ≡ Done) × Empty (logOf l (x .head))
 empty-log l h x room c =
     let e = emptied-is (logOf l h) (le-ltb (length (entriesOf l)) (h .written + h .free) room) in
-    let d : x .head ≡ record { written = 0; free = h .free + h .written } = c .head ∙ ap (λ (r : Logged (Unit {0})). r .log .head) e in (
+    let d = emptied-head l h x room c in (
       c .answer ∙ ap (λ (r : Logged (Unit {0})). outcomeOf (r .answer)) e,
       record {
         fits = rw d (le-ltb (length (entriesOf l)) (0 + (h .free + h .written)) (omega arith));

@@ -52,7 +52,7 @@ module _ (o : Opening) (e : opens o ≡ true) where
 scope-done : (o : ScopeOpening) → isDone (o .outcome) ≡ opens (scopeAsked o)
 scope-done o = ap isDone (o .meets .answer) ∙ done-opens (openingRefusal (scopeAsked o))
 
-tracker-done : (o : TrackerOpening) → isDone (o .outcome) ≡ opens (trackerAsked o)
+pub tracker-done : (o : TrackerOpening) → isDone (o .outcome) ≡ opens (trackerAsked o)
 tracker-done o = ap isDone (o .meets .answer) ∙ done-opens (openingRefusal (trackerAsked o))
 
 scope-opened : (o : ScopeOpening) → opens (scopeAsked o) ≡ true → scopeTest (record { table = o .opened; ranges = o .ranges }) ≡ true

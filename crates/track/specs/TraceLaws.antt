@@ -98,7 +98,7 @@ ready-after [] k ready t = ready
 ready-after (s ∷ steps) k ready t = ready-after steps (s .sets) (steps-on k ready s (t .0) .1 .ready) (t .1)
 
 -- what is ready is well formed
-ready-fits : (k : Lent) → Ready k → wellFormed (viewOf k) ≡ true
+pub ready-fits : (k : Lent) → Ready k → wellFormed (viewOf k) ≡ true
 ready-fits k r = both
     (all-every (λ (x : Set Held). scopeFits x ≡ true) scopeFits (λ x e. e) (map scopeIn (k .scopes)) (all-map (λ (s : LentScope). scopeTest s ≡ true) (λ (x : Set Held). scopeFits x ≡ true) scopeIn scope-well (k .scopes) (r .scopes)))
     (all-every (λ (x : Tracker Held). trackerFits x ≡ true) trackerFits (λ x e. e) (map trackerIn (k .trackers)) (all-map (λ (t : LentTracker). trackerTest t ≡ true) (λ (x : Tracker Held). trackerFits x ≡ true) trackerIn tracker-well (k .trackers) (r .trackers)))

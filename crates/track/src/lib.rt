@@ -12,8 +12,12 @@
 // Reading order, in specs/: Trace (definitions alone: what is lent, opened, called and shared), Demand3 (the theorem) and Claims (that every
 // trace is the ranged model's run, and the WebGPU rule at its last step). Below them are proofs: LogLaws (an emptied log never refuses, and its
 // entries tell the model's transitions), OpenedLaws (opened storage is the model's, and well formed), StepLaws (a step that meets its contract
-// is the model's), TraceLaws (step by step, for every trace) and UsageLaws (a last step that merges a usage).
+// is the model's), TraceLaws (step by step, for every trace) and UsageLaws (a last step that merges a usage). `client` is a program whose calls
+// are such a trace (Client, ClientLaws): what a trace asks of its steps can be met.
 use call_set::Answered;
+
+pub mod client;
+
 use model::Extent;
 use model::LogHead;
 use model::Outcome;
