@@ -1,5 +1,6 @@
-/* The texture state tracker of wgpu-core, proved in Rattle, for C and C++: link target/staticlib/libexports.a (`rt staticlib exports`,
- * for x86-64 Linux). Of the C library it needs memset alone, and it keeps nothing of its own between calls.
+/* The texture state tracker of wgpu-core, proved in Rattle, for C and C++: the plain boundary, as the library has it. Link
+ * libtexture_tracker.a (x86-64 Linux; `tools/library` writes it to target/lib). Of the C library it needs memset alone, and it keeps
+ * nothing of its own between calls. texture_tracker.h has the same calls in a form that is hard to get wrong: begin there.
  *
  * A scope gathers how the textures of one pass are used and finds conflicts; a tracker knows the state of each texture as commands leave
  * it and logs the transitions that a driver must be told of. Both are plain numbers in memory that the caller lends to each call.
@@ -21,6 +22,13 @@
 extern "C" {
 #endif
 
+/* ---- Version ------------------------------------------------------------------------------------------------------------------ */
+
+#define TRACK_VERSION_MAJOR 0
+#define TRACK_VERSION_MINOR 1
+#define TRACK_VERSION_PATCH 0
+#define TRACK_VERSION (TRACK_VERSION_MAJOR * 10000 + TRACK_VERSION_MINOR * 100 + TRACK_VERSION_PATCH)
+
 /* ---- Limits of a set ---------------------------------------------------------------------------------------------------------- */
 
 #define TRACK_MAX_TEXTURES 64 /* N: textures of a set, 1 to 64 */
@@ -31,16 +39,24 @@ extern "C" {
 
 /* A table. Callers may read it; what they write into it is theirs to answer for: a set that is then not well formed is refused (4). */
 #define TRACK_TABLE_LENGTH 2376
-#define TRACK_OWNED 8     /* table[TRACK_OWNED + i]: 0 if the set does not own texture i; the next two are told of owned ones */
-#define TRACK_MIPS 72     /* table[TRACK_MIPS + i]: its mips */
-#define TRACK_LAYERS 136  /* table[TRACK_LAYERS + i]: its layers */
-#define TRACK_START 200   /* half h = TRACK_START: a scope's states, or a tracker's states at the start */
-#define TRACK_END 1288    /* half h = TRACK_END: a tracker's states at the end; a scope does not use it */
+#define TRACK_N 0             /* table[TRACK_N]: N, and so on: the numbers and the flags that the set was opened with */
+#define TRACK_M 1
+#define TRACK_W 2
+#define TRACK_EXCLUSIVE 3
+#define TRACK_UNINITIALIZED 4
+#define TRACK_COMPLEX 5
+#define TRACK_UNKNOWN 6
+#define TRACK_ORDERED 7       /* a tracker's mask of ordered states; a scope does not use it */
+#define TRACK_OWNED 8         /* table[TRACK_OWNED + i]: 0 if the set does not own texture i; the next two are told of owned ones */
+#define TRACK_MIPS 72         /* table[TRACK_MIPS + i]: its mips */
+#define TRACK_LAYERS 136      /* table[TRACK_LAYERS + i]: its layers */
+#define TRACK_START 200       /* half h = TRACK_START: a scope's states, or a tracker's states at the start */
+#define TRACK_END 1288        /* half h = TRACK_END: a tracker's states at the end; a scope does not use it */
 /* table[h + i]: the state, where one state holds for all of texture i; the COMPLEX flag, where each mip has ranges of its own */
-#define TRACK_COUNTS 64   /* table[h + TRACK_COUNTS + 16 * i + m]: how many ranges mip m then has */
+#define TRACK_COUNTS 64       /* table[h + TRACK_COUNTS + 16 * i + m]: how many ranges mip m then has */
 
 /* Ranges: a scope has one run of them, a tracker two, starts and ends. Each is three numbers: first layer, layer past the last, state.
- * Those of mip m of texture i begin at 3 * W * (i * M + m). Numbers past those in use are free: a call may leave anything there. */
+ * Those of mip m of texture i begin at 3 * W * (i * M + m). */
 #define TRACK_RANGE_LENGTH 3
 #define TRACK_RANGES_LENGTH(n, m, w) ((size_t)TRACK_RANGE_LENGTH * (n) * (m) * (w))
 
@@ -49,6 +65,17 @@ extern "C" {
  * entries after the written ones. No call needs more entries than the tracker has subresources, N * M * W. */
 #define TRACK_LOG_ENTRY_LENGTH 7
 #define TRACK_LOG_LENGTH(entries) ((size_t)TRACK_LOG_ENTRY_LENGTH * (entries))
+
+/* What stays. A refusal changes nothing that was lent, and what is lent as const stays. A call that is done or in conflict writes only the
+ * words and the ranges of the textures that it names: the one index that it is given, those that the given set owns, or those that are
+ * listed and owned. Every other number stays: ranges past N * M * W and numbers after the last whole range; the words of indices from N
+ * on; a scope's words that only a tracker uses; and the words and ranges of each texture that is not named, its unused ones and the very
+ * number that marks it as owned among them.
+ * Inside a named texture only what is unused is free, and a call may leave anything there: which nonzero number marks it as owned; the
+ * counts and ranges of a half that has one state for all of it; counts and ranges of mips that it does not have; ranges past a count.
+ * The table that the sparse call takes textures from (given) becomes the same with the words of ownership of the listed indices 0.
+ * In a log every number stays but those of the entries that the call writes. Opening writes the first eight words of the table and, of
+ * each index below N, whether it is owned, its mips, its layers and its states. */
 
 /* ---- Answers ------------------------------------------------------------------------------------------------------------------ */
 
