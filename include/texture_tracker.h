@@ -483,6 +483,7 @@ static inline tt_range tt_range_in(const uint32_t *table, size_t words, const ui
             found.layers.start = range[0];
             found.layers.end = range[1];
             found.state = range[2];
+            break;
         }
     }
     return found;
