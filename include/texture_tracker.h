@@ -17,8 +17,8 @@
  * This header only forms the calls of track.h, which has the answers, the refusals and the layout of the memory; the library decides. Two
  * refusals are this header's own (enum tt_refusal). The calls on ranges by themselves are in track.h alone.
  *
- * What is left to the caller: memory that is lent is as long as it is said to be and is lent once; nobody else writes it while a call runs.
- * Calls on different sets and logs may run at the same time.
+ * What the calls require of their caller: memory is as long as it is said to be and serves one set or log only, and nobody else writes it
+ * while a call runs. Calls on different sets and logs may run at the same time.
  */
 #ifndef TEXTURE_TRACKER_H
 #define TEXTURE_TRACKER_H
@@ -41,7 +41,7 @@
 #endif
 #endif
 
-/* ---- wgpu's texture uses ------------------------------------------------------------------------------------------------------ */
+/* ---- wgpu's texture uses ----------------------------------------------------------------------------------------------------- */
 
 /* A state is one or more uses, 16 bits. The tracker knows none of these by itself: a set is opened with the flags that tell it what it must
  * know, and takes any others as well. */
@@ -66,7 +66,7 @@
 /* The uses that hardware commonly keeps in order by itself: those that read, and attachments. wgpu asks the device for them. */
 #define TRACK_USE_ORDERED 0x01f4u
 
-/* ---- Values ------------------------------------------------------------------------------------------------------------------- */
+/* ---- Values ------------------------------------------------------------------------------------------------------------------ */
 
 /* What a set is opened for: at most 64 textures, each of at most 16 mips and 256 layers. */
 typedef struct TT_BY_NAME tt_size { uint32_t textures, mips, layers; } tt_size;
@@ -96,8 +96,8 @@ typedef struct tt_range { tt_layers layers; uint32_t state; } tt_range;
 /* An entry of a log. */
 typedef struct tt_transition { uint32_t index; tt_selector part; uint32_t old_state, new_state; } tt_transition;
 
-/* A scope, a tracker and a log: handles of lent memory. A copy of a handle stands for the same set or log, the head of the log included.
- * A call refuses one that is zero or whose opening was refused. */
+/* A scope, a tracker and a log: handles of borrowed memory. A copy of a handle stands for the same set or log, the head of the log
+ * included. A handle that is zero, or whose opening was refused, is refused by every call. */
 typedef struct tt_scope { uint32_t *memory; size_t length; } tt_scope;
 typedef struct tt_tracker { uint32_t *memory; size_t length; } tt_tracker;
 typedef struct tt_log { uint32_t *memory; size_t length; } tt_log;
@@ -105,7 +105,7 @@ typedef struct tt_log { uint32_t *memory; size_t length; } tt_log;
 /* track_answer.number, beside enum track_refusal: what this header refuses before the library is called. */
 enum tt_refusal {
     TT_STATE_PAST_16_BITS = 1001, /* the state, or a tracker's ordered mask, is above 65,535 */
-    TT_SAME_SET_TWICE = 1002      /* a set is handed in as the other one as well */
+    TT_SAME_SET_TWICE = 1002      /* a set is passed in as the other one as well */
 };
 
 static inline tt_flags tt_wgpu_flags(void)
@@ -167,10 +167,10 @@ TT_CALL int tt_done(track_answer answer)
     return answer.kind == TRACK_DONE;
 }
 
-/* ---- Memory ------------------------------------------------------------------------------------------------------------------- */
+/* ---- Memory ------------------------------------------------------------------------------------------------------------------ */
 
-/* Each declares an array: `static TT_SCOPE_MEMORY(memory, 2, 4, 8);`, which is lent as `memory, sizeof memory`. A call needs at most as
- * many entries of the log as the tracker has subresources, textures * mips * layers. */
+/* Each declares an array: `static TT_SCOPE_MEMORY(memory, 2, 4, 8);`, which is passed in as `memory, sizeof memory`. A call needs at
+ * most as many entries of the log as the tracker has subresources, textures * mips * layers. */
 #define TT_SCOPE_MEMORY(name, textures, mips, layers) \
     uint32_t name[TRACK_TABLE_LENGTH + TRACK_RANGES_LENGTH(textures, mips, layers)]
 #define TT_TRACKER_MEMORY(name, textures, mips, layers) \
@@ -181,7 +181,7 @@ TT_CALL int tt_done(track_answer answer)
 /* A log's memory begins with its head: entries written, entries free. */
 #define TT_LOG_HEAD 2
 
-/* Numbers past their limit count as the limit: opening is refused there, whatever is lent. */
+/* Numbers past their limit count as the limit: opening is refused there, whatever the memory. */
 static inline size_t tt_subresources(tt_size size)
 {
     const size_t textures = size.textures < TRACK_MAX_TEXTURES ? size.textures : TRACK_MAX_TEXTURES;
@@ -206,7 +206,7 @@ static inline size_t tt_log_bytes(uint32_t entries)
     return sizeof(uint32_t) * (TT_LOG_HEAD + TRACK_LOG_LENGTH(entries));
 }
 
-/* ---- Where a handle's parts lie: for this header only ------------------------------------------------------------------------- */
+/* ---- Where a handle's parts lie: for this header only ------------------------------------------------------------------------ */
 
 static inline track_answer tt_refused(uint32_t number)
 {
@@ -258,21 +258,21 @@ static inline track_answer tt_head_taken(tt_log log, track_logged_answer logged)
     return logged.answer;
 }
 
-/* ---- Opening ------------------------------------------------------------------------------------------------------------------ */
+/* ---- Opening ----------------------------------------------------------------------------------------------------------------- */
 
-/* Lends `bytes` of memory to a scope that owns no texture yet. The memory need not be cleared first. Refuses 1, 2, 3. */
+/* Opens a scope that owns no texture yet in so many bytes of memory, which need not be cleared first. Refuses 1, 2, 3. */
 TT_CALL track_answer tt_open_scope(tt_scope *scope, uint32_t *memory, size_t bytes, tt_size size, tt_flags flags)
 {
-    tt_scope lent;
+    tt_scope opened;
     track_answer answer;
-    lent.memory = memory;
-    lent.length = bytes / sizeof *memory;
+    opened.memory = memory;
+    opened.length = bytes / sizeof *memory;
     scope->memory = NULL;
     scope->length = 0;
-    if (memory == NULL || lent.length < TRACK_TABLE_LENGTH) return tt_refused(TRACK_SHORT_ROOM);
-    answer = track_open_scope(memory, tt_ranges(lent), tt_ranges_length(lent), size.textures, size.mips, size.layers,
+    if (memory == NULL || opened.length < TRACK_TABLE_LENGTH) return tt_refused(TRACK_SHORT_ROOM);
+    answer = track_open_scope(memory, tt_ranges(opened), tt_ranges_length(opened), size.textures, size.mips, size.layers,
                               flags.exclusive, flags.uninitialized_bit, flags.complex_bit, flags.unknown_bit);
-    if (answer.kind == TRACK_DONE) *scope = lent;
+    if (answer.kind == TRACK_DONE) *scope = opened;
     return answer;
 }
 
@@ -280,22 +280,22 @@ TT_CALL track_answer tt_open_scope(tt_scope *scope, uint32_t *memory, size_t byt
  * state. Refuses 1, 2, 3. */
 TT_CALL track_answer tt_open_tracker(tt_tracker *tracker, uint32_t *memory, size_t bytes, tt_size size, tt_flags flags, uint32_t ordered)
 {
-    tt_tracker lent;
+    tt_tracker opened;
     track_answer answer;
-    lent.memory = memory;
-    lent.length = bytes / sizeof *memory;
+    opened.memory = memory;
+    opened.length = bytes / sizeof *memory;
     tracker->memory = NULL;
     tracker->length = 0;
     if (ordered > UINT16_MAX) return tt_refused(TT_STATE_PAST_16_BITS);
-    if (memory == NULL || lent.length < TRACK_TABLE_LENGTH) return tt_refused(TRACK_SHORT_ROOM);
-    answer = track_open_tracker(memory, tt_starts(lent), tt_half_length(lent), tt_ends(lent), tt_half_length(lent),
+    if (memory == NULL || opened.length < TRACK_TABLE_LENGTH) return tt_refused(TRACK_SHORT_ROOM);
+    answer = track_open_tracker(memory, tt_starts(opened), tt_half_length(opened), tt_ends(opened), tt_half_length(opened),
                                 size.textures, size.mips, size.layers,
                                 flags.exclusive, flags.uninitialized_bit, flags.complex_bit, flags.unknown_bit, (uint16_t)ordered);
-    if (answer.kind == TRACK_DONE) *tracker = lent;
+    if (answer.kind == TRACK_DONE) *tracker = opened;
     return answer;
 }
 
-/* Lends memory to a log; all of its entries are free. Refuses 5, if the memory is too short for the head of a log. */
+/* Opens a log whose entries are all free. Refuses 5, if the memory is too short for its head. */
 TT_CALL track_answer tt_open_log(tt_log *log, uint32_t *memory, size_t bytes)
 {
     const size_t length = bytes / sizeof *memory;
@@ -312,7 +312,7 @@ TT_CALL track_answer tt_open_log(tt_log *log, uint32_t *memory, size_t bytes)
     return tt_head_taken(*log, logged);
 }
 
-/* ---- Merging into a scope ----------------------------------------------------------------------------------------------------- */
+/* ---- Merging into a scope ---------------------------------------------------------------------------------------------------- */
 
 /* One use of a part of a texture. Refuses 4, 7 to 13. */
 TT_CALL track_answer tt_merge_single(tt_scope scope, tt_texture texture, tt_selector part, uint32_t state)
@@ -332,7 +332,7 @@ TT_CALL track_answer tt_merge_usage_scope(tt_scope scope, tt_scope given)
                                    given.memory, tt_ranges(given), tt_ranges_length(given));
 }
 
-/* ---- The calls of a tracker: each logs the transitions that its uses make necessary, and none answers a conflict --------------- */
+/* ---- The calls of a tracker: each logs the transitions that its uses make necessary, and none returns a conflict ------------- */
 
 /* One use of a part of a texture. Refuses 4, 5, 7 to 13, 15. */
 TT_CALL track_answer tt_set_single(tt_tracker tracker, tt_log log, tt_texture texture, tt_selector part, uint32_t state)
@@ -384,9 +384,9 @@ TT_CALL track_answer tt_set_and_remove_from_usage_scope_sparse(tt_tracker tracke
         tt_entries(log), tt_entries_length(log), log.memory[0], log.memory[1]));
 }
 
-/* ---- The log ------------------------------------------------------------------------------------------------------------------ */
+/* ---- The log ----------------------------------------------------------------------------------------------------------------- */
 
-/* Empties a log, once its transitions were handed to the driver. Refuses 5. */
+/* Empties a log, once the driver has its transitions. Refuses 5. */
 TT_CALL track_answer tt_empty_log(tt_log log)
 {
     if (log.memory == NULL) return tt_refused(TRACK_LOG_TOO_SHORT);
@@ -420,9 +420,9 @@ static inline tt_transition tt_log_entry(tt_log log, size_t k)
     return entry;
 }
 
-/* ---- Reading a set: any numbers may stand in its memory ----------------------------------------------------------------------- */
+/* ---- Reading a set: any numbers may stand in its memory ---------------------------------------------------------------------- */
 
-/* The test that every call makes first of each set that it is handed: 1 if it is well formed, otherwise 0. */
+/* The test that every call makes first, of each set: 1 if it is well formed, otherwise 0. */
 TT_CALL uint32_t tt_scope_is_well_formed(tt_scope scope)
 {
     return scope.memory == NULL ? 0 : track_scope_is_well_formed(scope.memory, tt_ranges(scope), tt_ranges_length(scope));
@@ -529,7 +529,7 @@ static inline uint32_t tt_end_state(tt_tracker tracker, tt_place place)
     return tt_end_range(tracker, place).state;
 }
 
-/* ---- Words -------------------------------------------------------------------------------------------------------------------- */
+/* ---- Words ------------------------------------------------------------------------------------------------------------------- */
 
 /* What a refusal means, by track_answer.number. */
 static inline const char *tt_refusal_words(uint32_t number)
@@ -551,12 +551,12 @@ static inline const char *tt_refusal_words(uint32_t number)
     case TRACK_RANGES_OUT_OF_ORDER: return "the ranges are empty, out of order or overlap";
     case TRACK_NO_FREE_ENTRY: return "the call needs more log entries than are free";
     case TT_STATE_PAST_16_BITS: return "the state has more than 16 bits";
-    case TT_SAME_SET_TWICE: return "the set is handed in as the other one as well";
+    case TT_SAME_SET_TWICE: return "the set is passed in as the other one as well";
     default: return "no refusal has this number";
     }
 }
 
-/* The name of wgpu's use that is bit 0 to 15 of a state. Bit 15 has none and is told as its number. */
+/* The name of wgpu's use that is bit 0 to 15 of a state. Bit 15 has none and is written as its number. */
 static inline const char *tt_use_name(unsigned bit)
 {
     static const char *const names[16] = {
