@@ -32,7 +32,7 @@
 #define TT_CALL static inline
 #endif
 
-/* A struct whose fields must be initialised by name, where the compiler knows of that (gcc, in C). */
+/* A struct whose fields are initialised by name: gcc warns, in C, of any that is not, of `{ 0 }` too. */
 #define TT_BY_NAME
 #if defined(__has_attribute) && !defined(__cplusplus)
 #if __has_attribute(designated_init)

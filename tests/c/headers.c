@@ -1,4 +1,4 @@
-/* Both headers as C and as C++ of every age, by themselves: every call of texture_tracker.h, with fields set by name. It is only compiled. */
+/* Both headers as C and as C++ of every age: every call of texture_tracker.h, in what the two languages share. */
 #include "texture_tracker.h"
 
 #if TRACK_VERSION != TRACK_VERSION_MAJOR * 10000 + TRACK_VERSION_MINOR * 100 + TRACK_VERSION_PATCH
