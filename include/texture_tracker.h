@@ -190,7 +190,7 @@ static inline size_t tt_subresources(tt_size size)
     return textures * mips * layers;
 }
 
-/* The same in bytes, for malloc. */
+/* How many bytes a set or a log needs, for malloc. */
 static inline size_t tt_scope_bytes(tt_size size)
 {
     return sizeof(uint32_t) * (TRACK_TABLE_LENGTH + TRACK_RANGE_LENGTH * tt_subresources(size));
@@ -277,7 +277,7 @@ TT_CALL track_answer tt_open_scope(tt_scope *scope, uint32_t *memory, size_t byt
 }
 
 /* The same for a tracker. ordered is the mask of ordered states: a transition from a state to itself is left out if the mask holds that
- * state. Refuses 1, 2, 3. */
+ * state. Refuses 1, 2, 3, 1001. */
 TT_CALL track_answer tt_open_tracker(tt_tracker *tracker, uint32_t *memory, size_t bytes, tt_size size, tt_flags flags, uint32_t ordered)
 {
     tt_tracker opened;
@@ -314,7 +314,7 @@ TT_CALL track_answer tt_open_log(tt_log *log, uint32_t *memory, size_t bytes)
 
 /* ---- Merging into a scope ---------------------------------------------------------------------------------------------------- */
 
-/* One use of a part of a texture. Refuses 4, 7 to 13. */
+/* One use of a part of a texture. Refuses 4, 7 to 13, 1001. */
 TT_CALL track_answer tt_merge_single(tt_scope scope, tt_texture texture, tt_selector part, uint32_t state)
 {
     if (scope.memory == NULL) return tt_refused(TRACK_NOT_WELL_FORMED);
@@ -323,7 +323,7 @@ TT_CALL track_answer tt_merge_single(tt_scope scope, tt_texture texture, tt_sele
                               1, part.mips.start, part.mips.end, part.layers.start, part.layers.end, (uint16_t)state);
 }
 
-/* All textures of another scope, by ascending index, up to the first conflict. Refuses 4, 6 to 9. */
+/* All textures of another scope, by ascending index, up to the first conflict. Refuses 4, 6 to 9, 1002. */
 TT_CALL track_answer tt_merge_usage_scope(tt_scope scope, tt_scope given)
 {
     if (scope.memory == NULL || given.memory == NULL) return tt_refused(TRACK_NOT_WELL_FORMED);
@@ -334,7 +334,7 @@ TT_CALL track_answer tt_merge_usage_scope(tt_scope scope, tt_scope given)
 
 /* ---- The calls of a tracker: each logs the transitions that its uses make necessary, and none returns a conflict ------------- */
 
-/* One use of a part of a texture. Refuses 4, 5, 7 to 13, 15. */
+/* One use of a part of a texture. Refuses 4, 5, 7 to 13, 15, 1001. */
 TT_CALL track_answer tt_set_single(tt_tracker tracker, tt_log log, tt_texture texture, tt_selector part, uint32_t state)
 {
     if (tracker.memory == NULL) return tt_refused(TRACK_NOT_WELL_FORMED);
@@ -358,7 +358,7 @@ TT_CALL track_answer tt_set_from_usage_scope(tt_tracker tracker, tt_log log, tt_
         tt_entries(log), tt_entries_length(log), log.memory[0], log.memory[1]));
 }
 
-/* All textures of another tracker: transitions go to the other's start, and its end is what they leave. Refuses 4 to 9, 15. */
+/* All textures of another tracker: transitions go to the other's start, and its end is what they leave. Refuses 4 to 9, 15, 1002. */
 TT_CALL track_answer tt_set_from_tracker(tt_tracker tracker, tt_log log, tt_tracker given)
 {
     if (tracker.memory == NULL || given.memory == NULL) return tt_refused(TRACK_NOT_WELL_FORMED);
