@@ -29,10 +29,10 @@ static const char *const names[KINDS] = {
 };
 static unsigned answers[KINDS][3];
 
-static void expect(bool holds, enum call call, const char *what)
+static void expect(bool holds, const char *call, const char *what)
 {
     if (holds) return;
-    fprintf(stderr, "tests/c/spare.c: %s: %s\n", names[call], what);
+    fprintf(stderr, "tests/c/spare.c: %s: %s\n", call, what);
     exit(1);
 }
 
@@ -48,28 +48,6 @@ static uint32_t noise(void) /* xorshift: the same numbers in every run */
 static uint32_t below(uint32_t n)
 {
     return noise() % n;
-}
-
-/* ---- Sets over sentinels ---- */
-
-/* Opens all sets, each for numbers of its own, over memory that holds nothing but noise. */
-static void start(void)
-{
-    uint32_t *numbers = (uint32_t *)&lent;
-    for (size_t x = 0; x < LENT; x++) numbers[x] = noise();
-    struct scope *scopes[] = { &lent.scope, &lent.given };
-    for (size_t k = 0; k < 2; k++) {
-        track_answer a = track_open_scope(scopes[k]->table, scopes[k]->ranges, RANGES, 1 + below(N), 1 + below(M), 1 + below(W),
-                                          EXCLUSIVE, UNINITIALIZED, COMPLEX, UNKNOWN);
-        expect(a.kind == TRACK_DONE, MERGE_SINGLE, "the scope is opened");
-        scopes[k]->table[TRACK_ORDERED] = noise();
-    }
-    struct tracker *trackers[] = { &lent.tracker, &lent.join };
-    for (size_t k = 0; k < 2; k++) {
-        track_answer a = track_open_tracker(trackers[k]->table, trackers[k]->starts, RANGES, trackers[k]->ends, RANGES,
-                                            1 + below(N), 1 + below(M), 1 + below(W), EXCLUSIVE, UNINITIALIZED, COMPLEX, UNKNOWN, MASK);
-        expect(a.kind == TRACK_DONE, SET_SINGLE, "the tracker is opened");
-    }
 }
 
 /* Marks owned textures by other nonzero numbers. */
@@ -128,13 +106,56 @@ static size_t first_change(void)
 }
 
 /* One number that must stay is changed, found, and put back. */
-static void comparison_sees(enum call call)
+static void comparison_sees(const char *call)
 {
     size_t x = below(LENT);
     while (may_change[x]) x = below(LENT);
     ((uint32_t *)&lent)[x] ^= 1u << below(32);
     expect(first_change() == x, call, "a number that was changed by hand is found");
     ((uint32_t *)&lent)[x] = ((uint32_t *)&before)[x];
+}
+
+/* ---- Sets over sentinels ---- */
+
+/* What opening writes: the first eight words, and for each index below N whether it is owned, its extent and its states. */
+static void allow_opening(uint32_t *table, uint32_t n)
+{
+    static const size_t words[] = { TRACK_OWNED, TRACK_MIPS, TRACK_LAYERS, TRACK_START, TRACK_END };
+    allow(table, 8);
+    for (size_t k = 0; k < sizeof words / sizeof *words; k++) allow(table + words[k], n);
+}
+
+static void open_scope(struct scope *s)
+{
+    const uint32_t n = 1 + below(N), m = 1 + below(M), w = 1 + below(W);
+    allow_opening(s->table, n);
+    const track_answer a = track_open_scope(s->table, s->ranges, RANGES, n, m, w, EXCLUSIVE, UNINITIALIZED, COMPLEX, UNKNOWN);
+    expect(a.kind == TRACK_DONE, "open_scope", "it is done");
+}
+
+static void open_tracker(struct tracker *t)
+{
+    const uint32_t n = 1 + below(N), m = 1 + below(M), w = 1 + below(W);
+    allow_opening(t->table, n);
+    const track_answer a = track_open_tracker(t->table, t->starts, RANGES, t->ends, RANGES, n, m, w,
+                                              EXCLUSIVE, UNINITIALIZED, COMPLEX, UNKNOWN, MASK);
+    expect(a.kind == TRACK_DONE, "open_tracker", "it is done");
+}
+
+/* Opens all sets, each for numbers of its own, over memory that holds nothing but noise. */
+static void start(void)
+{
+    for (size_t x = 0; x < LENT; x++) ((uint32_t *)&lent)[x] = noise();
+    before = lent;
+    memset(may_change, false, sizeof may_change);
+    open_scope(&lent.scope);
+    open_scope(&lent.given);
+    open_tracker(&lent.tracker);
+    open_tracker(&lent.join);
+    expect(first_change() == LENT, "opening", "every number stays that it may not write");
+    comparison_sees("opening");
+    lent.scope.table[TRACK_ORDERED] = noise();
+    lent.given.table[TRACK_ORDERED] = noise();
 }
 
 /* ---- The calls ---- */
@@ -170,7 +191,7 @@ static track_answer merge_single(struct scope *s)
 static track_answer logged(track_logged_answer got)
 {
     if (got.written > written) allow(lent.log + 7 * written, 7 * (got.written - written));
-    if (got.answer.kind == TRACK_REFUSED) expect(got.written == written && got.free == left, SET_SINGLE, "a refusal hands back the head");
+    if (got.answer.kind == TRACK_REFUSED) expect(got.written == written && got.free == left, "a log", "a refusal leaves the head");
     return got.answer;
 }
 
@@ -244,8 +265,8 @@ static void step(void)
     before = lent;
     const track_answer a = make(call);
     if (a.kind == TRACK_REFUSED) memset(may_change, false, sizeof may_change);
-    expect(first_change() == LENT, call, "every number stays that the call may not write");
-    comparison_sees(call);
+    expect(first_change() == LENT, names[call], "every number stays that the call may not write");
+    comparison_sees(names[call]);
     answers[call][a.kind]++;
 }
 
@@ -258,7 +279,7 @@ int main(void)
     for (unsigned call = 0; call < KINDS; call++) {
         const bool merges = call <= MERGE_USAGE_SCOPE;
         expect(answers[call][TRACK_DONE] > 50 && answers[call][TRACK_REFUSED] > 50 && (answers[call][TRACK_CONFLICT] > 50) == merges,
-               (enum call)call, "it was done, refused and, in a merge, in conflict");
+               names[call], "it was done, refused and, in a merge, in conflict");
         printf("  %-40s %6u done %6u refused %6u in conflict\n", names[call], answers[call][TRACK_DONE], answers[call][TRACK_REFUSED],
                answers[call][TRACK_CONFLICT]);
     }
