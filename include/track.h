@@ -1,15 +1,16 @@
-/* The texture state tracker of wgpu-core, proved in Rattle, for C and C++: link target/staticlib/libexports.a (`rt staticlib exports`,
- * for x86-64 Linux). Of the C library it needs memset alone, and it keeps nothing of its own between calls.
+/* The texture state tracker of wgpu-core, proved in Rattle, for C and C++: the plain boundary, as the library has it. Link
+ * libtexture_tracker.a (x86-64 Linux; `tools/library` writes it to target/lib). Of the C library it needs memset alone, and it keeps
+ * nothing of its own between calls. texture_tracker.h has the same calls in a form that is hard to get wrong: begin there.
  *
  * A scope gathers how the textures of one pass are used and finds conflicts; a tracker knows the state of each texture as commands leave
- * it and logs the transitions that a driver must be told of. Both are plain numbers in memory that the caller lends to each call.
+ * it and logs the transitions that a driver must be told of. Both are plain numbers in memory that each call borrows from its caller.
  *
- * Every call answers on every input, whatever numbers the lent memory holds, and a refusal changes nothing that was lent. This is
- * proved. What a caller must see to, since no call can look at it:
- *   - each pointer is not NULL, also where its length is 0, and good for as many uint32_t as the length beside it says; a table is
+ * Every call returns an answer for every input, whatever numbers the borrowed memory holds, and a refusal changes nothing. This is
+ * proved. What a call requires of its caller, since it cannot check it:
+ *   - no pointer is NULL, even where its length is 0, and each is good for as many uint32_t as the length beside it says; a table is
  *     TRACK_TABLE_LENGTH of them. The call that opens a set reads none of its numbers: the memory need not be cleared first;
- *   - what a call writes (no const) overlaps nothing else that the same call is lent;
- *   - nobody else writes what a call is lent while it runs. Calls on different memory may run at the same time.
+ *   - what a call writes (no const) overlaps nothing else that the same call borrows;
+ *   - nobody else writes what a call borrows while it runs. Calls on different memory may run at the same time.
  */
 #ifndef TRACK_H
 #define TRACK_H
@@ -21,41 +22,67 @@
 extern "C" {
 #endif
 
-/* ---- Limits of a set ---------------------------------------------------------------------------------------------------------- */
+/* ---- Version ----------------------------------------------------------------------------------------------------------------- */
+
+#define TRACK_VERSION_MAJOR 0
+#define TRACK_VERSION_MINOR 1
+#define TRACK_VERSION_PATCH 0
+#define TRACK_VERSION (TRACK_VERSION_MAJOR * 10000 + TRACK_VERSION_MINOR * 100 + TRACK_VERSION_PATCH)
+
+/* ---- Limits of a set --------------------------------------------------------------------------------------------------------- */
 
 #define TRACK_MAX_TEXTURES 64 /* N: textures of a set, 1 to 64 */
 #define TRACK_MAX_MIPS 16     /* M: mips of a texture, 1 to 16 */
 #define TRACK_MAX_LAYERS 256  /* W: layers of a texture, 1 to 256 */
 
-/* ---- Lent memory, in uint32_t ------------------------------------------------------------------------------------------------- */
+/* ---- Borrowed memory, in uint32_t -------------------------------------------------------------------------------------------- */
 
-/* A table. Callers may read it; what they write into it is theirs to answer for: a set that is then not well formed is refused (4). */
+/* A table. Callers may read it. If they write into it and the set is then not well formed, it is refused (4). */
 #define TRACK_TABLE_LENGTH 2376
-#define TRACK_OWNED 8     /* table[TRACK_OWNED + i]: 0 if the set does not own texture i; the next two are told of owned ones */
-#define TRACK_MIPS 72     /* table[TRACK_MIPS + i]: its mips */
-#define TRACK_LAYERS 136  /* table[TRACK_LAYERS + i]: its layers */
-#define TRACK_START 200   /* half h = TRACK_START: a scope's states, or a tracker's states at the start */
-#define TRACK_END 1288    /* half h = TRACK_END: a tracker's states at the end; a scope does not use it */
-/* table[h + i]: the state, where one state holds for all of texture i; the COMPLEX flag, where each mip has ranges of its own */
-#define TRACK_COUNTS 64   /* table[h + TRACK_COUNTS + 16 * i + m]: how many ranges mip m then has */
+#define TRACK_N 0             /* table[TRACK_N]: N, and so on: the numbers and the flags that the set was opened with */
+#define TRACK_M 1
+#define TRACK_W 2
+#define TRACK_EXCLUSIVE 3
+#define TRACK_UNINITIALIZED 4
+#define TRACK_COMPLEX 5
+#define TRACK_UNKNOWN 6
+#define TRACK_ORDERED 7       /* a tracker's mask of ordered states; a scope does not use it */
+#define TRACK_OWNED 8         /* table[TRACK_OWNED + i]: 0 if the set does not own texture i; the next two are of owned textures only */
+#define TRACK_MIPS 72         /* table[TRACK_MIPS + i]: its mips */
+#define TRACK_LAYERS 136      /* table[TRACK_LAYERS + i]: its layers */
+#define TRACK_START 200       /* half h = TRACK_START: a scope's states, or a tracker's states at the start */
+#define TRACK_END 1288        /* half h = TRACK_END: a tracker's states at the end; a scope does not use it */
+/* table[h + i]: the state, if one state holds for all of texture i; the COMPLEX flag, if each mip has ranges of its own */
+#define TRACK_COUNTS 64       /* table[h + TRACK_COUNTS + 16 * i + m]: how many ranges mip m has in that case */
 
 /* Ranges: a scope has one run of them, a tracker two, starts and ends. Each is three numbers: first layer, layer past the last, state.
- * Those of mip m of texture i begin at 3 * W * (i * M + m). Numbers past those in use are free: a call may leave anything there. */
+ * Those of mip m of texture i begin at 3 * W * (i * M + m). */
 #define TRACK_RANGE_LENGTH 3
 #define TRACK_RANGES_LENGTH(n, m, w) ((size_t)TRACK_RANGE_LENGTH * (n) * (m) * (w))
 
 /* A log. An entry is seven numbers: texture, first mip, mip past the last, first layer, layer past the last, old state, new state.
- * Its head is two counts of entries, written and free; the caller hands both in and takes them over from the answer. A call writes its
+ * Its head is two counts of entries, written and free; the caller passes both in and takes both over from the answer. A call writes its
  * entries after the written ones. No call needs more entries than the tracker has subresources, N * M * W. */
 #define TRACK_LOG_ENTRY_LENGTH 7
 #define TRACK_LOG_LENGTH(entries) ((size_t)TRACK_LOG_ENTRY_LENGTH * (entries))
 
-/* ---- Answers ------------------------------------------------------------------------------------------------------------------ */
+/* What stays. A refusal changes nothing, and what is borrowed as const stays. A call that is done or in conflict writes only the
+ * words and the ranges of the textures that it names: the one index that it is given, those that the given set owns, or those that are
+ * listed and owned. Every other number stays: ranges past N * M * W and numbers after the last whole range; the words of indices from N
+ * on; a scope's words that only a tracker uses; and the words and ranges of each texture that is not named, its unused ones and the very
+ * number that marks it as owned among them.
+ * Inside a named texture only what is unused is free, and a call may leave anything there: which nonzero number marks it as owned; the
+ * counts and ranges of a half that has one state for all of it; counts and ranges of mips that it does not have; ranges past a count.
+ * The table that the sparse call takes textures from (given) becomes the same with the words of ownership of the listed indices 0.
+ * In a log every number stays but those of the entries that the call writes. Opening writes the first eight words of the table and, of
+ * each index below N, whether it is owned, its mips, its layers and its states. */
+
+/* ---- Answers ----------------------------------------------------------------------------------------------------------------- */
 
 /* track_answer.kind */
 enum track_kind {
     TRACK_DONE = 0,
-    TRACK_REFUSED = 1, /* number and place say why; nothing that was lent has changed */
+    TRACK_REFUSED = 1, /* number and place say why; nothing has changed */
     TRACK_CONFLICT = 2 /* two uses exclude each other; what was merged before them stays merged */
 };
 
@@ -65,9 +92,9 @@ enum track_refusal {
     TRACK_NUMBERS_OUT_OF_LIMITS = 1, /* opening: N, M or W is outside its limits */
     TRACK_FLAGS_BREAK_RULE = 2,      /* opening: EXCLUSIVE has more than 16 bits, or UNINITIALIZED, COMPLEX, UNKNOWN are not one bit of 16
                                         each, all different, with COMPLEX and UNKNOWN outside EXCLUSIVE */
-    TRACK_SHORT_ROOM = 3,            /* opening: fewer than N * M * W ranges are lent; of a tracker, in starts or in ends */
-    TRACK_NOT_WELL_FORMED = 4,       /* a set that is lent is not well formed: not opened, damaged, or with shorter ranges */
-    TRACK_LOG_TOO_SHORT = 5,         /* written and free together are more entries than are lent */
+    TRACK_SHORT_ROOM = 3,            /* opening: room for fewer than N * M * W ranges; of a tracker, in starts or in ends */
+    TRACK_NOT_WELL_FORMED = 4,       /* a set is not well formed: not opened, damaged, or with shorter ranges */
+    TRACK_LOG_TOO_SHORT = 5,         /* written and free together are more entries than the log has room for */
     TRACK_FLAGS_DIFFER = 6,          /* the two sets were opened with different flags */
     TRACK_NO_SUCH_INDEX = 7,         /* the index is not below N */
     TRACK_EXTENT_OUT_OF_LIMITS = 8,  /* mips are not 1 to M, or layers not 1 to W */
@@ -76,11 +103,11 @@ enum track_refusal {
     TRACK_SELECTOR_PAST_EXTENT = 11, /* an end is past the texture's mips or layers */
     TRACK_STATE_RESERVED = 12,       /* the state is zero, or has UNKNOWN or COMPLEX */
     TRACK_STATE_INCOMPATIBLE = 13,   /* the state has a bit of EXCLUSIVE and is not one bit */
-    TRACK_RANGES_OUT_OF_ORDER = 14,  /* calls on ranges: more are told than lent, or one is empty, out of order or overlaps */
+    TRACK_RANGES_OUT_OF_ORDER = 14,  /* calls on ranges: more than there is room for, or one is empty, out of order or overlaps */
     TRACK_NO_FREE_ENTRY = 15         /* the result needs more entries than are free */
 };
 
-/* What a call answers. Fields that its kind does not tell are 0. */
+/* What a call returns. Fields that do not belong to its kind are 0. */
 typedef struct track_answer {
     uint32_t kind;        /* enum track_kind */
     uint32_t number;      /* refused: enum track_refusal */
@@ -94,14 +121,14 @@ typedef struct track_answer {
     uint32_t new_state;   /*   and the one that was given */
 } track_answer;
 
-/* What a call with a log answers, and the head of the log after it; a refusal hands back the head that it was given. */
+/* What a call with a log returns: the answer, and the head of the log after it, which a refusal leaves as it was given. */
 typedef struct track_logged_answer {
     track_answer answer;
     size_t written;
     size_t free;
 } track_logged_answer;
 
-/* What a call on ranges answers. Counts that a call does not tell, and those of a refusal, are 0. */
+/* What a call on ranges returns. Counts that do not belong to the call, and those of a refusal, are 0. */
 typedef struct track_ranges_answer {
     track_answer answer;
     size_t position; /* track_isolate: where the run begins, in ranges */
@@ -109,7 +136,7 @@ typedef struct track_ranges_answer {
     size_t told;     /* track_isolate, track_coalesce: how many ranges are in use now */
 } track_ranges_answer;
 
-/* ---- Opening a set ------------------------------------------------------------------------------------------------------------ */
+/* ---- Opening a set ----------------------------------------------------------------------------------------------------------- */
 
 /* A state is 16 bits. exclusive is the mask of those that suffer no other beside them; uninitialized, complex and unknown are one bit
  * each. Opened, a set owns no texture. Refuses 1, 2, 3. */
@@ -123,14 +150,14 @@ track_answer track_open_tracker(uint32_t table[TRACK_TABLE_LENGTH], const uint32
                                 uint32_t n, uint32_t m, uint32_t w,
                                 uint32_t exclusive, uint32_t uninitialized_bit, uint32_t complex_bit, uint32_t unknown_bit, uint16_t mask);
 
-/* ---- The test of a set, which every call below makes first of each set that it is lent (4): 1 if it is well formed, otherwise 0 --- */
+/* ---- The test of a set, which every call below makes first, of each set (4): 1 if it is well formed, otherwise 0 ------------- */
 
 uint32_t track_scope_is_well_formed(const uint32_t table[TRACK_TABLE_LENGTH], const uint32_t *ranges, size_t ranges_length);
 
 uint32_t track_tracker_is_well_formed(const uint32_t table[TRACK_TABLE_LENGTH], const uint32_t *starts, size_t starts_length,
                                       const uint32_t *ends, size_t ends_length);
 
-/* ---- Merging into a scope ----------------------------------------------------------------------------------------------------- */
+/* ---- Merging into a scope ---------------------------------------------------------------------------------------------------- */
 
 /* One use of texture index, which has so many mips and layers. part 0: all of it, and the four numbers after part are not read; otherwise
  * the mips from mip_start up to mip_end and the layers from layer_start up to layer_end. Refuses 4, 7 to 13. */
@@ -143,7 +170,7 @@ track_answer track_merge_single(uint32_t table[TRACK_TABLE_LENGTH], uint32_t *ra
 track_answer track_merge_usage_scope(uint32_t table[TRACK_TABLE_LENGTH], uint32_t *ranges, size_t ranges_length,
                                      const uint32_t given[TRACK_TABLE_LENGTH], const uint32_t *given_ranges, size_t given_ranges_length);
 
-/* ---- The calls of a tracker: each logs the transitions that its uses make necessary, and none answers a conflict ------------------ */
+/* ---- The calls of a tracker: each logs the transitions that its uses make necessary, and none returns a conflict ------------- */
 
 /* One use of texture index. Refuses 4, 5, 7 to 13, 15. */
 track_logged_answer track_set_single(uint32_t table[TRACK_TABLE_LENGTH], uint32_t *starts, size_t starts_length,
@@ -176,15 +203,15 @@ track_logged_answer track_set_and_remove_from_usage_scope_sparse(
     const uint32_t *indices, size_t indices_length,
     uint32_t *log, size_t log_length, size_t written, size_t free);
 
-/* ---- The log ------------------------------------------------------------------------------------------------------------------ */
+/* ---- The log ----------------------------------------------------------------------------------------------------------------- */
 
 /* Empties the log: free gains what was written, written becomes 0, and the entries stay. Refuses 5. */
 track_logged_answer track_empty_log(const uint32_t *log, size_t log_length, size_t written, size_t free);
 
-/* ---- Ranges by themselves: the first told of them are in use; starts and ends are any 32-bit numbers, and states are not looked at --- */
+/* ---- Ranges by themselves: the first `told` are in use; starts and ends are any 32-bit numbers, and states are not looked at --- */
 
-/* Makes what lies from start up to end a run of ranges of its own, gaps filled with default_state. Refuses 10, 14, and 15 if the ranges
- * that it leaves are more than are lent. */
+/* Makes what lies from start up to end a run of ranges of its own, gaps filled with default_state. Refuses 10, 14, and 15 if there is
+ * no room for the ranges that it leaves. */
 track_ranges_answer track_isolate(uint32_t *ranges, size_t ranges_length, size_t told, uint32_t start, uint32_t end,
                                   uint32_t default_state);
 

@@ -1,0 +1,316 @@
+/* texture_tracker.h beside track.h: random calls are made through both, on memory of their own, and every answer and every number of the
+ * memory is compared; then the readers, the words, and what the typed header refuses by itself. */
+#include "texture_tracker.h"
+
+#include <stdbool.h>
+#include <stdio.h>
+#include <stdlib.h>
+#include <string.h>
+
+/* The sets of both sides; where the parts of a set lie in its memory is written here a second time. */
+enum { N = 3, M = 2, W = 4, TABLE = 2376, RANGES = 3 * N * M * W, ENTRIES = N * M * W, LOG = 7 * ENTRIES, CALLS = 60000, ROUND = 30 };
+enum { EXCLUSIVE = 20, COMPLEX = 4096, UNKNOWN = 8192, MASK = 10 };
+static struct sides {
+    TT_SCOPE_MEMORY(scope[2], N, M, W);
+    TT_TRACKER_MEMORY(tracker[2], N, M, W);
+    TT_LOG_MEMORY(log, ENTRIES);
+} typed, plain;
+static tt_scope scope[2];
+static tt_tracker tracker[2];
+static tt_log transitions;
+static const tt_size size = { .textures = N, .mips = M, .layers = W };
+static const tt_flags flags = { .exclusive = EXCLUSIVE, .uninitialized_bit = 1, .complex_bit = COMPLEX, .unknown_bit = UNKNOWN };
+
+enum call { MERGE_SINGLE, MERGE_USAGE_SCOPE, SET_SINGLE, SET_FROM_USAGE_SCOPE, SET_FROM_TRACKER, SPARSE, EMPTY, KINDS };
+static unsigned answers[KINDS][3], checks;
+
+static void expect(bool holds, int line, const char *what)
+{
+    checks++;
+    if (holds) return;
+    fprintf(stderr, "tests/c/typed.c:%d: %s\n", line, what);
+    exit(1);
+}
+#define EXPECT(fact) expect((fact), __LINE__, #fact)
+
+static uint32_t below(uint32_t n) /* xorshift: the same numbers in every run */
+{
+    static uint32_t x = 88172645u;
+    x ^= x << 13;
+    x ^= x >> 17;
+    x ^= x << 5;
+    return x % n;
+}
+
+/* ---- The same call on both sides ---- */
+
+static void start(void)
+{
+    memset(&typed, 0xa5, sizeof typed);
+    plain = typed;
+    for (size_t k = 0; k < 2; k++) {
+        EXPECT(tt_done(tt_open_scope(&scope[k], typed.scope[k], sizeof typed.scope[k], size, flags)));
+        EXPECT(tt_done(tt_open_tracker(&tracker[k], typed.tracker[k], sizeof typed.tracker[k], size, flags, MASK)));
+        uint32_t *s = plain.scope[k], *t = plain.tracker[k];
+        EXPECT(tt_done(track_open_scope(s, s + TABLE, RANGES, N, M, W, EXCLUSIVE, 1, COMPLEX, UNKNOWN)));
+        EXPECT(tt_done(track_open_tracker(t, t + TABLE, RANGES, t + TABLE + RANGES, RANGES, N, M, W,
+                                          EXCLUSIVE, 1, COMPLEX, UNKNOWN, MASK)));
+    }
+    EXPECT(tt_done(tt_open_log(&transitions, typed.log, sizeof typed.log)));
+    plain.log[0] = 0;
+    plain.log[1] = ENTRIES;
+}
+
+/* The plain side's head lies before its entries too. */
+static track_answer take(track_logged_answer got)
+{
+    plain.log[0] = (uint32_t)got.written;
+    plain.log[1] = (uint32_t)got.free;
+    return got.answer;
+}
+
+static void same(enum call call, track_answer typed_answer, track_answer plain_answer)
+{
+    EXPECT(memcmp(&typed_answer, &plain_answer, sizeof typed_answer) == 0);
+    EXPECT(memcmp(&typed, &plain, sizeof typed) == 0);
+    EXPECT(tt_log_written(transitions) == plain.log[0] && tt_log_free(transitions) == plain.log[1]);
+    answers[call][typed_answer.kind]++;
+}
+
+/* One use of a texture; some of them are refused. */
+static void single(enum call call, uint32_t k)
+{
+    static const uint16_t states[] = { 2, 8, 10, 4, 16, 2, 8, 4, 8, 24 };
+    const uint16_t state = states[below(10)];
+    const tt_texture t = { .index = below(N + 1), .mips = below(12) == 0 ? 1 : M, .layers = below(12) == 0 ? 3 : W };
+    tt_selector p = { .mips = tt_mip(below(M)), .layers = { .start = below(W), .end = 1 + below(W) } };
+    if (below(4) == 0) p = tt_all(t);
+    const uint32_t a = p.mips.start, b = p.mips.end, c = p.layers.start, d = p.layers.end;
+    uint32_t *m = call == MERGE_SINGLE ? plain.scope[k] : plain.tracker[k], *e = m + TABLE + RANGES, *l = plain.log;
+    if (call == MERGE_SINGLE) {
+        same(call, tt_merge_single(scope[k], t, p, state),
+             track_merge_single(m, m + TABLE, RANGES, t.index, t.mips, t.layers, 1, a, b, c, d, state));
+    } else {
+        same(call, tt_set_single(tracker[k], transitions, t, p, state),
+             take(track_set_single(m, m + TABLE, RANGES, e, RANGES, t.index, t.mips, t.layers, a, b, c, d, state,
+                                   l + 2, LOG, l[0], l[1])));
+    }
+}
+
+static void over_sets(enum call call, uint32_t k)
+{
+    uint32_t *s = plain.scope[k], *g = plain.scope[1 - k], *t = plain.tracker[k], *u = plain.tracker[1 - k], *l = plain.log;
+    uint32_t *e = t + TABLE + RANGES, *f = u + TABLE + RANGES;
+    const uint32_t listed[] = { below(N), below(N), below(N + (below(4) == 0)) };
+    switch (call) {
+    case MERGE_USAGE_SCOPE:
+        same(call, tt_merge_usage_scope(scope[k], scope[1 - k]), track_merge_usage_scope(s, s + TABLE, RANGES, g, g + TABLE, RANGES));
+        break;
+    case SET_FROM_USAGE_SCOPE:
+        same(call, tt_set_from_usage_scope(tracker[k], transitions, scope[1 - k]),
+             take(track_set_from_usage_scope(t, t + TABLE, RANGES, e, RANGES, g, g + TABLE, RANGES, l + 2, LOG, l[0], l[1])));
+        break;
+    case SET_FROM_TRACKER:
+        same(call, tt_set_from_tracker(tracker[k], transitions, tracker[1 - k]),
+             take(track_set_from_tracker(t, t + TABLE, RANGES, e, RANGES, u, u + TABLE, RANGES, f, RANGES, l + 2, LOG, l[0], l[1])));
+        break;
+    case SPARSE:
+        same(call, tt_set_and_remove_from_usage_scope_sparse(tracker[k], transitions, scope[1 - k], TT_INDICES(listed)),
+             take(track_set_and_remove_from_usage_scope_sparse(t, t + TABLE, RANGES, e, RANGES, g, g + TABLE, RANGES, listed, 3,
+                                                               l + 2, LOG, l[0], l[1])));
+        break;
+    default:
+        if (below(8) == 0) typed.log[1] = plain.log[1] = ENTRIES + 1; /* damaged: refused from here to the next round */
+        same(call, tt_empty_log(transitions), take(track_empty_log(l + 2, LOG, l[0], l[1])));
+    }
+}
+
+/* ---- Reading back ---- */
+
+/* Walks a mip range by range: the ranges are those of the memory, and they cover the layers. */
+static void walk(const uint32_t *memory, size_t half, size_t ranges, tt_range (*read)(size_t, tt_place), size_t k, tt_place place)
+{
+    const uint32_t held = memory[half + place.index], layers = memory[TRACK_LAYERS + place.index];
+    const uint32_t *numbers = memory + ranges + 3 * W * (M * place.index + place.mip), whole[] = { 0, layers, held };
+    if (held != COMPLEX) numbers = whole;
+    for (place.layer = 0; place.layer < layers; numbers += 3) {
+        const tt_range range = read(k, place);
+        EXPECT(range.layers.start == numbers[0] && range.layers.end == numbers[1] && range.state == numbers[2]);
+        EXPECT(range.layers.start == place.layer && range.layers.end > place.layer && range.state != 0);
+        place.layer = range.layers.end;
+    }
+    EXPECT(place.layer == layers && read(k, place).state == 0);
+}
+
+static tt_range in_scope(size_t k, tt_place place) { return tt_scope_range(scope[k], place); }
+static tt_range in_start(size_t k, tt_place place) { return tt_start_range(tracker[k], place); }
+static tt_range in_end(size_t k, tt_place place) { return tt_end_range(tracker[k], place); }
+
+static void read_back(void)
+{
+    for (size_t k = 0; k < 2; k++) {
+        EXPECT(tt_scope_is_well_formed(scope[k]) == 1 && tt_tracker_is_well_formed(tracker[k]) == 1);
+        for (tt_place place = { .index = 0 }; place.index < N; place.index++) {
+            const tt_texture in = tt_scope_texture(scope[k], place.index), of = tt_tracker_texture(tracker[k], place.index);
+            EXPECT((in.mips == 0) == (typed.scope[k][TRACK_OWNED + place.index] == 0));
+            EXPECT((of.mips == 0) == (typed.tracker[k][TRACK_OWNED + place.index] == 0));
+            for (place.mip = 0; place.mip < in.mips; place.mip++) walk(typed.scope[k], TRACK_START, TABLE, in_scope, k, place);
+            for (place.mip = 0; place.mip < of.mips; place.mip++) {
+                walk(typed.tracker[k], TRACK_START, TABLE, in_start, k, place);
+                walk(typed.tracker[k], TRACK_END, TABLE + RANGES, in_end, k, place);
+            }
+        }
+    }
+    for (size_t k = 0; k < plain.log[0] && plain.log[0] <= ENTRIES; k++) {
+        const tt_transition t = tt_log_entry(transitions, k);
+        const uint32_t numbers[] = { t.index, t.part.mips.start, t.part.mips.end, t.part.layers.start, t.part.layers.end,
+                                     t.old_state, t.new_state };
+        EXPECT(memcmp(numbers, plain.log + 2 + 7 * k, sizeof numbers) == 0);
+    }
+}
+
+/* Whatever stands in the memory, a reader stays inside it: the set has a block of its own, for a checker of addresses to watch. */
+static void read_damaged(void)
+{
+    static const uint32_t odd[] = { 0, 1, 2, 4, 15, 16, 63, 64, 255, 256, 257, 1u << 31, UINT32_MAX - 1, UINT32_MAX };
+    enum { ODD = sizeof odd / sizeof *odd };
+    uint32_t *memory = malloc(tt_tracker_bytes(size));
+    tt_tracker damaged;
+    if (memory == NULL || !tt_done(tt_open_tracker(&damaged, memory, tt_tracker_bytes(size), size, flags, MASK))) exit(1);
+    for (unsigned k = 0; k < 100000; k++) {
+        const tt_place place = { .index = odd[below(ODD)], .mip = odd[below(ODD)], .layer = odd[below(ODD)] };
+        const uint32_t i = place.index % 64;
+        memory[below(3)] = odd[below(ODD)];
+        memory[TRACK_OWNED + i] = 1;
+        memory[TRACK_MIPS + i] = odd[below(ODD)];
+        memory[TRACK_LAYERS + i] = odd[below(ODD)];
+        memory[TRACK_START + i] = memory[TRACK_END + i] = COMPLEX;
+        memory[TRACK_START + TRACK_COUNTS + 16 * i + below(16)] = memory[TRACK_END + TRACK_COUNTS + 16 * i + below(16)] = odd[below(ODD)];
+        (void)tt_start_state(damaged, place);
+        (void)tt_end_state(damaged, place);
+    }
+    free(memory);
+}
+
+/* What reads as nothing: an index past N, a mip past the texture's, a mip with a count past W. */
+static void read_nothing(void)
+{
+    const tt_texture t = { .index = 0, .mips = 1, .layers = W };
+    const tt_selector one = { .mips = tt_mip(0), .layers = tt_layer(0) };
+    start();
+    EXPECT(typed.scope[0][TRACK_OWNED + N] != 0 && tt_scope_texture(scope[0], N).mips == 0);
+    EXPECT(tt_done(tt_merge_single(scope[0], t, tt_all(t), 8)));
+    EXPECT(tt_scope_state(scope[0], (tt_place){ .index = 0, .mip = 0, .layer = W - 1 }) == 8);
+    EXPECT(tt_scope_state(scope[0], (tt_place){ .index = 0, .mip = 1, .layer = 0 }) == 0);
+    EXPECT(tt_done(tt_merge_single(scope[0], t, one, 2)));
+    EXPECT(tt_scope_state(scope[0], (tt_place){ .index = 0, .mip = 0, .layer = 0 }) == 10);
+    typed.scope[0][TRACK_START + TRACK_COUNTS] = W + 1;
+    EXPECT(tt_scope_state(scope[0], (tt_place){ .index = 0, .mip = 0, .layer = 0 }) == 0);
+}
+
+/* ---- What the header answers by itself ---- */
+
+static bool refused(track_answer answer, uint32_t number)
+{
+    const track_answer want = { .kind = TRACK_REFUSED, .number = number };
+    return memcmp(&answer, &want, sizeof want) == 0;
+}
+
+static void own_refusals(void)
+{
+    const tt_texture t = { .index = 0, .mips = M, .layers = W };
+    const tt_scope no_scope = { NULL, 0 };
+    const tt_tracker no_tracker = { NULL, 0 };
+    const tt_log no_log = { NULL, 0 };
+    start();
+    EXPECT(refused(tt_merge_single(scope[0], t, tt_all(t), 65536 + 8), TT_STATE_PAST_16_BITS));
+    EXPECT(refused(tt_merge_single(scope[0], t, tt_all(t), 65535), TRACK_STATE_RESERVED)); /* the library's: 16 bits go through */
+    EXPECT(refused(tt_set_single(tracker[0], transitions, t, tt_all(t), UINT32_MAX), TT_STATE_PAST_16_BITS));
+    EXPECT(refused(tt_merge_usage_scope(scope[0], scope[0]), TT_SAME_SET_TWICE));
+    EXPECT(refused(tt_set_from_tracker(tracker[0], transitions, tracker[0]), TT_SAME_SET_TWICE));
+    EXPECT(refused(tt_merge_single(no_scope, t, tt_all(t), 8), TRACK_NOT_WELL_FORMED));
+    EXPECT(refused(tt_merge_usage_scope(scope[0], no_scope), TRACK_NOT_WELL_FORMED));
+    EXPECT(refused(tt_merge_usage_scope(no_scope, scope[0]), TRACK_NOT_WELL_FORMED));
+    EXPECT(refused(tt_set_single(no_tracker, transitions, t, tt_all(t), 8), TRACK_NOT_WELL_FORMED));
+    EXPECT(refused(tt_set_single(tracker[0], no_log, t, tt_all(t), 8), TRACK_LOG_TOO_SHORT));
+    EXPECT(refused(tt_set_from_usage_scope(tracker[0], transitions, no_scope), TRACK_NOT_WELL_FORMED));
+    EXPECT(refused(tt_set_from_usage_scope(tracker[0], no_log, scope[0]), TRACK_LOG_TOO_SHORT));
+    EXPECT(refused(tt_set_from_tracker(tracker[0], transitions, no_tracker), TRACK_NOT_WELL_FORMED));
+    EXPECT(refused(tt_set_from_tracker(tracker[0], no_log, tracker[1]), TRACK_LOG_TOO_SHORT));
+    EXPECT(refused(tt_set_and_remove_from_usage_scope_sparse(tracker[0], transitions, no_scope, tt_indices_of(NULL, 0)),
+                   TRACK_NOT_WELL_FORMED));
+    EXPECT(refused(tt_set_and_remove_from_usage_scope_sparse(tracker[0], no_log, scope[0], tt_indices_of(NULL, 0)), TRACK_LOG_TOO_SHORT));
+    EXPECT(tt_done(tt_set_and_remove_from_usage_scope_sparse(tracker[0], transitions, scope[0], tt_indices_of(NULL, 0))));
+    EXPECT(refused(tt_empty_log(no_log), TRACK_LOG_TOO_SHORT) && tt_log_written(no_log) == 0 && tt_log_free(no_log) == 0);
+    EXPECT(tt_scope_is_well_formed(no_scope) == 0 && tt_tracker_is_well_formed(no_tracker) == 0);
+    EXPECT(tt_scope_state(no_scope, (tt_place){ .index = 0 }) == 0 && tt_end_state(no_tracker, (tt_place){ .index = 0 }) == 0);
+    EXPECT(tt_log_entry(no_log, 0).new_state == 0 && tt_log_entry(transitions, 0).new_state == 0);
+    EXPECT(memcmp(typed.log + 1, (uint32_t[]){ ENTRIES }, 4) == 0);
+}
+
+/* A refused opening leaves a handle that every call refuses; one byte less than is needed is too short. */
+static void openings(void)
+{
+    uint32_t ranges_only[TABLE - 1];
+    tt_scope s;
+    tt_tracker t;
+    tt_log l;
+    tt_size large = { .textures = 65, .mips = M, .layers = W };
+    start();
+    EXPECT(tt_scope_bytes(size) == sizeof typed.scope[0] && tt_tracker_bytes(size) == sizeof typed.tracker[0]);
+    EXPECT(tt_log_bytes(ENTRIES) == sizeof typed.log);
+    EXPECT(refused(tt_open_scope(&s, typed.scope[0], tt_scope_bytes(size) - 1, size, flags), TRACK_SHORT_ROOM) && s.memory == NULL);
+    EXPECT(refused(tt_open_scope(&s, ranges_only, sizeof ranges_only, size, flags), TRACK_SHORT_ROOM));
+    EXPECT(refused(tt_open_scope(&s, NULL, SIZE_MAX, size, flags), TRACK_SHORT_ROOM));
+    EXPECT(refused(tt_open_scope(&s, typed.scope[0], sizeof typed.scope[0], large, flags), TRACK_NUMBERS_OUT_OF_LIMITS));
+    EXPECT(refused(tt_open_tracker(&t, typed.tracker[0], tt_tracker_bytes(size) - 1, size, flags, MASK), TRACK_SHORT_ROOM));
+    EXPECT(refused(tt_open_tracker(&t, ranges_only, sizeof ranges_only, size, flags, MASK), TRACK_SHORT_ROOM) && t.memory == NULL);
+    EXPECT(refused(tt_open_tracker(&t, typed.tracker[0], sizeof typed.tracker[0], size, flags, 65536), TT_STATE_PAST_16_BITS));
+    EXPECT(refused(tt_open_log(&l, typed.log, 7), TRACK_LOG_TOO_SHORT) && l.memory == NULL);
+    EXPECT(tt_done(tt_open_log(&l, typed.log, 8)) && tt_log_free(l) == 0);
+    EXPECT(tt_done(tt_open_log(&l, typed.log, 4 * (2 + 7) + 27)) && tt_log_free(l) == 1);
+    large.layers = large.mips = large.textures = UINT32_MAX;
+    EXPECT(tt_scope_bytes(large) == 4 * (TABLE + (size_t)3 * 64 * 16 * 256));
+}
+
+static void words(void)
+{
+    char text[TT_STATE_NAME_SIZE], less[12];
+    uint32_t every = 0;
+    for (unsigned bit = 0; bit < 15; bit++) every |= 1u << bit;
+    EXPECT(strcmp(tt_state_name(TRACK_USE_COPY_SRC | TRACK_USE_RESOURCE, text, sizeof text), "COPY_SRC|RESOURCE") == 0);
+    EXPECT(strcmp(tt_state_name(TRACK_USE_UNKNOWN | 0x8000, text, sizeof text), "UNKNOWN|32768") == 0);
+    EXPECT(strcmp(tt_state_name(0, text, sizeof text), "none") == 0);
+    EXPECT(strcmp(tt_state_name(TRACK_USE_COPY_SRC | TRACK_USE_RESOURCE, less, sizeof less), "COPY_SRC|RE") == 0);
+    EXPECT(strlen(tt_state_name(UINT32_MAX, text, sizeof text)) < TT_STATE_NAME_SIZE - 1);
+    EXPECT(tt_state_name(8, NULL, 0) == NULL);
+    EXPECT((TRACK_USE_EXCLUSIVE | TRACK_USE_ORDERED | every) == every);
+    EXPECT(TRACK_USE_EXCLUSIVE == (TRACK_USE_PRESENT | TRACK_USE_COPY_DST | TRACK_USE_COLOR_TARGET | TRACK_USE_DEPTH_STENCIL_WRITE
+                                   | TRACK_USE_STORAGE_WRITE_ONLY | TRACK_USE_STORAGE_READ_WRITE | TRACK_USE_STORAGE_ATOMIC));
+    EXPECT(TRACK_USE_ORDERED == (TRACK_USE_COPY_SRC | TRACK_USE_RESOURCE | TRACK_USE_COLOR_TARGET | TRACK_USE_DEPTH_STENCIL_READ
+                                 | TRACK_USE_DEPTH_STENCIL_WRITE | TRACK_USE_STORAGE_READ_ONLY));
+    for (uint32_t number = 1; number <= TT_SAME_SET_TWICE; number++) {
+        const bool known = number <= 15 || number >= TT_STATE_PAST_16_BITS;
+        EXPECT((strcmp(tt_refusal_words(number), tt_refusal_words(0)) != 0) == known);
+    }
+}
+
+int main(void)
+{
+    for (unsigned k = 0; k < CALLS; k++) {
+        const enum call call = (enum call)(below(2) == 0 ? below(KINDS) : 2 * below(2)); /* half of them put single uses in */
+        if (k % ROUND == 0) start();
+        if (call == MERGE_SINGLE || call == SET_SINGLE) single(call, below(2));
+        else over_sets(call, below(2));
+        if (k % 8 == 0) read_back();
+    }
+    for (unsigned call = 0; call < KINDS; call++) EXPECT(answers[call][TRACK_DONE] > 50 && answers[call][TRACK_REFUSED] > 50);
+    EXPECT(answers[MERGE_SINGLE][TRACK_CONFLICT] > 50 && answers[MERGE_USAGE_SCOPE][TRACK_CONFLICT] > 50);
+    read_damaged();
+    read_nothing();
+    own_refusals();
+    openings();
+    words();
+    printf("C typed header: %u calls as through track.h; %u comparisons hold\n", (unsigned)CALLS, checks);
+    return 0;
+}
