@@ -1,4 +1,4 @@
-//! The port's calls, as libexports.a has them: a slice is a pointer and a length, a set's table a pointer to 2,376 numbers.
+//! The port's calls, as the library has them: a slice is a pointer and a length, a set's table a pointer to 2,376 numbers.
 //! README.md says what each call lends; the layout of a set is told in crates/storage.
 use driver::direct::{Half, Selector};
 

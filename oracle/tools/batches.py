@@ -3,11 +3,12 @@ import examples
 import generate
 import rangecases
 import samples
+import words
 from edges import Edges
 
 # Of a hundred calls; the fixed cases come first and are not counted here.
-SHARES = {"small": 60, "put": 18, "larger": 12, "limit": 2, "ranges": 8}
-BATCH = {"small": 300, "put": 300, "larger": 200, "limit": 10, "ranges": 100}
+SHARES = {"small": 58, "put": 16, "words": 4, "larger": 12, "limit": 2, "ranges": 8}
+BATCH = {"small": 300, "put": 300, "words": 300, "larger": 200, "limit": 10, "ranges": 100}
 
 
 def shares(safe):
@@ -16,8 +17,9 @@ def shares(safe):
 
 
 def fixed(name, flags):
-    """Cases that are always run: 01's table and the ranged states at their edges, samples and examples."""
+    """Cases that are always run: 01's table and the ranged states at their edges, unused words, samples, examples."""
     yield Edges(flags).cases()
+    yield words.cases(Edges(flags))
     if name == "bench":
         yield samples.cases() + examples.cases() + [["case 0", *rangecases.always(), *rangecases.refused()]]
 

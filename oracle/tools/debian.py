@@ -1,11 +1,12 @@
 #!/usr/bin/env python3
 """Makes a copy of the workspace whose smallvec, arrayvec and bit-vec are those of Debian's packages.
 
-    debian.py WORKSPACE
+    debian.py debian|unstable WORKSPACE
 
-The packages are librust-smallvec-dev, librust-arrayvec-dev and librust-bit-vec-dev, installed or unpacked
-below ORACLE_REGISTRY. Only their sources are taken: their manifests name optional crates that no offline
-cargo could resolve. Debian's bit-vec is older than `BitVec::fill`, so a wrapper adds that one method.
+The packages are librust-smallvec-dev, librust-arrayvec-dev and librust-bit-vec-dev: `debian` has those that are
+installed, or unpacked below ORACLE_REGISTRY, `unstable` those that oracle/fetch has unpacked. Only their sources are
+taken: their manifests name optional crates that no offline cargo could resolve. Debian's bit-vec is older than
+`BitVec::fill`, so a wrapper adds that one method.
 """
 import os
 import pathlib
@@ -13,8 +14,11 @@ import re
 import shutil
 import sys
 
-RUST = pathlib.Path(__file__).resolve().parent.parent / "rust"
-REGISTRY = pathlib.Path(os.environ.get("ORACLE_REGISTRY", "/usr/share/cargo/registry"))
+ORACLE = pathlib.Path(__file__).resolve().parent.parent
+RUST = ORACLE / "rust"
+REGISTRIES = {"debian": (pathlib.Path(os.environ.get("ORACLE_REGISTRY", "/usr/share/cargo/registry")),
+                         "its package is not installed"),
+              "unstable": (ORACLE / "target" / "unstable", "oracle/fetch gets it")}
 MANIFEST = """[package]
 name = "{name}"
 version = "{version}"
@@ -53,11 +57,12 @@ impl<B: BitBlock> std::ops::DerefMut for BitVec<B> {
 """
 
 
-def find(name):
+def find(suite, name):
     """The newest source of a package, and its version."""
-    found = sorted(REGISTRY.glob(f"{name}-[0-9]*"))
+    registry, missing = REGISTRIES[suite]
+    found = sorted(registry.glob(f"{name}-[0-9]*"))
     if not found:
-        sys.exit(f"debian.py: no {name} below {REGISTRY}")
+        sys.exit(f"build: no {name} below {registry}: {missing}")
     version = re.search(r'^version = "(.*)"', (found[-1] / "Cargo.toml").read_text(), re.M)[1]
     return found[-1] / "src", version
 
@@ -67,14 +72,14 @@ def crate(folder, name, version, more=""):
     (folder / "Cargo.toml").write_text(MANIFEST.format(name=name, version=version, more=more))
 
 
-def take(name, folder, package=None):
-    source, version = find(name)
+def take(suite, name, folder, package=None):
+    source, version = find(suite, name)
     crate(folder, package or name, version)
     shutil.copytree(source, folder / "src")
     print(f"{name}: Debian's {version}")
 
 
-def main(workspace):
+def main(suite, workspace):
     workspace.mkdir(parents=True, exist_ok=True)
     for part in ("driver", "stand-ins", "upstream"):
         shutil.rmtree(workspace / part, ignore_errors=True)
@@ -83,9 +88,9 @@ def main(workspace):
     crates = workspace / "stand-ins"
     for name in ("smallvec", "arrayvec", "bit-vec"):
         shutil.rmtree(crates / name)
-    take("smallvec", crates / "smallvec")
-    take("arrayvec", crates / "arrayvec")
-    take("bit-vec", crates / "debian-bit-vec", "debian-bit-vec")
+    take(suite, "smallvec", crates / "smallvec")
+    take(suite, "arrayvec", crates / "arrayvec")
+    take(suite, "bit-vec", crates / "debian-bit-vec", "debian-bit-vec")
     crate(crates / "bit-vec", "bit-vec", "0.0.0",
           '\n[dependencies]\ndebian-bit-vec = { path = "../debian-bit-vec" }\n')
     (crates / "bit-vec" / "src").mkdir()
@@ -93,4 +98,4 @@ def main(workspace):
 
 
 if __name__ == "__main__":
-    main(pathlib.Path(sys.argv[1]))
+    main(sys.argv[1], pathlib.Path(sys.argv[2]))

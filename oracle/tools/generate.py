@@ -6,11 +6,15 @@ Refused calls are among them. What the Rust cannot answer, 01 decides: expect.py
 import random
 
 import chance
+import words
 from model import SPARSE
 
 # For each kind the largest N, M, W and the largest number of calls.
-SIZES = {"small": (3, 3, 5, 40), "put": (3, 3, 5, 20), "larger": (4, 5, 12, 40), "limit": (64, 16, 256, 12)}
+SIZES = {"small": (3, 3, 5, 40), "put": (3, 3, 5, 20), "larger": (4, 5, 12, 40), "limit": (64, 16, 256, 12),
+         "words": (3, 3, 5, 20)}
 LIMITS = [(64, 1, 1), (64, 2, 3), (1, 16, 256), (3, 16, 4), (2, 1, 256), (64, 16, 4), (64, 16, 1), (64, 16, 256)]
+# Numbers that are lent past the ranges of a set where words are poked.
+SPARE = 7
 CALLS = {"merge_single": 34, "merge_usage_scope": 22, "set_single": 18, "set_from_usage_scope": 10,
          "set_from_tracker": 12, SPARSE: 8}
 
@@ -34,9 +38,11 @@ class Maker:
     def case(self, number):
         self.lines.append(f"case {number}")
         self.open_sets()
-        if self.kind == "put" or self.kind == "limit" and self.rng.random() < 0.5:
+        if self.kind in ("put", "words") or self.kind == "limit" and self.rng.random() < 0.5:
             for set_number in self.scopes + self.trackers:
                 self.put_textures(set_number)
+        if self.kind == "words":
+            self.poke_words()
         for _ in range(self.rng.randint(1, self.most[3])):
             self.call()
         return self.lines
@@ -54,7 +60,7 @@ class Maker:
 
     def open_set(self, number, kind):
         n, m, w = self.set_size()
-        room = 3 * n * m * w
+        room = 3 * n * m * w + (SPARE if self.kind == "words" else 0)
         flags = " ".join(map(str, self.flags))
         if kind == "scope":
             self.scopes.append(number)
@@ -65,7 +71,7 @@ class Maker:
 
     def set_size(self):
         """The case's, or now and then another, so that whole sets are refused."""
-        if self.kind in ("put", "limit") or self.rng.random() < 0.85:
+        if self.kind in ("put", "limit", "words") or self.rng.random() < 0.85:
             return self.size
         return tuple(self.rng.randint(1, most) for most in self.most[:3])
 
@@ -99,6 +105,16 @@ class Maker:
             ends = [self.flags.unknown if one == self.flags.unknown else two for one, two in zip(starts, ends)]
             end = chance.half_text(self.rng, ends, mips, layers)
         return start, end
+
+    def poke_words(self):
+        """Numbers where no set looks, and ownership words other than 1."""
+        n, m, w = self.size
+        for number in self.scopes + self.trackers:
+            tracker = number in self.trackers
+            unused = words.unused(tracker, n) + words.past(tracker, 3 * n * m * w, SPARE)
+            owned = [int(line.split(" ")[2]) for line in self.lines if line.startswith(f"put {number} ")]
+            self.lines += words.pokes(number, self.rng.sample(unused, 12), words.anything(self.rng))
+            self.lines += words.pokes(number, words.owned(owned), words.nonzero(self.rng))
 
     # ---- calls ---------------------------------------------------------------------------------------
 

@@ -1,19 +1,20 @@
 """Runs a driver of the Rust, or any program that reads the same lines."""
-import os
+import pathlib
 import re
 import subprocess
 
 from flags import ORACLE
 
-# Where `build` puts the drivers.
-WORKSPACE = "rust/target-debian" if os.environ.get("ORACLE_VENDOR") == "debian" else "rust"
+# Where `build` puts the drivers: it knows.
+WHERE = subprocess.run([str(ORACLE / "build"), "--where"], check=True, text=True, stdout=subprocess.PIPE)
+BUILT = pathlib.Path(WHERE.stdout.strip())
 
 # The words that an answer can begin with; other lines go on with the answer before them.
 ANSWER = re.compile(r"^(?=done|conflict|refused|isolated|coalesced|filtered|emptied|panicked|broken|case)", re.M)
 
 
 def driver(name):
-    return ORACLE / WORKSPACE / "target" / "release" / name
+    return BUILT / name
 
 
 class Malformed(Exception):

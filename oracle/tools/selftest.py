@@ -1,4 +1,5 @@
 """Breaks rules one at a time in a copy of this directory, and demands that `compare` reports each."""
+import os
 import pathlib
 import shutil
 import subprocess
@@ -7,9 +8,12 @@ import tempfile
 
 import answer
 import broken
+import rust
 from flags import ORACLE
 
 QUICK = ["--no-build", "--flags", "bench", "--calls", "2000"]
+# A copy has its drivers where nobody has said otherwise.
+PLAIN = {name: value for name, value in os.environ.items() if name not in ("CARGO_TARGET_DIR", "ORACLE_VENDOR")}
 SPOILED = """#!{python}
 import subprocess, sys
 text = subprocess.run([{python!r}, {answer!r}], input=sys.stdin.read(), text=True, stdout=subprocess.PIPE).stdout
@@ -21,13 +25,16 @@ def copy_oracle(folder):
     """A copy that has the drivers of this one."""
     copy = folder / "oracle"
     shutil.copytree(ORACLE, copy, ignore=shutil.ignore_patterns("target*", "cases", "__pycache__"))
-    shutil.copytree(ORACLE / "rust" / "target" / "release", copy / "rust" / "target" / "release",
+    # build reads tools/need.
+    shutil.copytree(ORACLE.parent / "tools", folder / "tools")
+    shutil.copytree(rust.BUILT, copy / "rust" / "target" / "release",
                     ignore=shutil.ignore_patterns("deps", "incremental", "build", "examples", "*.rlib"))
     return copy
 
 
 def compare(copy, *more):
-    done = subprocess.run([sys.executable, str(copy / "compare"), *QUICK, *more], capture_output=True, text=True)
+    command = [sys.executable, str(copy / "compare"), *QUICK, *more]
+    done = subprocess.run(command, capture_output=True, text=True, env=PLAIN)
     return done.returncode, done.stdout + done.stderr
 
 
@@ -49,9 +56,9 @@ def reported(status, text):
 
 
 def build_and_compare(copy):
-    rust = copy / "rust"
+    workspace = copy / "rust"
     subprocess.run(["cargo", "build", "--quiet", "--release", "--offline", "--bin", "bench", "--manifest-path",
-                    str(rust / "Cargo.toml"), "--target-dir", str(rust / "target")], check=True)
+                    str(workspace / "Cargo.toml"), "--target-dir", str(workspace / "target")], check=True)
     return compare(copy)
 
 

@@ -5,7 +5,7 @@
     store.py --check    tells whether they are what would be written now
 
 For each usage flags some calls that pass, chosen for variety; 01's table for the bench flags in refusals.txt; the calls
-on ranged states in ranges.txt. The drivers must be built.
+on ranged states in ranges.txt; unused words and ownership words in words.txt. The drivers must be built.
 """
 import itertools
 import re
@@ -17,6 +17,7 @@ import expect
 import generate
 import rangecases
 import samples
+import words
 from edges import Edges
 from flags import ORACLE
 from refusals import Refusal
@@ -24,6 +25,7 @@ from refusals import Refusal
 SEED = "stored"
 CALLS = 340
 RANDOM_RANGES = 40
+RANDOM_WORDS = 24
 # A case at the limits is long; those that are stored answer no more than this many bytes, and need no more room.
 LONGEST = 9000
 MOST_ROOM = 12288
@@ -85,6 +87,9 @@ def files():
     yield "refusals", Edges(expect.FLAGS["bench"]).cases()
     fixed = [["case", *rangecases.always()], ["case", *rangecases.refused()]]
     yield "ranges", numbered(fixed + [rangecases.case(SEED, at, 1) for at in range(RANDOM_RANGES)])
+    bench = expect.FLAGS["bench"]
+    yield "words", numbered(words.cases(Edges(bench)) + [
+        generate.case("words", "bench", bench, SEED, at) for at in range(RANDOM_WORDS)])
 
 
 def texts():

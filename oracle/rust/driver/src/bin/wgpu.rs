@@ -1,4 +1,4 @@
-//! The driver built for the constants of wgpu-types, as they are remembered: that crate is not at hand.
+//! The driver built for the constants of wgpu-types; tests/constants compares them with that crate.
 const EXCLUSIVE: u16 = 3754;
 const UNINITIALIZED: u16 = 1;
 const COMPLEX: u16 = 8192;
