@@ -42,7 +42,8 @@
 //! # }
 //! ```
 //!
-//! `./demo` at the top of the repository shows a whole frame; [`TextureStates::grid`] draws a texture.
+//! `./demo` at the top of the repository shows a whole frame; [`TextureStates::grid`] draws a texture. [`record`] keeps
+//! the calls of a running program in a file, to be replayed when something went wrong.
 //!
 //! # What holds
 //!
@@ -58,18 +59,20 @@
 //! `tools/library` writes it, or in the directory that `TEXTURE_TRACKER_LIB_DIR` names. Only linking needs it:
 //! `cargo check` and `cargo doc` do without.
 //!
-//! The crate is `no_std` and uses `alloc`.
+//! The crate is `no_std` and uses `alloc`. The feature `std`, on by default, adds [`record`], which writes files.
 #![no_std]
 #![deny(missing_docs, unsafe_code, unsafe_op_in_unsafe_fn)]
 #![warn(clippy::pedantic)]
 
 extern crate alloc;
-#[cfg(test)]
+#[cfg(any(feature = "std", test))]
 extern crate std;
 
 mod errors;
 mod grid;
 mod log;
+#[cfg(feature = "std")]
+pub mod record;
 mod scope;
 mod state;
 mod states;
