@@ -1,4 +1,4 @@
-//! The bench samples B1 to B12 of the scope document, and its edges.
+//! The samples B1 to B12 of docs/RULES.md, and its edges.
 mod bench;
 use bench::*;
 use texture_tracker::*;

@@ -1,4 +1,4 @@
-//! The bench of the scope document: its usage flags, a texture of 2 mips and 4 layers, and its notation.
+//! The bench of docs/RULES.md: its usage flags, a texture of 2 mips and 4 layers, and its notation.
 #![allow(dead_code)]
 use texture_tracker::*;
 
