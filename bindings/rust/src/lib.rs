@@ -42,8 +42,8 @@
 //! # }
 //! ```
 //!
-//! `./demo` at the top of the repository shows a whole frame; [`TextureStates::grid`] draws a texture. [`record`] keeps
-//! the calls of a running program in a file, to be replayed when something went wrong.
+//! `./demo` at the top of the repository shows a whole frame; [`TextureStates::grid`] draws a texture. Module
+//! [`record`](record/index.html) keeps the calls of a running program in a file, to be replayed when something went wrong.
 //!
 //! # What holds
 //!
@@ -59,7 +59,7 @@
 //! `tools/library` writes it, or in the directory that `TEXTURE_TRACKER_LIB_DIR` names. Only linking needs it:
 //! `cargo check` and `cargo doc` do without.
 //!
-//! The crate is `no_std` and uses `alloc`. The feature `std`, on by default, adds [`record`], which writes files.
+//! The crate is `no_std` and uses `alloc`. The feature `std`, on by default, adds module `record`, which writes files.
 #![no_std]
 #![deny(missing_docs, unsafe_code, unsafe_op_in_unsafe_fn)]
 #![warn(clippy::pedantic)]

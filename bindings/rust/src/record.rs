@@ -2,7 +2,8 @@
 //!
 //! A [`Recorder`] opens sets and logs that have the calls of the plain ones, under the same names, and write each call as
 //! a line before it is made. What they hold is read as from the plain ones, which they lend (`Deref`). So frame code
-//! is recorded by taking its types from this module, and opening its sets with a recorder:
+//! is recorded by taking its types from this module, and opening its sets with a recorder. A call then takes as long as
+//! the write.
 //!
 //! ```
 //! use texture_tracker::{record::Recorder, *};

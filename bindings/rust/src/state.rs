@@ -12,14 +12,14 @@ use core::{
 ///
 /// The tracker knows no use by name. Which ones exclude each other, and which four numbers have a meaning of
 /// their own, [`UsageFlags`](crate::UsageFlags) say; [`uses`] has wgpu's. So a state is written as its number, and
-/// with wgpu's names where `{:#}` asks for them. Both forms are read back.
+/// with wgpu's names where `{:#}` or `{:#?}` asks for them. Both forms are read back.
 ///
 /// ```
 /// use texture_tracker::{uses, State};
 /// # fn main() -> Result<(), Box<dyn std::error::Error>> {
 /// let read = uses::COPY_SRC | uses::RESOURCE;
 /// assert_eq!((read.bits(), read.to_string().as_str()), (20, "20"));
-/// assert_eq!(format!("{read:#}"), "COPY_SRC|RESOURCE");
+/// assert_eq!(format!("{read:#} {read:?} {read:#?}"), "COPY_SRC|RESOURCE State(20) COPY_SRC|RESOURCE");
 /// assert_eq!("COPY_SRC|RESOURCE".parse::<State>()?, read);
 /// assert_eq!("20".parse::<State>()?, read);
 ///
@@ -29,7 +29,7 @@ use core::{
 /// # Ok(())
 /// # }
 /// ```
-#[derive(Clone, Copy, Debug, Default, PartialEq, Eq, PartialOrd, Ord, Hash)]
+#[derive(Clone, Copy, Default, PartialEq, Eq, PartialOrd, Ord, Hash)]
 pub struct State(pub u16);
 
 impl State {
@@ -93,6 +93,17 @@ impl fmt::Display for State {
             uses::write(f, *self)
         } else {
             self.0.fmt(f)
+        }
+    }
+}
+
+/// The number; with `{:#?}` wgpu's names.
+impl fmt::Debug for State {
+    fn fmt(&self, f: &mut fmt::Formatter<'_>) -> fmt::Result {
+        if f.alternate() {
+            uses::write(f, *self)
+        } else {
+            write!(f, "State({})", self.0)
         }
     }
 }

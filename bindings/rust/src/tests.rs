@@ -120,7 +120,7 @@ fn any_numbers() {
         // Knuth's MMIX generator; the upper bits are the good ones.
         seed = seed.wrapping_mul(6_364_136_223_846_793_005).wrapping_add(1_442_695_040_888_963_407);
         let number = (seed >> 32) as u32;
-        if number.is_multiple_of(3) {
+        if number % 3 == 0 {
             number
         } else {
             number % 20

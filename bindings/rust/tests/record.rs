@@ -1,4 +1,5 @@
 //! Recordings: that each says what was done, is answered alike when it is replayed, and that a difference is reported.
+#![cfg(feature = "std")]
 mod bench;
 mod built;
 use std::{

@@ -37,7 +37,7 @@ fn selectors() {
 fn the_largest_number() {
     let most = u32::MAX;
     assert!(Span::from(Layer(most)).is_empty());
-    assert!(!Span::from(Layer(0)..=Layer(most)).contains(&Layer(most)));
+    assert_eq!(Span::from(Layer(0)..=Layer(most)), Layer(0)..Layer(most));
     let mut scope = UsageScope::open(1, EXTENT, FLAGS).unwrap();
     let answer = scope.merge_single(TEXTURE, Some(Selector::layer(Layer(most), EXTENT)), State(8));
     assert_eq!(answer, Err(Refusal::SelectorEmpty.into()));
