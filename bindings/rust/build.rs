@@ -17,7 +17,7 @@ fn main() -> io::Result<()> {
 /// then fails with "could not find native static library `texture_tracker`", below that warning.
 fn link() {
     println!("cargo::rerun-if-env-changed=TEXTURE_TRACKER_LIB_DIR");
-    let dir = env::var_os("TEXTURE_TRACKER_LIB_DIR").map_or_else(in_repository, PathBuf::from);
+    let dir = env::var_os("TEXTURE_TRACKER_LIB_DIR").map_or_else(at_hand, PathBuf::from);
     let archive = dir.join(ARCHIVE);
     println!("cargo::rerun-if-changed={}", archive.display());
     if !TARGET.iter().all(|(key, value)| env::var(key).as_deref() == Ok(value)) {
@@ -35,11 +35,16 @@ fn link() {
     println!("cargo::rustc-link-lib=static=texture_tracker");
 }
 
-/// Where `tools/library` writes.
-fn in_repository() -> PathBuf {
+/// Where `tools/library` writes in a repository; or `lib`, where a tarball has the archive.
+fn at_hand() -> PathBuf {
     let package = PathBuf::from(env::var_os("CARGO_MANIFEST_DIR").unwrap_or_default());
     let top = package.ancestors().nth(2).unwrap_or(&package);
-    top.join("target/lib")
+    let [written, unpacked] = ["target/lib", "lib"].map(|dir| top.join(dir));
+    if unpacked.join(ARCHIVE).is_file() {
+        unpacked
+    } else {
+        written
+    }
 }
 
 /// Writes the README with nothing but its blocks that are marked as Rust, for `lib.rs` to include as

@@ -56,8 +56,8 @@
 //! # Building
 //!
 //! The crate links `libtexture_tracker.a`, for x86-64 Linux. It is found in `target/lib` of the repository, where
-//! `tools/library` writes it, or in the directory that `TEXTURE_TRACKER_LIB_DIR` names. Only linking needs it:
-//! `cargo check` and `cargo doc` do without.
+//! `tools/library` writes it, in `lib` of a tarball, or in the directory that `TEXTURE_TRACKER_LIB_DIR` names. Only
+//! linking needs it: `cargo check` and `cargo doc` do without.
 //!
 //! The crate is `no_std` and uses `alloc`. The feature `std`, on by default, adds module `record`, which writes files.
 #![no_std]
