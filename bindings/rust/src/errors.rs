@@ -9,7 +9,7 @@ use crate::{
 use alloc::string::{String, ToString};
 use core::{error::Error, fmt};
 
-/// A call that was turned away. Everything that it was lent is as it was before.
+/// A call that was refused. Everything that it borrowed is as it was before.
 ///
 /// There is one case for each number of the table of refusals (`docs/RULES.md` of the repository);
 /// [`number`](Self::number) returns it. Which calls return which:
@@ -19,8 +19,8 @@ use core::{error::Error, fmt};
 /// | 1, 2 | opening a scope or a tracker |
 /// | 6 to 9 | calls that are handed a whole set, or a list of its textures |
 /// | 7 to 13 | `merge_single`, `set_single` |
-/// | 15 | calls that are lent a log |
-/// | 3, 4, 5 | none: this crate lends enough room, and nobody else writes what it lends |
+/// | 15 | calls that borrow a log |
+/// | 3, 4, 5 | none: this crate provides enough memory, and nobody else writes it |
 /// | 14 | none: the calls on ranges alone are not in this crate |
 ///
 /// ```
@@ -37,11 +37,11 @@ pub enum Refusal {
     NumbersOutOfLimits,
     /// 2: the usage flags break their rule.
     FlagsBreakRule,
-    /// 3: the lent room is short.
+    /// 3: the memory of the set is too small.
     ShortRoom,
     /// 4: a set is not well formed: something else has written its storage.
     NotWellFormed,
-    /// 5: the log tells of more entries than were lent.
+    /// 5: the head of the log counts more entries than the log has.
     LogTooShort,
     /// 6: the two sets were opened with different usage flags.
     FlagsDiffer,
@@ -113,7 +113,7 @@ impl Refusal {
         }
     }
 
-    /// The texture that was turned away, for 7 to 9.
+    /// The texture that was refused, for 7 to 9.
     #[must_use]
     pub const fn index(self) -> Option<TrackerIndex> {
         match self {
@@ -129,9 +129,9 @@ impl Refusal {
                 "uninitialized, complex and unknown must be one bit each, all different, complex and unknown not \
                  in exclusive"
             }
-            Self::ShortRoom => "the lent room is short",
+            Self::ShortRoom => "the memory of the set is too small",
             Self::NotWellFormed => "a set is not well formed: something else has written its storage",
-            Self::LogTooShort => "the log tells of more entries than were lent",
+            Self::LogTooShort => "the head of the log counts more entries than the log has",
             Self::FlagsDiffer => "the two sets were opened with different usage flags",
             Self::NoSuchIndex(_) => "the set has no such index",
             Self::ExtentOutOfLimits(_) => "it has no mips or layers, or more than the set was opened for",
@@ -142,7 +142,7 @@ impl Refusal {
             Self::StateIncompatible => "the state has an exclusive use beside another use",
             Self::RangesOutOfOrder => "the ranges are empty, out of order or overlap",
             Self::NoFreeEntry => "the call needs more log entries than are free",
-            Self::Unlisted(_) => "the library gives a reason that this crate does not know",
+            Self::Unlisted(_) => "the library returns a reason that this crate does not know",
         }
     }
 }
@@ -210,7 +210,7 @@ impl Error for Conflict {}
 /// Why a merge into a usage scope did not pass.
 #[derive(Clone, Copy, Debug, PartialEq, Eq, Hash)]
 pub enum MergeError {
-    /// The call was turned away, and nothing changed.
+    /// The call was refused, and nothing changed.
     Refused(Refusal),
     /// Two uses conflict. What was merged before the conflict stays, as in wgpu-core.
     Conflict(Conflict),
@@ -292,7 +292,7 @@ pub(crate) fn naming(f: &fmt::Formatter<'_>) -> fn(State) -> String {
     }
 }
 
-/// The answer of a call that may meet a conflict.
+/// What a call returns that may meet a conflict.
 pub(crate) fn merged(answer: Answer) -> Result<(), MergeError> {
     match answer.kind {
         0 => Ok(()),
@@ -301,7 +301,7 @@ pub(crate) fn merged(answer: Answer) -> Result<(), MergeError> {
     }
 }
 
-/// The answer of a call that meets no conflict: any but a merge.
+/// What a call returns that meets no conflict: any but a merge.
 pub(crate) fn passed(answer: Answer) -> Result<(), Refusal> {
     match answer.kind {
         0 => Ok(()),

@@ -16,7 +16,7 @@
 //! picture of nothing. Two kinds of sets keep account of this:
 //!
 //! - A [`UsageScope`] holds the uses of one pass, which happen at the same time. Reads are united; a use that excludes
-//!   others, beside any other, is a [`Conflict`], told with its mips, layers and both states.
+//!   others, beside any other, is a [`Conflict`], reported with its mips, layers and both states.
 //! - A [`TextureTracker`] puts passes in order. Each call that takes it further writes the changes that the driver has
 //!   to be told into a [`TransitionLog`].
 //!
@@ -47,9 +47,9 @@
 //!
 //! # What holds
 //!
-//! Behind these calls is a library that is proved, for every input: a call ends, stays inside the memory that it is
-//! lent, and returns what the definitions say, which are those of wgpu-core's `track/texture.rs` on plain lists; a
-//! refusal changes nothing. This crate lends it the memory, names its answers, and is not proved: it is tested
+//! Behind these calls is a library that is proved, for every input: a call ends, stays inside the memory that it
+//! borrows, and returns what the definitions say, which are those of wgpu-core's `track/texture.rs` on plain lists; a
+//! refusal changes nothing. This crate provides the memory, names what is returned, and is not proved: it is tested
 //! against wgpu-core's own code (`tests/oracle.rs`). All memory is taken at opening; no call takes more, and none
 //! panics. States are any 16 bits, told apart by [`UsageFlags`]; [`uses`] has wgpu's.
 //!

@@ -1,7 +1,7 @@
 //! The calls of a running program, kept in a file to be replayed.
 //!
 //! A [`Recorder`] opens sets and logs that have the calls of the plain ones, under the same names, and write each call as
-//! a line before it is made. What they hold is read as from the plain ones, which they lend (`Deref`). So frame code
+//! a line before it is made. What they hold is read as from the plain ones, which they contain (`Deref`). So frame code
 //! is recorded by taking its types from this module, and opening its sets with a recorder. A call then takes as long as
 //! the write.
 //!
@@ -40,7 +40,7 @@
 //! ```
 //!
 //! `tools/replay FILE`, at the top of the repository, makes these calls again: through the proved program, through this
-//! crate and through wgpu-core's own code, as far as each is there, and compares all that they answer.
+//! crate and through wgpu-core's own code, as far as each is there, and compares what they return.
 //! `oracle/README.md` has the language. A recording is replayed from its start, so it grows as long as the program runs:
 //! where all sets are opened anew, a new recorder may be created too.
 use crate::{
@@ -67,7 +67,7 @@ use std::{
 
 /// Writes the calls of the sets that it opens. Clones write to the same place, also from other threads.
 ///
-/// Recording never stops a call: what cannot be written is told by [`finish`](Self::finish).
+/// Recording never stops a call: what cannot be written is reported by [`finish`](Self::finish).
 #[derive(Clone)]
 pub struct Recorder {
     shared: Arc<Mutex<Shared>>,
@@ -75,7 +75,7 @@ pub struct Recorder {
 
 struct Shared {
     out: Box<dyn Write + Send>,
-    /// The numbers of the sets that are in use. A set that is dropped gives its number back, so that they stay few.
+    /// The numbers of the sets that are in use. A set that is dropped frees its number, so that they stay few.
     taken: BTreeSet<u32>,
     /// How many cases were begun. A case forgets the sets of the one before.
     cases: u32,
@@ -374,7 +374,7 @@ impl TextureTracker {
         self.plain.set_and_remove_from_usage_scope_sparse(&mut scope.plain, indices, &mut log.plain)
     }
 
-    /// Writes a call, and before it the log that it is lent, unless it is the one that the language takes for granted:
+    /// Writes a call, and before it the head of its log, unless it is the one that the language takes for granted:
     /// empty, with an entry for each subresource of the tracker.
     fn call(&self, word: &str, rest: impl fmt::Display, log: &TransitionLog) {
         let Opening { textures, largest, .. } = self.plain.storage.opening;
@@ -424,7 +424,7 @@ impl TransitionLog {
         self.recorder.write(&format!("empty_log {}\n", self.numbers()));
     }
 
-    /// Written, free and lent, as the language has them.
+    /// Entries written and free, and the numbers of all entries, as the language has them.
     fn numbers(&self) -> String {
         format!("{} {} {}", self.len(), self.free(), self.plain.storage.entries.len())
     }

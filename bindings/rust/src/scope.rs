@@ -31,8 +31,8 @@ use core::fmt;
 /// # }
 /// ```
 ///
-/// Two scopes are equal if they were opened alike and hold the same textures, with the same ranges: then they answer
-/// every call alike.
+/// Two scopes are equal if they were opened alike and hold the same textures, with the same ranges: then every
+/// call returns the same of both.
 ///
 /// # Taking a texture out
 ///

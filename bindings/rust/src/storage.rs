@@ -1,4 +1,4 @@
-//! The numbers that are lent to the proved library, and their layout, which nothing else in this crate knows.
+//! The numbers that the proved library borrows, and their layout, which nothing else in this crate knows.
 //! It is the layout of crate `storage` of the repository:
 //!
 //! ```text
@@ -86,7 +86,7 @@ pub(crate) enum Half {
 }
 
 /// How many subresources that many textures have. A number past its limit counts as the limit: opening is refused
-/// there, whatever room is lent.
+/// there, whatever memory there is.
 pub(crate) fn subresources(textures: u32, largest: Extent) -> usize {
     let textures = textures.min(MOST_TEXTURES) as usize;
     let mips = largest.mips.min(MOST.mips) as usize;

@@ -1,11 +1,11 @@
-//! The proved library: its functions as the archive has them, and for each one caller that lends it storage.
+//! The proved library: its functions as the archive has them, and for each one caller that passes it storage.
 //!
-//! A slice goes over as a pointer and a count of numbers, a table as a pointer to 2,376 of them. The library asks
-//! nothing else of its caller: it is proved that every call ends, stays inside what it is lent, and answers whatever
+//! A slice goes over as a pointer and a count of numbers, a table as a pointer to 2,376 of them. The library requires
+//! nothing else of its caller: it is proved that every call ends, stays inside what it borrows, and returns whatever
 //! numbers stand there. So all that each SAFETY below has to say is that the pointers are good for their lengths and
-//! that what is written is lent to nobody else; references say both.
+//! that what is written is borrowed by nobody else; references say both.
 //!
-//! One line of arguments for each thing that is lent; rustfmt is told to leave this file alone.
+//! One line of arguments for each thing that is borrowed; rustfmt is told to leave this file alone.
 #![allow(unsafe_code)]
 use crate::{
     state::State,
@@ -13,7 +13,7 @@ use crate::{
     values::{Selector, Texture, TrackerIndex},
 };
 
-/// What a call answers. `kind` is 0 for done, 1 for refused (`number` and `place`), 2 for a conflict (the others).
+/// What a call returns. `kind` is 0 for done, 1 for refused (`number` and `place`), 2 for a conflict (the others).
 #[repr(C)]
 #[derive(Clone, Copy, Debug, Default)]
 pub(crate) struct Answer {
@@ -29,7 +29,7 @@ pub(crate) struct Answer {
     pub new_state: u32,
 }
 
-/// What a call that is lent a log answers, with the log's head after it.
+/// What a call that borrows a log returns, with the log's head after it.
 #[repr(C)]
 #[derive(Clone, Copy)]
 struct LoggedAnswer {
@@ -116,7 +116,7 @@ fn numbers(opening: Opening) -> [u32; 7] {
 pub(crate) fn open_scope(to: &mut ScopeStorage) -> Answer {
     let ScopeStorage { opening, table, ranges } = to;
     let [n, m, w, exclusive, uninitialized, complex, unknown] = numbers(*opening);
-    // SAFETY: each pointer comes from a reference, with its length; the table is lent mutably and alone.
+    // SAFETY: each pointer comes from a reference, with its length; the table is borrowed mutably and alone.
     unsafe {
         track_open_scope(
             table.as_mut_ptr(), ranges.as_ptr(), ranges.len(),
@@ -128,7 +128,7 @@ pub(crate) fn open_scope(to: &mut ScopeStorage) -> Answer {
 pub(crate) fn open_tracker(to: &mut TrackerStorage) -> Answer {
     let TrackerStorage { opening, table, starts, ends } = to;
     let [n, m, w, exclusive, uninitialized, complex, unknown] = numbers(*opening);
-    // SAFETY: each pointer comes from a reference, with its length; the table is lent mutably and alone.
+    // SAFETY: each pointer comes from a reference, with its length; the table is borrowed mutably and alone.
     unsafe {
         track_open_tracker(
             table.as_mut_ptr(), starts.as_ptr(), starts.len(), ends.as_ptr(), ends.len(),
@@ -154,7 +154,7 @@ pub(crate) fn merge_single(
 
 pub(crate) fn merge_usage_scope(to: &mut ScopeStorage, given: &ScopeStorage) -> Answer {
     let ScopeStorage { table, ranges, .. } = to;
-    // SAFETY: each pointer comes from a reference, with its length; `to` is lent mutably, so `given` is another.
+    // SAFETY: each pointer comes from a reference, with its length; `to` is borrowed mutably, so `given` is another.
     unsafe {
         track_merge_usage_scope(
             table.as_mut_ptr(), ranges.as_mut_ptr(), ranges.len(),
@@ -183,7 +183,7 @@ pub(crate) fn set_single(
 
 pub(crate) fn set_from_usage_scope(to: &mut TrackerStorage, given: &ScopeStorage, log: &mut LogStorage) -> Answer {
     let TrackerStorage { table, starts, ends, .. } = to;
-    // SAFETY: each pointer comes from a reference, with its length; what is written is lent mutably.
+    // SAFETY: each pointer comes from a reference, with its length; what is written is borrowed mutably.
     let after = unsafe {
         track_set_from_usage_scope(
             table.as_mut_ptr(), starts.as_mut_ptr(), starts.len(), ends.as_mut_ptr(), ends.len(),
@@ -197,7 +197,7 @@ pub(crate) fn set_from_usage_scope(to: &mut TrackerStorage, given: &ScopeStorage
 pub(crate) fn set_from_tracker(to: &mut TrackerStorage, given: &TrackerStorage, log: &mut LogStorage) -> Answer {
     let TrackerStorage { table, starts, ends, .. } = to;
     let TrackerStorage { table: other, starts: first, ends: last, .. } = given;
-    // SAFETY: each pointer comes from a reference, with its length; `to` is lent mutably, so `given` is another.
+    // SAFETY: each pointer comes from a reference, with its length; `to` is borrowed mutably, so `given` is another.
     let after = unsafe {
         track_set_from_tracker(
             table.as_mut_ptr(), starts.as_mut_ptr(), starts.len(), ends.as_mut_ptr(), ends.len(),
@@ -212,7 +212,7 @@ pub(crate) fn set_and_remove_from_usage_scope_sparse(
     to: &mut TrackerStorage, given: &mut ScopeStorage, indices: &[TrackerIndex], log: &mut LogStorage,
 ) -> Answer {
     let TrackerStorage { table, starts, ends, .. } = to;
-    // SAFETY: each pointer comes from a reference, with its length; what is written is lent mutably. A
+    // SAFETY: each pointer comes from a reference, with its length; what is written is borrowed mutably. A
     // `TrackerIndex` is a `u32` (repr(transparent)).
     let after = unsafe {
         track_set_and_remove_from_usage_scope_sparse(

@@ -112,7 +112,7 @@ fn read(states: TextureStates<'_>) -> usize {
     ranges.sum::<usize>() + states.iter().take(1000).count()
 }
 
-/// Any numbers can be read, and any call on them has an answer.
+/// Any numbers can be read, and any call on them returns.
 #[test]
 fn any_numbers() {
     let mut seed = 1u64;

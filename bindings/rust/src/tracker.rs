@@ -41,7 +41,7 @@ use core::fmt;
 /// ```
 ///
 /// Two trackers are equal if they were opened alike and hold the same textures, with the same ranges at start and end:
-/// then they answer every call alike.
+/// then every call returns the same of both.
 ///
 /// # Freeing an index
 ///

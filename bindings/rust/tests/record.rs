@@ -1,4 +1,4 @@
-//! Recordings: that each says what was done, is answered alike when it is replayed, and that a difference is reported.
+//! Recordings: that each says what was done, that a replay returns the same, and that a difference is reported.
 #![cfg(feature = "std")]
 mod bench;
 mod built;
@@ -35,7 +35,7 @@ impl Page {
     }
 }
 
-/// A frame with its sets, and what each call was answered, as the language writes answers.
+/// A frame with its sets, and what each call returned, as the language writes answers.
 struct Floor {
     page: Page,
     tracker: TextureTracker,
@@ -127,20 +127,36 @@ fn span<'a>(words: &mut &'a [&'a str], one: &str, many: &str, all: u32) -> std::
     range
 }
 
-/// The demonstration's frame, twice, and camera 5 late in its second classification.
-fn demonstration() -> Floor {
-    let text =
-        fs::read_to_string(PathBuf::from(env!("CARGO_MANIFEST_DIR")).join("examples/sorter/demo.frame")).unwrap();
-    let lines = || text.lines().map(|line| line.split('#').next().unwrap().split_whitespace().collect::<Vec<_>>());
+type Named<'a> = (&'a str, Texture);
+
+fn textures<'a>(lines: impl Iterator<Item = Vec<&'a str>>) -> Vec<Named<'a>> {
     let mut textures = Vec::new();
-    for words in lines() {
+    for words in lines {
         if let ["texture", name, "mips", mips, "layers", layers] = words[..] {
             let extent = Extent::new(mips.parse().unwrap(), layers.parse().unwrap());
             textures.push((name, Texture::new(TrackerIndex(textures.len() as u32), extent)));
         }
     }
-    let largest = Extent::new(4, 8);
-    let mut floor = Floor::open(textures.len() as u32, largest, 64);
+    textures
+}
+
+/// A use of a texture: which part, and its state.
+fn merge<'a>(floor: &mut Floor, textures: &[Named<'_>], name: &str, mut rest: &'a [&'a str]) {
+    let (_, texture) = textures.iter().find(|(known, _)| *known == name).unwrap();
+    let mips = span(&mut rest, "mip", "mips", texture.extent.mips);
+    let layers = span(&mut rest, "layer", "layers", texture.extent.layers);
+    let selector = bench::selector(mips, layers);
+    let all = selector == texture.extent.full_range();
+    floor.merge(0, *texture, (!all).then_some(selector), rest[0].parse().unwrap());
+}
+
+/// The demonstration's frame, twice, and then camera 5 late in the classification.
+fn demonstration() -> Floor {
+    let path = PathBuf::from(env!("CARGO_MANIFEST_DIR")).join("examples/sorter/demo.frame");
+    let text = fs::read_to_string(path).unwrap();
+    let lines = || text.lines().map(|line| line.split('#').next().unwrap().split_whitespace().collect::<Vec<_>>());
+    let textures = textures(lines());
+    let mut floor = Floor::open(textures.len() as u32, Extent::new(4, 8), 64);
     for (_, texture) in &textures {
         floor.set(*texture, texture.extent.full_range(), uses::UNINITIALIZED);
     }
@@ -151,15 +167,7 @@ fn demonstration() -> Floor {
                 floor.empty();
                 floor.clear_scope(0);
             }
-            ["use", name, ref rest @ ..] => {
-                let (_, texture) = textures.iter().find(|(known, _)| *known == name).unwrap();
-                let mut rest = rest;
-                let mips = span(&mut rest, "mip", "mips", texture.extent.mips);
-                let layers = span(&mut rest, "layer", "layers", texture.extent.layers);
-                let selector = bench::selector(mips, layers);
-                let all = selector == texture.extent.full_range();
-                floor.merge(0, *texture, (!all).then_some(selector), rest[0].parse().unwrap());
-            }
+            ["use", name, ref rest @ ..] => merge(&mut floor, &textures, name, rest),
             _ => {}
         }
     }
@@ -277,7 +285,7 @@ fn tell(text: &str) {
     let _ = writeln!(io::stderr(), "tests/record.rs: {text}");
 }
 
-/// What was answered on the floor is answered again, and so by all that `tools/replay` finds.
+/// What was returned on the floor is returned again, and so by all that `tools/replay` finds.
 fn same_again(name: &str, floor: &Floor) {
     let calls = floor.page.text();
     assert_eq!(replayed(&calls), floor.answers);
@@ -361,7 +369,7 @@ fn numbers_and_cases() {
     assert_eq!(replayed(&text), ["case 1", "done", "done", "done", "case 2", "refused 1 0 kept", "case 3", "done"]);
 }
 
-/// A place that cannot be written to stops no call, and is told at the end.
+/// A place that cannot be written to stops no call, and is reported at the end.
 #[test]
 fn what_cannot_be_written() {
     struct Full;

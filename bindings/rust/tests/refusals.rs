@@ -1,6 +1,6 @@
 //! Every refusal that the safe interface can be brought to give, with its place, and that it changes nothing.
 //!
-//! 3, 4 and 5 cannot arise: the crate lends enough room, nobody else writes what it lends, and the log keeps its own
+//! 3, 4 and 5 cannot arise: the crate provides enough memory, nobody else writes it, and the log keeps its own
 //! head. 14 is of calls that are not in this crate.
 #![allow(clippy::reversed_empty_ranges)] // they are refused
 mod bench;
