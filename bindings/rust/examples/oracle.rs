@@ -57,7 +57,7 @@ impl Words<'_> {
     fn selector(&mut self) -> Option<Selector> {
         let mips = Mip(self.next()?)..Mip(self.number());
         let layers = Layer(self.number())..Layer(self.number());
-        Some(Selector { mips, layers })
+        Some(Selector::new(mips, layers))
     }
 
     fn indices(&mut self) -> Vec<TrackerIndex> {
@@ -151,7 +151,7 @@ impl Case {
         let before = shown(&self.sets);
         let number = words.number();
         let Some(Set::Tracker(mut tracker, mut own)) = self.sets.remove(&number) else { malformed("no such tracker") };
-        own.clear().unwrap_or_else(|refusal| impossible(refusal));
+        own.clear();
         let log = self.lent.as_mut().unwrap_or(&mut own);
         let head = (log.len(), log.free());
         let entries: Vec<_> = log.iter().collect();
@@ -220,10 +220,8 @@ fn filled(written: u32, free: u32) -> TransitionLog {
 }
 
 fn empty(log: &mut TransitionLog, out: &mut String) {
-    match log.clear() {
-        Ok(()) => say(out, &format!("emptied {} {}", log.len(), log.free())),
-        Err(refusal) => refused(out, refusal, true),
-    }
+    log.clear();
+    say(out, &format!("emptied {} {}", log.len(), log.free()));
 }
 
 // ---- answers ---------------------------------------------------------------------------------------------------

@@ -1,28 +1,31 @@
 //! Why a call did not do what it was asked: refused, or a conflict of two uses.
 use crate::{
+    state::State,
     storage::state,
     sys::Answer,
-    values::{Layer, Mip, Selector, State, TrackerIndex},
+    uses,
+    values::{Layer, Mip, Selector, TrackerIndex},
 };
-use std::{error::Error, fmt};
+use alloc::string::{String, ToString};
+use core::{error::Error, fmt};
 
-/// A call that was turned away. Everything that it was lent is as it was before.
+/// A call that was refused. Everything that it borrowed is as it was before.
 ///
-/// There is one case for each number of the scope document's table; [`number`](Self::number) gives it. Which calls
-/// can give which:
+/// There is one case for each number of the table of refusals (`docs/RULES.md` of the repository);
+/// [`number`](Self::number) returns it. Which calls return which:
 ///
-/// | numbers | given by |
+/// | numbers | returned by |
 /// |---|---|
 /// | 1, 2 | opening a scope or a tracker |
 /// | 6 to 9 | calls that are handed a whole set, or a list of its textures |
 /// | 7 to 13 | `merge_single`, `set_single` |
-/// | 15 | calls that are lent a log |
-/// | 3, 4, 5 | none: this crate lends enough room, and nobody else writes what it lends |
+/// | 15 | calls that borrow a log |
+/// | 3, 4, 5 | none: this crate provides enough memory, and nobody else writes it |
 /// | 14 | none: the calls on ranges alone are not in this crate |
 ///
 /// ```
 /// use texture_tracker::{uses, Extent, Refusal, UsageScope};
-/// let refused = UsageScope::open(65, Extent { mips: 1, layers: 1 }, uses::FLAGS).unwrap_err();
+/// let refused = UsageScope::open(65, Extent::new(1, 1), uses::FLAGS).unwrap_err();
 /// assert_eq!(refused, Refusal::NumbersOutOfLimits);
 /// assert_eq!(refused.number(), 1);
 /// assert_eq!(refused.to_string(), "a set has 1 to 64 textures, 1 to 16 mips and 1 to 256 layers (refusal 1)");
@@ -34,11 +37,11 @@ pub enum Refusal {
     NumbersOutOfLimits,
     /// 2: the usage flags break their rule.
     FlagsBreakRule,
-    /// 3: the lent room is short.
+    /// 3: the memory of the set is too small.
     ShortRoom,
     /// 4: a set is not well formed: something else has written its storage.
     NotWellFormed,
-    /// 5: the log tells of more entries than were lent.
+    /// 5: the head of the log counts more entries than the log has.
     LogTooShort,
     /// 6: the two sets were opened with different usage flags.
     FlagsDiffer,
@@ -87,7 +90,8 @@ impl Refusal {
         }
     }
 
-    /// The number in the scope document's table.
+    /// The number in the table of refusals.
+    #[must_use]
     pub const fn number(self) -> u32 {
         match self {
             Self::NumbersOutOfLimits => 1,
@@ -109,7 +113,8 @@ impl Refusal {
         }
     }
 
-    /// The texture that was turned away, for 7 to 9.
+    /// The texture that was refused, for 7 to 9.
+    #[must_use]
     pub const fn index(self) -> Option<TrackerIndex> {
         match self {
             Self::NoSuchIndex(index) | Self::ExtentOutOfLimits(index) | Self::ExtentDiffers(index) => Some(index),
@@ -124,9 +129,9 @@ impl Refusal {
                 "uninitialized, complex and unknown must be one bit each, all different, complex and unknown not \
                  in exclusive"
             }
-            Self::ShortRoom => "the lent room is short",
+            Self::ShortRoom => "the memory of the set is too small",
             Self::NotWellFormed => "a set is not well formed: something else has written its storage",
-            Self::LogTooShort => "the log tells of more entries than were lent",
+            Self::LogTooShort => "the head of the log counts more entries than the log has",
             Self::FlagsDiffer => "the two sets were opened with different usage flags",
             Self::NoSuchIndex(_) => "the set has no such index",
             Self::ExtentOutOfLimits(_) => "it has no mips or layers, or more than the set was opened for",
@@ -137,7 +142,7 @@ impl Refusal {
             Self::StateIncompatible => "the state has an exclusive use beside another use",
             Self::RangesOutOfOrder => "the ranges are empty, out of order or overlap",
             Self::NoFreeEntry => "the call needs more log entries than are free",
-            Self::Unlisted(_) => "the library gives a reason that this crate does not know",
+            Self::Unlisted(_) => "the library returns a reason that this crate does not know",
         }
     }
 }
@@ -155,7 +160,7 @@ impl Error for Refusal {}
 
 /// Two uses that one subresource cannot have in one usage scope, and where: wgpu-core's
 /// `ResourceUsageCompatibilityError`.
-#[derive(Clone, Debug, PartialEq, Eq, Hash)]
+#[derive(Clone, Copy, Debug, PartialEq, Eq, Hash)]
 pub struct Conflict {
     /// The texture.
     pub index: TrackerIndex,
@@ -183,8 +188,8 @@ impl Conflict {
     ///     "texture 0, mip 0, layer 5: in use as RESOURCE, cannot be used as COPY_DST beside it"
     /// );
     /// ```
-    pub fn named<N: Fn(State) -> String>(&self, naming: N) -> impl fmt::Display + use<'_, N> {
-        fmt::from_fn(move |f| {
+    pub fn named<'a, N: Fn(State) -> String + 'a>(&'a self, naming: N) -> impl fmt::Display + 'a {
+        Written(move |f: &mut fmt::Formatter<'_>| {
             let TrackerIndex(index) = self.index;
             let (current, new) = (naming(self.current_state), naming(self.new_state));
             let selector = &self.selector;
@@ -193,29 +198,52 @@ impl Conflict {
     }
 }
 
+/// With the numbers of the states; with `{:#}` with wgpu's names.
 impl fmt::Display for Conflict {
     fn fmt(&self, f: &mut fmt::Formatter<'_>) -> fmt::Result {
-        self.named(|state| state.to_string()).fmt(f)
+        self.named(naming(f)).fmt(f)
     }
 }
 
 impl Error for Conflict {}
 
 /// Why a merge into a usage scope did not pass.
-#[derive(Clone, Debug, PartialEq, Eq, Hash)]
+#[derive(Clone, Copy, Debug, PartialEq, Eq, Hash)]
 pub enum MergeError {
-    /// The call was turned away, and nothing changed.
+    /// The call was refused, and nothing changed.
     Refused(Refusal),
     /// Two uses conflict. What was merged before the conflict stays, as in wgpu-core.
     Conflict(Conflict),
 }
 
+impl MergeError {
+    /// The same in words, with names for the states of a conflict.
+    ///
+    /// ```
+    /// use texture_tracker::{uses, Extent, Texture, TrackerIndex, UsageScope};
+    /// # fn main() -> Result<(), Box<dyn std::error::Error>> {
+    /// let cameras = Texture::new(TrackerIndex(0), Extent::new(1, 8));
+    /// let mut scope = UsageScope::open(1, cameras.extent, uses::FLAGS)?;
+    /// scope.merge_single(cameras, None, uses::RESOURCE)?;
+    /// let error = scope.merge_single(cameras, None, uses::COPY_DST).unwrap_err();
+    /// let words = "texture 0, mip 0, layers 0 to 7: in use as RESOURCE, cannot be used as COPY_DST beside it";
+    /// assert_eq!(error.named(uses::name).to_string(), words);
+    /// assert_eq!(format!("{error:#}"), words);
+    /// # Ok(())
+    /// # }
+    /// ```
+    pub fn named<'a, N: Fn(State) -> String + 'a>(&'a self, naming: N) -> impl fmt::Display + 'a {
+        Written(move |f: &mut fmt::Formatter<'_>| match self {
+            Self::Refused(refusal) => write!(f, "{refusal}"),
+            Self::Conflict(conflict) => write!(f, "{}", conflict.named(&naming)),
+        })
+    }
+}
+
+/// With the numbers of the states; with `{:#}` with wgpu's names.
 impl fmt::Display for MergeError {
     fn fmt(&self, f: &mut fmt::Formatter<'_>) -> fmt::Result {
-        match self {
-            Self::Refused(refusal) => refusal.fmt(f),
-            Self::Conflict(conflict) => conflict.fmt(f),
-        }
+        self.named(naming(f)).fmt(f)
     }
 }
 
@@ -240,7 +268,31 @@ impl From<Conflict> for MergeError {
     }
 }
 
-/// The answer of a call that may meet a conflict.
+/// What a function writes, as a value that can be shown.
+pub(crate) struct Written<F>(pub F);
+
+impl<F: Fn(&mut fmt::Formatter<'_>) -> fmt::Result> fmt::Display for Written<F> {
+    fn fmt(&self, f: &mut fmt::Formatter<'_>) -> fmt::Result {
+        (self.0)(f)
+    }
+}
+
+impl<F: Fn(&mut fmt::Formatter<'_>) -> fmt::Result> fmt::Debug for Written<F> {
+    fn fmt(&self, f: &mut fmt::Formatter<'_>) -> fmt::Result {
+        (self.0)(f)
+    }
+}
+
+/// How the form that is asked for writes a state: `{}` its number, `{:#}` wgpu's names.
+pub(crate) fn naming(f: &fmt::Formatter<'_>) -> fn(State) -> String {
+    if f.alternate() {
+        uses::name
+    } else {
+        |state| state.to_string()
+    }
+}
+
+/// What a call returns that may meet a conflict.
 pub(crate) fn merged(answer: Answer) -> Result<(), MergeError> {
     match answer.kind {
         0 => Ok(()),
@@ -249,7 +301,7 @@ pub(crate) fn merged(answer: Answer) -> Result<(), MergeError> {
     }
 }
 
-/// The answer of a call that meets no conflict: any but a merge.
+/// What a call returns that meets no conflict: any but a merge.
 pub(crate) fn passed(answer: Answer) -> Result<(), Refusal> {
     match answer.kind {
         0 => Ok(()),
@@ -260,10 +312,10 @@ pub(crate) fn passed(answer: Answer) -> Result<(), Refusal> {
 fn conflict(answer: Answer) -> Conflict {
     Conflict {
         index: TrackerIndex(answer.index),
-        selector: Selector {
-            mips: Mip(answer.mip_start)..Mip(answer.mip_end),
-            layers: Layer(answer.layer_start)..Layer(answer.layer_end),
-        },
+        selector: Selector::new(
+            Mip(answer.mip_start)..Mip(answer.mip_end),
+            Layer(answer.layer_start)..Layer(answer.layer_end),
+        ),
         current_state: state(answer.old_state),
         new_state: state(answer.new_state),
     }

@@ -16,7 +16,7 @@
 //! picture of nothing. Two kinds of sets keep account of this:
 //!
 //! - A [`UsageScope`] holds the uses of one pass, which happen at the same time. Reads are united; a use that excludes
-//!   others, beside any other, is a [`Conflict`], told with its mips, layers and both states.
+//!   others, beside any other, is a [`Conflict`], reported with its mips, layers and both states.
 //! - A [`TextureTracker`] puts passes in order. Each call that takes it further writes the changes that the driver has
 //!   to be told into a [`TransitionLog`].
 //!
@@ -26,8 +26,8 @@
 //! use texture_tracker::*;
 //!
 //! # fn main() -> Result<(), Box<dyn std::error::Error>> {
-//! let extent = Extent { mips: 1, layers: 8 };                        // eight cameras
-//! let beans = Texture { index: TrackerIndex(0), extent };
+//! let extent = Extent::new(1, 8);                                              // one mip, eight cameras
+//! let beans = Texture::new(TrackerIndex(0), extent);
 //! let mut tracker = TextureTracker::open(1, extent, uses::FLAGS, uses::ORDERED)?;
 //! let mut log = TransitionLog::with_room_for(1, extent);
 //! tracker.set_single(beans, extent.full_range(), uses::COPY_DST, &mut log)?;   // the cameras' pictures are copied in
@@ -35,30 +35,46 @@
 //! let mut pass = UsageScope::open(1, extent, uses::FLAGS)?;
 //! pass.merge_single(beans, None, uses::RESOURCE)?;                             // the classifier reads them all
 //! tracker.set_from_usage_scope(&pass, &mut log)?;
-//! for transition in log.drain_transitions()? {
-//!     println!("{}", transition.named(uses::name));   // texture 0, mip 0, layers 0 to 7: COPY_DST to RESOURCE
+//! for transition in log.drain_transitions() {
+//!     println!("{transition:#}");                     // texture 0, mip 0, layers 0 to 7: COPY_DST to RESOURCE
 //! }
 //! # Ok(())
 //! # }
 //! ```
 //!
-//! `./demo` at the top of the repository shows a whole frame.
+//! `./demo` at the top of the repository shows a whole frame; [`TextureStates::grid`] draws a texture. Module
+//! [`record`](record/index.html) keeps the calls of a running program in a file, to be replayed when something went wrong.
 //!
 //! # What holds
 //!
-//! Behind these calls is a library that is proved, for every input: a call ends, stays inside the memory that it is
-//! lent, and gives what the definitions say, which are those of wgpu-core's `track/texture.rs` on plain lists; a
-//! refusal changes nothing. This crate lends it the memory, names its answers, and is not proved: it is tested
+//! Behind these calls is a library that is proved, for every input: a call ends, stays inside the memory that it
+//! borrows, and returns what the definitions say, which are those of wgpu-core's `track/texture.rs` on plain lists; a
+//! refusal changes nothing. This crate provides the memory, names what is returned, and is not proved: it is tested
 //! against wgpu-core's own code (`tests/oracle.rs`). All memory is taken at opening; no call takes more, and none
 //! panics. States are any 16 bits, told apart by [`UsageFlags`]; [`uses`] has wgpu's.
 //!
-//! The archive is found in `target/staticlib` of the repository, where `rt staticlib exports` writes it, or in the
-//! directory that `TEXTURE_TRACKER_LIB_DIR` names when this crate is built.
+//! # Building
+//!
+//! The crate links `libtexture_tracker.a`, for x86-64 Linux. It is found in `target/lib` of the repository, where
+//! `tools/library` writes it, in `lib` of a tarball, or in the directory that `TEXTURE_TRACKER_LIB_DIR` names. Only
+//! linking needs it: `cargo check` and `cargo doc` do without.
+//!
+//! The crate is `no_std` and uses `alloc`. The feature `std`, on by default, adds module `record`, which writes files.
+#![no_std]
 #![deny(missing_docs, unsafe_code, unsafe_op_in_unsafe_fn)]
+#![warn(clippy::pedantic)]
+
+extern crate alloc;
+#[cfg(any(feature = "std", test))]
+extern crate std;
 
 mod errors;
+mod grid;
 mod log;
+#[cfg(feature = "std")]
+pub mod record;
 mod scope;
+mod state;
 mod states;
 mod storage;
 #[rustfmt::skip]
@@ -70,13 +86,20 @@ pub mod uses;
 mod values;
 
 pub use errors::{Conflict, MergeError, Refusal};
-pub use log::{PendingTransition, TransitionLog};
+pub use grid::Grid;
+pub use log::{PendingTransition, TransitionLog, Transitions};
 pub use scope::UsageScope;
+pub use state::{ParseStateError, State};
 pub use states::TextureStates;
 pub use tracker::TextureTracker;
-pub use values::{Extent, Layer, Mip, Selector, State, Texture, TrackerIndex, UsageFlags};
+pub use values::{Extent, Layer, Mip, Selector, Span, Texture, TrackerIndex, UsageFlags};
 
 /// The Rust examples of the repository's README, as documentation tests (`build.rs` takes them out).
 #[cfg(doctest)]
 #[doc = include_str!(concat!(env!("OUT_DIR"), "/readme.md"))]
 struct Readme;
+
+/// The same of this crate's README.
+#[cfg(doctest)]
+#[doc = include_str!("../README.md")]
+struct CrateReadme;

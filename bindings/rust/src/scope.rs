@@ -1,12 +1,13 @@
 //! Usage scopes.
 use crate::{
     errors::{merged, passed, MergeError, Refusal},
+    state::State,
     states::TextureStates,
-    storage::{self, Half, Held, ScopeStorage},
+    storage::{self, Half, Held, Opening, ScopeStorage},
     sys,
-    values::{Extent, Selector, State, Texture, TrackerIndex, UsageFlags},
+    values::{Extent, Selector, Texture, TrackerIndex, UsageFlags},
 };
-use std::fmt;
+use core::fmt;
 
 /// The uses of one pass, all made at the same time: wgpu-core's `TextureUsageScope`.
 ///
@@ -16,19 +17,28 @@ use std::fmt;
 /// ```
 /// use texture_tracker::*;
 /// # fn main() -> Result<(), Box<dyn std::error::Error>> {
-/// let extent = Extent { mips: 1, layers: 8 };
-/// let cameras = Texture { index: TrackerIndex(0), extent };
+/// let extent = Extent::new(1, 8);
+/// let cameras = Texture::new(TrackerIndex(0), extent);
 /// let mut scope = UsageScope::open(1, extent, uses::FLAGS)?;
 /// scope.merge_single(cameras, None, uses::RESOURCE)?;
-/// let camera_5 = Selector::one(Mip(0), Layer(5));
-/// let conflict = scope.merge_single(cameras, Some(camera_5), uses::COPY_DST);
+/// let camera_5 = Selector::layer(Layer(5), extent);
+/// let conflict = scope.merge_single(cameras, Some(camera_5), uses::COPY_DST).unwrap_err();
 /// assert_eq!(
-///     conflict.unwrap_err().to_string(),
-///     "texture 0, mip 0, layer 5: in use as 16, cannot be used as 8 beside it"
+///     format!("{conflict:#}"),
+///     "texture 0, mip 0, layer 5: in use as RESOURCE, cannot be used as COPY_DST beside it"
 /// );
 /// # Ok(())
 /// # }
 /// ```
+///
+/// Two scopes are equal if they were opened alike and hold the same textures, with the same ranges: then every
+/// call returns the same of both.
+///
+/// # Taking a texture out
+///
+/// No call forgets one texture of a scope. A tracker of the same size takes it out:
+/// [`set_and_remove_from_usage_scope_sparse`](crate::TextureTracker::set_and_remove_from_usage_scope_sparse) with its
+/// index. [`clear`](Self::clear) takes them all out.
 #[derive(Clone)]
 pub struct UsageScope {
     pub(crate) storage: ScopeStorage,
@@ -37,40 +47,56 @@ pub struct UsageScope {
 impl UsageScope {
     /// Opens a scope for `textures` textures (1 to 64), none larger than `largest` (1 to 16 mips, 1 to 256 layers).
     /// It owns none of them yet. All memory that it will ever use is taken here.
+    ///
+    /// # Errors
+    ///
+    /// [`NumbersOutOfLimits`](Refusal::NumbersOutOfLimits), [`FlagsBreakRule`](Refusal::FlagsBreakRule).
     pub fn open(textures: u32, largest: Extent, flags: UsageFlags) -> Result<Self, Refusal> {
-        let mut storage = ScopeStorage::new(textures, largest);
-        passed(sys::open_scope(&mut storage, textures, largest, flags))?;
+        let ordered = State(0);
+        let mut storage = ScopeStorage::new(Opening { textures, largest, flags, ordered });
+        passed(sys::open_scope(&mut storage))?;
         Ok(Self { storage })
     }
 
     /// Opens the scope again, for the next pass, in the memory that it has.
-    pub fn clear(&mut self) -> Result<(), Refusal> {
-        let (textures, largest) = storage::opened_for(&self.storage.table);
-        let flags = self.flags();
-        passed(sys::open_scope(&mut self.storage, textures, largest, flags))
+    pub fn clear(&mut self) {
+        // The library took these numbers before, so it takes them again.
+        let _ = sys::open_scope(&mut self.storage);
     }
 
     /// Merges one use: of all of the texture, or of the part that the selector names.
     ///
-    /// Refused with 7 to 13.
+    /// # Errors
+    ///
+    /// [`MergeError::Conflict`] if the use excludes one that the scope holds there. What lies before the conflict is
+    /// merged, and stays, as in wgpu-core. [`MergeError::Refused`], before any change, with
+    /// [`NoSuchIndex`](Refusal::NoSuchIndex), [`ExtentOutOfLimits`](Refusal::ExtentOutOfLimits),
+    /// [`ExtentDiffers`](Refusal::ExtentDiffers), [`SelectorEmpty`](Refusal::SelectorEmpty),
+    /// [`SelectorPastExtent`](Refusal::SelectorPastExtent), [`StateReserved`](Refusal::StateReserved) or
+    /// [`StateIncompatible`](Refusal::StateIncompatible).
     pub fn merge_single(
         &mut self,
         texture: Texture,
         selector: Option<Selector>,
         new_state: State,
     ) -> Result<(), MergeError> {
-        merged(sys::merge_single(&mut self.storage, texture, selector.as_ref(), new_state))
+        merged(sys::merge_single(&mut self.storage, texture, selector, new_state))
     }
 
     /// Merges every texture of another scope, by ascending index, up to the first conflict.
     ///
-    /// Refused with 6 to 9, before any change.
+    /// # Errors
+    ///
+    /// [`MergeError::Conflict`] if two uses exclude each other. What was merged before the conflict stays, as in
+    /// wgpu-core. [`MergeError::Refused`], before any change, with [`FlagsDiffer`](Refusal::FlagsDiffer),
+    /// [`NoSuchIndex`](Refusal::NoSuchIndex), [`ExtentOutOfLimits`](Refusal::ExtentOutOfLimits) or
+    /// [`ExtentDiffers`](Refusal::ExtentDiffers).
     ///
     /// ```
     /// # use texture_tracker::*;
     /// # fn main() -> Result<(), Box<dyn std::error::Error>> {
-    /// # let extent = Extent { mips: 1, layers: 8 };
-    /// # let cameras = Texture { index: TrackerIndex(0), extent };
+    /// # let extent = Extent::new(1, 8);
+    /// # let cameras = Texture::new(TrackerIndex(0), extent);
     /// let mut pass = UsageScope::open(1, extent, uses::FLAGS)?;
     /// pass.merge_single(cameras, None, uses::RESOURCE)?;
     /// let mut bundle = UsageScope::open(1, extent, uses::FLAGS)?;
@@ -87,8 +113,9 @@ impl UsageScope {
     }
 
     /// The usage flags that the scope was opened with.
+    #[must_use]
     pub fn flags(&self) -> UsageFlags {
-        storage::flags(&self.storage.table)
+        self.storage.opening.flags
     }
 
     /// Every texture that the scope owns, by ascending index.
@@ -97,21 +124,36 @@ impl UsageScope {
     }
 
     /// The states of a texture, if the scope owns it.
+    #[must_use]
     pub fn states(&self, index: TrackerIndex) -> Option<TextureStates<'_>> {
-        let ScopeStorage { table, ranges } = &self.storage;
+        let ScopeStorage { table, ranges, .. } = &self.storage;
         Held::of(table, ranges, Half::Start, index).map(TextureStates::new)
     }
 
-    /// Whether the storage is what the library left there. Each call tests it by itself, and answers
+    /// Whether the storage is what the library left there. Each call tests it by itself, and returns
     /// [`Refusal::NotWellFormed`] if a fault of the memory has damaged it.
+    #[must_use]
     pub fn is_well_formed(&self) -> bool {
         sys::scope_is_well_formed(&self.storage)
     }
+
+    /// The textures with what is held of each.
+    fn held(&self) -> impl Iterator<Item = (TrackerIndex, TextureStates<'_>)> {
+        self.owned().filter_map(|index| Some((index, self.states(index)?)))
+    }
 }
 
+impl PartialEq for UsageScope {
+    fn eq(&self, other: &Self) -> bool {
+        self.storage.opening == other.storage.opening && self.held().eq(other.held())
+    }
+}
+
+impl Eq for UsageScope {}
+
+/// Each texture with its states; with wgpu's names in a scope that was opened with [`uses::FLAGS`](crate::uses::FLAGS).
 impl fmt::Debug for UsageScope {
     fn fmt(&self, f: &mut fmt::Formatter<'_>) -> fmt::Result {
-        let states = self.owned().map(|index| (index, self.states(index)));
-        f.debug_map().entries(states).finish()
+        f.debug_map().entries(self.held()).finish()
     }
 }

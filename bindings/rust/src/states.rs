@@ -1,9 +1,14 @@
 //! Reading back what a set holds of a texture.
 use crate::{
+    errors::Written,
+    grid::Grid,
+    state::State,
     storage::Held,
-    values::{Extent, Layer, Mip, Selector, State, TrackerIndex},
+    uses,
+    values::{Extent, Layer, Mip, Selector, Span, TrackerIndex, UsageFlags},
 };
-use std::{fmt, ops::Range};
+use alloc::string::{String, ToString};
+use core::fmt;
 
 /// The states that a set holds of one texture: a scope's, or the start or the end of a tracker's.
 ///
@@ -13,8 +18,8 @@ use std::{fmt, ops::Range};
 /// ```
 /// use texture_tracker::*;
 /// # fn main() -> Result<(), Box<dyn std::error::Error>> {
-/// let extent = Extent { mips: 2, layers: 4 };
-/// let cameras = Texture { index: TrackerIndex(0), extent };
+/// let extent = Extent::new(2, 4);
+/// let cameras = Texture::new(TrackerIndex(0), extent);
 /// let mut scope = UsageScope::open(1, extent, uses::FLAGS)?;
 /// scope.merge_single(cameras, Some(Selector::one(Mip(0), Layer(1))), uses::COPY_DST)?;
 ///
@@ -24,11 +29,13 @@ use std::{fmt, ops::Range};
 /// assert_eq!(states.state(Mip(1), Layer(1)), Some(uses::UNKNOWN));
 /// assert_eq!(states.state(Mip(2), Layer(1)), None);
 /// let ranges: Vec<_> = states.ranges(Mip(0)).collect();
-/// assert_eq!(ranges[0], (Layer(0)..Layer(1), uses::UNKNOWN));
-/// assert_eq!(ranges[1], (Layer(1)..Layer(2), uses::COPY_DST));
+/// assert_eq!(ranges[0], ((Layer(0)..Layer(1)).into(), uses::UNKNOWN));
+/// assert_eq!(ranges[1], ((Layer(1)..Layer(2)).into(), uses::COPY_DST));
 /// # Ok(())
 /// # }
 /// ```
+///
+/// Two are equal if they are of the same extent and held alike, range by range. The index does not count.
 #[derive(Clone, Copy)]
 pub struct TextureStates<'a> {
     held: Held<'a>,
@@ -40,21 +47,30 @@ impl<'a> TextureStates<'a> {
     }
 
     /// The texture's position in the set.
+    #[must_use]
     pub fn index(&self) -> TrackerIndex {
         self.held.index()
     }
 
     /// The texture's mips and layers.
+    #[must_use]
     pub fn extent(&self) -> Extent {
         self.held.extent()
     }
 
+    /// The usage flags of the set.
+    pub(crate) fn flags(&self) -> UsageFlags {
+        self.held.flags()
+    }
+
     /// The one state of a texture that is held Single; None where it is Many.
+    #[must_use]
     pub fn single(&self) -> Option<State> {
         self.held.single()
     }
 
     /// The state of one subresource; None past the texture's extent.
+    #[must_use]
     pub fn state(&self, mip: Mip, layer: Layer) -> Option<State> {
         let mut ranges = self.ranges(mip);
         ranges.find(|(layers, _)| layers.contains(&layer)).map(|(_, state)| state)
@@ -62,10 +78,10 @@ impl<'a> TextureStates<'a> {
 
     /// The ranges of a mip, in the order of their layers; of a Single texture one over all layers. There are none
     /// past the texture's extent.
-    pub fn ranges(&self, mip: Mip) -> impl Iterator<Item = (Range<Layer>, State)> + Clone + 'a {
+    pub fn ranges(&self, mip: Mip) -> impl Iterator<Item = (Span<Layer>, State)> + Clone + 'a {
         let extent = self.extent();
         let single = self.single().filter(|_| mip.0 < extent.mips);
-        let whole = single.map(|state| (Layer(0)..Layer(extent.layers), state));
+        let whole = single.map(|state| (extent.full_range().layers, state));
         whole.into_iter().chain(self.held.ranges(mip.0))
     }
 
@@ -73,19 +89,32 @@ impl<'a> TextureStates<'a> {
     pub fn iter(&self) -> impl Iterator<Item = (Selector, State)> + Clone + 'a {
         let Self { held } = *self;
         let whole = self.single().map(|state| (self.extent().full_range(), state));
-        let of_mip = move |mip| held.ranges(mip).map(move |range| in_mip(mip, range));
+        let in_mip = |mip| move |(layers, state): (Span<Layer>, State)| (Selector::new(Mip(mip), layers), state);
+        let of_mip = move |mip| held.ranges(mip).map(in_mip(mip));
         whole.into_iter().chain(held.mips().flat_map(of_mip))
+    }
+
+    /// The states as a picture for people: a row for each layer, a column for each mip. [`Grid`] shows one.
+    pub fn grid<N: Fn(State) -> String>(&self, names: N) -> Grid<'a, N> {
+        Grid::new(*self, names)
     }
 }
 
-fn in_mip(mip: u32, (layers, state): (Range<Layer>, State)) -> (Selector, State) {
-    let mips = Mip(mip)..Mip(mip + 1);
-    (Selector { mips, layers }, state)
+impl PartialEq for TextureStates<'_> {
+    fn eq(&self, other: &Self) -> bool {
+        let held = |states: &Self| (states.extent(), states.single());
+        held(self) == held(other) && self.iter().eq(other.iter())
+    }
 }
 
+impl Eq for TextureStates<'_> {}
+
+/// Each state with its place. A set that was opened with [`uses::FLAGS`] shows wgpu's names.
 impl fmt::Debug for TextureStates<'_> {
     fn fmt(&self, f: &mut fmt::Formatter<'_>) -> fmt::Result {
-        let shown = |(selector, state): (Selector, State)| format!("{selector}: {state}");
+        let name = if self.flags() == uses::FLAGS { uses::name } else { |state: State| state.to_string() };
+        let shown =
+            |(selector, state)| Written(move |f: &mut fmt::Formatter<'_>| write!(f, "{selector}: {}", name(state)));
         f.debug_list().entries(self.iter().map(shown)).finish()
     }
 }

@@ -1,4 +1,4 @@
-//! The numbers that are lent to the proved library, and their layout, which nothing else in this crate knows.
+//! The numbers that the proved library borrows, and their layout, which nothing else in this crate knows.
 //! It is the layout of crate `storage` of the repository:
 //!
 //! ```text
@@ -13,8 +13,12 @@
 //! ```
 //!
 //! The library alone writes here. Reading takes any numbers: what is not there reads as zero, or as no ranges.
-use crate::values::{Extent, Layer, Mip, Selector, State, TrackerIndex, UsageFlags};
-use std::ops::Range;
+use crate::{
+    state::State,
+    values::{Extent, Layer, Mip, Selector, Span, TrackerIndex, UsageFlags},
+};
+use alloc::{boxed::Box, vec, vec::Vec};
+use core::{iter::Take, ops::Range, slice::ChunksExact};
 
 pub(crate) const TABLE: usize = 2376;
 pub(crate) type Table = [u32; TABLE];
@@ -32,16 +36,35 @@ const ENTRY: usize = 7;
 
 /// The largest set that can be opened.
 const MOST_TEXTURES: u32 = 64;
-const MOST: Extent = Extent { mips: MOST_MIPS as u32, layers: 256 };
+pub(crate) const MOST: Extent = Extent { mips: 16, layers: 256 };
+
+/// What a set is opened with. It stands beside the table, so that a set can be opened again whatever the table holds.
+#[derive(Clone, Copy, Debug, PartialEq, Eq)]
+pub(crate) struct Opening {
+    pub textures: u32,
+    pub largest: Extent,
+    pub flags: UsageFlags,
+    /// A tracker's; a scope has none.
+    pub ordered: State,
+}
+
+impl Opening {
+    /// How many numbers of ranges a half of the set needs.
+    pub fn room(self) -> usize {
+        RANGE * subresources(self.textures, self.largest)
+    }
+}
 
 #[derive(Clone)]
 pub(crate) struct ScopeStorage {
+    pub opening: Opening,
     pub table: Box<Table>,
     pub ranges: Vec<u32>,
 }
 
 #[derive(Clone)]
 pub(crate) struct TrackerStorage {
+    pub opening: Opening,
     pub table: Box<Table>,
     pub starts: Vec<u32>,
     pub ends: Vec<u32>,
@@ -63,7 +86,7 @@ pub(crate) enum Half {
 }
 
 /// How many subresources that many textures have. A number past its limit counts as the limit: opening is refused
-/// there, whatever room is lent.
+/// there, whatever memory there is.
 pub(crate) fn subresources(textures: u32, largest: Extent) -> usize {
     let textures = textures.min(MOST_TEXTURES) as usize;
     let mips = largest.mips.min(MOST.mips) as usize;
@@ -73,16 +96,16 @@ pub(crate) fn subresources(textures: u32, largest: Extent) -> usize {
 
 impl ScopeStorage {
     /// Room for a scope that is not yet opened.
-    pub fn new(textures: u32, largest: Extent) -> Self {
-        Self { table: Box::new([0; TABLE]), ranges: vec![0; RANGE * subresources(textures, largest)] }
+    pub fn new(opening: Opening) -> Self {
+        Self { opening, table: Box::new([0; TABLE]), ranges: vec![0; opening.room()] }
     }
 }
 
 impl TrackerStorage {
     /// Room for a tracker that is not yet opened.
-    pub fn new(textures: u32, largest: Extent) -> Self {
-        let room = RANGE * subresources(textures, largest);
-        Self { table: Box::new([0; TABLE]), starts: vec![0; room], ends: vec![0; room] }
+    pub fn new(opening: Opening) -> Self {
+        let room = opening.room();
+        Self { opening, table: Box::new([0; TABLE]), starts: vec![0; room], ends: vec![0; room] }
     }
 }
 
@@ -91,22 +114,26 @@ impl LogStorage {
         Self { entries: vec![0; ENTRY * entries], written: 0, free: entries }
     }
 
-    /// The first `count` entries: what moved, and its old and new state.
-    pub fn first(&self, count: usize) -> impl ExactSizeIterator<Item = Entry> + Clone + '_ {
-        self.entries.chunks_exact(ENTRY).take(count).map(entry)
+    /// Every entry is free.
+    pub fn empty(&mut self) {
+        (self.written, self.free) = (0, self.entries.len() / ENTRY);
+    }
+
+    /// The numbers of the first `count` entries.
+    pub fn first(&self, count: usize) -> Take<ChunksExact<'_, u32>> {
+        self.entries.chunks_exact(ENTRY).take(count)
     }
 }
 
-/// An entry of the log as values.
-pub(crate) type Entry = (TrackerIndex, Selector, State, State);
-
-fn entry(numbers: &[u32]) -> Entry {
+/// An entry of the log as values: what moved, and its old and new state.
+pub(crate) fn entry(numbers: &[u32]) -> (TrackerIndex, Selector, State, State) {
     let number = |at: usize| numbers.get(at).copied().unwrap_or(0);
-    let selector = Selector { mips: Mip(number(1))..Mip(number(2)), layers: Layer(number(3))..Layer(number(4)) };
+    let selector = Selector::new(Mip(number(1))..Mip(number(2)), Layer(number(3))..Layer(number(4)));
     (TrackerIndex(number(0)), selector, state(number(5)), state(number(6)))
 }
 
-/// A state is 16 bits: the library keeps no larger one.
+/// A state is 16 bits: the library keeps no larger one. Of a damaged one the lower bits are read.
+#[allow(clippy::cast_possible_truncation)]
 pub(crate) fn state(number: u32) -> State {
     State(number as u16)
 }
@@ -115,13 +142,13 @@ fn number(table: &Table, at: usize) -> u32 {
     table.get(at).copied().unwrap_or(0)
 }
 
-/// The opening numbers: how many textures, and the largest extent.
-pub(crate) fn opened_for(table: &Table) -> (u32, Extent) {
+/// The opening numbers in a table: how many textures, and the largest extent.
+fn opened_for(table: &Table) -> (u32, Extent) {
     let largest = Extent { mips: number(table, 1), layers: number(table, 2) };
     (number(table, 0), largest)
 }
 
-pub(crate) fn flags(table: &Table) -> UsageFlags {
+fn flags(table: &Table) -> UsageFlags {
     UsageFlags {
         exclusive: state(number(table, 3)),
         uninitialized: state(number(table, 4)),
@@ -130,11 +157,7 @@ pub(crate) fn flags(table: &Table) -> UsageFlags {
     }
 }
 
-pub(crate) fn ordered(table: &Table) -> State {
-    state(number(table, 7))
-}
-
-pub(crate) fn owns(table: &Table, index: TrackerIndex) -> bool {
+fn owns(table: &Table, index: TrackerIndex) -> bool {
     let (textures, _) = opened_for(table);
     index.0 < textures.min(MOST_TEXTURES) && number(table, OWNED + index.0 as usize) != 0
 }
@@ -171,6 +194,10 @@ impl<'a> Held<'a> {
         number(self.table, from + self.index as usize)
     }
 
+    pub fn flags(&self) -> UsageFlags {
+        flags(self.table)
+    }
+
     pub fn extent(&self) -> Extent {
         Extent { mips: self.number(MIPS), layers: self.number(LAYERS) }
     }
@@ -183,14 +210,14 @@ impl<'a> Held<'a> {
     /// The one state of a Single texture, None where it is Many.
     pub fn single(&self) -> Option<State> {
         let held = state(self.number(self.half));
-        (held != flags(self.table).complex).then_some(held)
+        (held != self.flags().complex).then_some(held)
     }
 
     /// The ranges of a mip of a Many texture, in their order. What stands there of a Single one means nothing.
-    pub fn ranges(&self, mip: u32) -> impl Iterator<Item = (Range<Layer>, State)> + Clone + 'a {
+    pub fn ranges(&self, mip: u32) -> impl Iterator<Item = (Span<Layer>, State)> + Clone + 'a {
         let range = |numbers: &[u32]| match *numbers {
-            [start, end, held] => (Layer(start)..Layer(end), state(held)),
-            _ => (Layer(0)..Layer(0), State(0)),
+            [start, end, held] => (Span::from(Layer(start)..Layer(end)), state(held)),
+            _ => (Span::from(Layer(0)..Layer(0)), State(0)),
         };
         self.records(mip).unwrap_or_default().chunks_exact(RANGE).map(range)
     }

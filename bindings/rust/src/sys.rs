@@ -1,18 +1,19 @@
-//! The proved library: its functions as the archive has them, and for each one caller that lends it storage.
+//! The proved library: its functions as the archive has them, and for each one caller that passes it storage.
 //!
-//! A slice goes over as a pointer and a count of numbers, a table as a pointer to 2,376 of them. The library asks
-//! nothing else of its caller: it is proved that every call ends, stays inside what it is lent, and answers whatever
+//! A slice goes over as a pointer and a count of numbers, a table as a pointer to 2,376 of them. The library requires
+//! nothing else of its caller: it is proved that every call ends, stays inside what it borrows, and returns whatever
 //! numbers stand there. So all that each SAFETY below has to say is that the pointers are good for their lengths and
-//! that what is written is lent to nobody else; references say both.
+//! that what is written is borrowed by nobody else; references say both.
 //!
-//! One line of arguments for each thing that is lent; rustfmt is told to leave this file alone.
+//! One line of arguments for each thing that is borrowed; rustfmt is told to leave this file alone.
 #![allow(unsafe_code)]
 use crate::{
-    storage::{LogStorage, ScopeStorage, TrackerStorage},
-    values::{Extent, Selector, State, Texture, TrackerIndex, UsageFlags},
+    state::State,
+    storage::{LogStorage, Opening, ScopeStorage, TrackerStorage},
+    values::{Selector, Texture, TrackerIndex},
 };
 
-/// What a call answers. `kind` is 0 for done, 1 for refused (`number` and `place`), 2 for a conflict (the others).
+/// What a call returns. `kind` is 0 for done, 1 for refused (`number` and `place`), 2 for a conflict (the others).
 #[repr(C)]
 #[derive(Clone, Copy, Debug, Default)]
 pub(crate) struct Answer {
@@ -28,15 +29,16 @@ pub(crate) struct Answer {
     pub new_state: u32,
 }
 
-/// What a call that is lent a log answers, with the log's head after it.
+/// What a call that borrows a log returns, with the log's head after it.
 #[repr(C)]
+#[derive(Clone, Copy)]
 struct LoggedAnswer {
     answer: Answer,
     written: usize,
     free: usize,
 }
 
-unsafe extern "C" {
+extern "C" {
     fn track_open_scope(
         table: *mut u32, ranges: *const u32, ranges_len: usize,
         n: u32, m: u32, w: u32, exclusive: u32, uninitialized: u32, complex: u32, unknown: u32,
@@ -98,45 +100,47 @@ fn logged(log: &mut LogStorage, after: LoggedAnswer) -> Answer {
     after.answer
 }
 
-fn ends_of(selector: &Selector) -> [u32; 4] {
+fn ends_of(selector: Selector) -> [u32; 4] {
     let Selector { mips, layers } = selector;
     [mips.start.0, mips.end.0, layers.start.0, layers.end.0]
 }
 
-fn numbers(flags: UsageFlags) -> [u32; 4] {
-    [flags.exclusive, flags.uninitialized, flags.complex, flags.unknown].map(|state| state.0.into())
+/// N, M, W and the usage flags.
+fn numbers(opening: Opening) -> [u32; 7] {
+    let Opening { textures, largest, flags, .. } = opening;
+    let [exclusive, uninitialized, complex, unknown] =
+        [flags.exclusive, flags.uninitialized, flags.complex, flags.unknown].map(|state| state.0.into());
+    [textures, largest.mips, largest.layers, exclusive, uninitialized, complex, unknown]
 }
 
-pub(crate) fn open_scope(to: &mut ScopeStorage, n: u32, largest: Extent, flags: UsageFlags) -> Answer {
-    let ScopeStorage { table, ranges } = to;
-    let [exclusive, uninitialized, complex, unknown] = numbers(flags);
-    // SAFETY: each pointer comes from a reference, with its length; the table is lent mutably and alone.
+pub(crate) fn open_scope(to: &mut ScopeStorage) -> Answer {
+    let ScopeStorage { opening, table, ranges } = to;
+    let [n, m, w, exclusive, uninitialized, complex, unknown] = numbers(*opening);
+    // SAFETY: each pointer comes from a reference, with its length; the table is borrowed mutably and alone.
     unsafe {
         track_open_scope(
             table.as_mut_ptr(), ranges.as_ptr(), ranges.len(),
-            n, largest.mips, largest.layers, exclusive, uninitialized, complex, unknown,
+            n, m, w, exclusive, uninitialized, complex, unknown,
         )
     }
 }
 
-pub(crate) fn open_tracker(
-    to: &mut TrackerStorage, n: u32, largest: Extent, flags: UsageFlags, mask: State,
-) -> Answer {
-    let TrackerStorage { table, starts, ends } = to;
-    let [exclusive, uninitialized, complex, unknown] = numbers(flags);
-    // SAFETY: each pointer comes from a reference, with its length; the table is lent mutably and alone.
+pub(crate) fn open_tracker(to: &mut TrackerStorage) -> Answer {
+    let TrackerStorage { opening, table, starts, ends } = to;
+    let [n, m, w, exclusive, uninitialized, complex, unknown] = numbers(*opening);
+    // SAFETY: each pointer comes from a reference, with its length; the table is borrowed mutably and alone.
     unsafe {
         track_open_tracker(
             table.as_mut_ptr(), starts.as_ptr(), starts.len(), ends.as_ptr(), ends.len(),
-            n, largest.mips, largest.layers, exclusive, uninitialized, complex, unknown, mask.0,
+            n, m, w, exclusive, uninitialized, complex, unknown, opening.ordered.0,
         )
     }
 }
 
 pub(crate) fn merge_single(
-    to: &mut ScopeStorage, texture: Texture, selector: Option<&Selector>, state: State,
+    to: &mut ScopeStorage, texture: Texture, selector: Option<Selector>, state: State,
 ) -> Answer {
-    let ScopeStorage { table, ranges } = to;
+    let ScopeStorage { table, ranges, .. } = to;
     let Texture { index, extent } = texture;
     let [mip_start, mip_end, layer_start, layer_end] = selector.map_or([0; 4], ends_of);
     // SAFETY: each pointer comes from a mutable reference, with its length; the two are separate allocations.
@@ -149,8 +153,8 @@ pub(crate) fn merge_single(
 }
 
 pub(crate) fn merge_usage_scope(to: &mut ScopeStorage, given: &ScopeStorage) -> Answer {
-    let ScopeStorage { table, ranges } = to;
-    // SAFETY: each pointer comes from a reference, with its length; `to` is lent mutably, so `given` is another.
+    let ScopeStorage { table, ranges, .. } = to;
+    // SAFETY: each pointer comes from a reference, with its length; `to` is borrowed mutably, so `given` is another.
     unsafe {
         track_merge_usage_scope(
             table.as_mut_ptr(), ranges.as_mut_ptr(), ranges.len(),
@@ -160,9 +164,9 @@ pub(crate) fn merge_usage_scope(to: &mut ScopeStorage, given: &ScopeStorage) -> 
 }
 
 pub(crate) fn set_single(
-    to: &mut TrackerStorage, texture: Texture, selector: &Selector, state: State, log: &mut LogStorage,
+    to: &mut TrackerStorage, texture: Texture, selector: Selector, state: State, log: &mut LogStorage,
 ) -> Answer {
-    let TrackerStorage { table, starts, ends } = to;
+    let TrackerStorage { table, starts, ends, .. } = to;
     let Texture { index, extent } = texture;
     let [mip_start, mip_end, layer_start, layer_end] = ends_of(selector);
     // SAFETY: each pointer comes from a mutable reference, with its length; all are separate allocations.
@@ -178,8 +182,8 @@ pub(crate) fn set_single(
 }
 
 pub(crate) fn set_from_usage_scope(to: &mut TrackerStorage, given: &ScopeStorage, log: &mut LogStorage) -> Answer {
-    let TrackerStorage { table, starts, ends } = to;
-    // SAFETY: each pointer comes from a reference, with its length; what is written is lent mutably.
+    let TrackerStorage { table, starts, ends, .. } = to;
+    // SAFETY: each pointer comes from a reference, with its length; what is written is borrowed mutably.
     let after = unsafe {
         track_set_from_usage_scope(
             table.as_mut_ptr(), starts.as_mut_ptr(), starts.len(), ends.as_mut_ptr(), ends.len(),
@@ -191,9 +195,9 @@ pub(crate) fn set_from_usage_scope(to: &mut TrackerStorage, given: &ScopeStorage
 }
 
 pub(crate) fn set_from_tracker(to: &mut TrackerStorage, given: &TrackerStorage, log: &mut LogStorage) -> Answer {
-    let TrackerStorage { table, starts, ends } = to;
-    let TrackerStorage { table: other, starts: first, ends: last } = given;
-    // SAFETY: each pointer comes from a reference, with its length; `to` is lent mutably, so `given` is another.
+    let TrackerStorage { table, starts, ends, .. } = to;
+    let TrackerStorage { table: other, starts: first, ends: last, .. } = given;
+    // SAFETY: each pointer comes from a reference, with its length; `to` is borrowed mutably, so `given` is another.
     let after = unsafe {
         track_set_from_tracker(
             table.as_mut_ptr(), starts.as_mut_ptr(), starts.len(), ends.as_mut_ptr(), ends.len(),
@@ -207,8 +211,8 @@ pub(crate) fn set_from_tracker(to: &mut TrackerStorage, given: &TrackerStorage, 
 pub(crate) fn set_and_remove_from_usage_scope_sparse(
     to: &mut TrackerStorage, given: &mut ScopeStorage, indices: &[TrackerIndex], log: &mut LogStorage,
 ) -> Answer {
-    let TrackerStorage { table, starts, ends } = to;
-    // SAFETY: each pointer comes from a reference, with its length; what is written is lent mutably. A
+    let TrackerStorage { table, starts, ends, .. } = to;
+    // SAFETY: each pointer comes from a reference, with its length; what is written is borrowed mutably. A
     // `TrackerIndex` is a `u32` (repr(transparent)).
     let after = unsafe {
         track_set_and_remove_from_usage_scope_sparse(
@@ -236,7 +240,7 @@ pub(crate) fn scope_is_well_formed(scope: &ScopeStorage) -> bool {
 }
 
 pub(crate) fn tracker_is_well_formed(tracker: &TrackerStorage) -> bool {
-    let TrackerStorage { table, starts, ends } = tracker;
+    let TrackerStorage { table, starts, ends, .. } = tracker;
     // SAFETY: each pointer comes from a reference, with its length, and is only read.
     let told = unsafe {
         track_tracker_is_well_formed(

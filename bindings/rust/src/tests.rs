@@ -2,17 +2,19 @@
 //! storage is refused and can still be read.
 use crate::{
     errors::passed,
-    storage::{LogStorage, ScopeStorage, TrackerStorage},
-    sys, uses, Extent, Mip, Refusal, Selector, State, Texture, TextureStates, TextureTracker, TrackerIndex,
+    storage::{LogStorage, Opening, ScopeStorage, TrackerStorage},
+    sys, uses, Extent, Layer, Mip, Refusal, Selector, State, Texture, TextureStates, TextureTracker, TrackerIndex,
     TransitionLog, UsageScope,
 };
+use std::{format, string::ToString, vec::Vec};
 
-const EXTENT: Extent = Extent { mips: 2, layers: 4 };
-const TEXTURE: Texture = Texture { index: TrackerIndex(0), extent: EXTENT };
+const EXTENT: Extent = Extent::new(2, 4);
+const TEXTURE: Texture = Texture::new(TrackerIndex(0), EXTENT);
+const OPENING: Opening = Opening { textures: 1, largest: EXTENT, flags: uses::FLAGS, ordered: uses::ORDERED };
 
 fn scope() -> UsageScope {
     let mut scope = UsageScope::open(1, EXTENT, uses::FLAGS).unwrap();
-    let part = Selector::one(Mip(0), crate::Layer(1));
+    let part = Selector::one(Mip(0), Layer(1));
     scope.merge_single(TEXTURE, Some(part), uses::COPY_DST).unwrap();
     scope
 }
@@ -25,12 +27,12 @@ fn tracker() -> (TextureTracker, TransitionLog) {
 }
 
 fn numbers_of_scope(scope: &UsageScope) -> Vec<u32> {
-    let ScopeStorage { table, ranges } = &scope.storage;
+    let ScopeStorage { table, ranges, .. } = &scope.storage;
     [&table[..], ranges].concat()
 }
 
 fn numbers_of_tracker(tracker: &TextureTracker, log: &TransitionLog) -> (Vec<u32>, usize, usize) {
-    let TrackerStorage { table, starts, ends } = &tracker.storage;
+    let TrackerStorage { table, starts, ends, .. } = &tracker.storage;
     let LogStorage { entries, written, free } = &log.storage;
     ([&table[..], starts, ends, entries].concat(), *written, *free)
 }
@@ -53,13 +55,13 @@ fn a_refusal_changes_no_number() {
 
 #[test]
 fn short_room_3() {
-    let mut short = ScopeStorage::new(1, EXTENT);
+    let mut short = ScopeStorage::new(OPENING);
     short.ranges.pop();
-    let answer = passed(sys::open_scope(&mut short, 1, EXTENT, uses::FLAGS));
+    let answer = passed(sys::open_scope(&mut short));
     assert_eq!(answer, Err(Refusal::ShortRoom));
-    let mut short = TrackerStorage::new(1, EXTENT);
+    let mut short = TrackerStorage::new(OPENING);
     short.ends.pop();
-    let answer = passed(sys::open_tracker(&mut short, 1, EXTENT, uses::FLAGS, uses::ORDERED));
+    let answer = passed(sys::open_tracker(&mut short));
     assert_eq!(answer, Err(Refusal::ShortRoom));
 }
 
@@ -76,6 +78,9 @@ fn damaged_storage_4() {
     assert!(!tracker.is_well_formed());
     let answer = tracker.set_single(TEXTURE, EXTENT.full_range(), uses::RESOURCE, &mut log);
     assert_eq!(answer, Err(Refusal::NotWellFormed));
+    scope.clear();
+    tracker.clear();
+    assert!(scope.is_well_formed() && tracker.is_well_formed(), "opened anew, whatever the table held");
 }
 
 #[test]
@@ -84,8 +89,8 @@ fn a_head_past_the_log_5() {
     log.storage.free = usize::MAX;
     let answer = tracker.set_single(TEXTURE, EXTENT.full_range(), uses::RESOURCE, &mut log);
     assert_eq!(answer, Err(Refusal::LogTooShort));
-    assert_eq!(log.clear(), Err(Refusal::LogTooShort));
-    assert_eq!(log.drain_transitions().err(), Some(Refusal::LogTooShort));
+    log.clear();
+    assert_eq!((log.len(), log.free()), (0, 1), "the entries tell how many are free");
 }
 
 #[test]
@@ -103,19 +108,19 @@ fn every_number_is_decoded() {
 
 fn read(states: TextureStates<'_>) -> usize {
     let mips = (0..20).chain([u32::MAX]).map(Mip);
-    let ranges = mips.map(|mip| states.ranges(mip).count() + states.state(mip, crate::Layer(3)).is_some() as usize);
+    let ranges = mips.map(|mip| states.ranges(mip).count() + usize::from(states.state(mip, Layer(3)).is_some()));
     ranges.sum::<usize>() + states.iter().take(1000).count()
 }
 
-/// Any numbers can be read, and any call on them has an answer.
+/// Any numbers can be read, and any call on them returns.
 #[test]
 fn any_numbers() {
     let mut seed = 1u64;
     let mut next = move || {
         // Knuth's MMIX generator; the upper bits are the good ones.
-        seed = seed.wrapping_mul(6364136223846793005).wrapping_add(1442695040888963407);
+        seed = seed.wrapping_mul(6_364_136_223_846_793_005).wrapping_add(1_442_695_040_888_963_407);
         let number = (seed >> 32) as u32;
-        if number.is_multiple_of(3) {
+        if number % 3 == 0 {
             number
         } else {
             number % 20
@@ -123,7 +128,7 @@ fn any_numbers() {
     };
     let (mut tracker, mut log) = tracker();
     let mut scope = scope();
-    for _ in 0..300 {
+    for round in 0..300 {
         scope.storage.table.fill_with(&mut next);
         tracker.storage.table.fill_with(&mut next);
         log.storage.entries.fill_with(&mut next);
@@ -133,7 +138,11 @@ fn any_numbers() {
             tracker.start(index).into_iter().chain(tracker.end(index)).map(read).sum::<usize>();
         }
         assert!(log.iter().len() <= 1);
-        let _ = format!("{log:?}");
+        if round % 50 == 0 {
+            let _ = format!("{log:?}{scope:?}{tracker:?}");
+            let grids = scope.owned().filter_map(|index| scope.states(index)).map(|states| states.grid(uses::name));
+            grids.for_each(|grid| drop(grid.to_string()));
+        }
         assert!(tracker.set_from_usage_scope(&scope, &mut log).is_err());
     }
 }

@@ -3,12 +3,13 @@ use crate::{
     errors::{passed, Refusal},
     log::TransitionLog,
     scope::UsageScope,
+    state::State,
     states::TextureStates,
-    storage::{self, Half, Held, TrackerStorage},
+    storage::{self, Half, Held, Opening, TrackerStorage},
     sys,
-    values::{Extent, Selector, State, Texture, TrackerIndex, UsageFlags},
+    values::{Extent, Selector, Texture, TrackerIndex, UsageFlags},
 };
-use std::fmt;
+use core::fmt;
 
 /// What each texture must be in at the start of a list of passes, and what it is in at their end: wgpu-core's
 /// `TextureTracker`. Each call takes the end further and logs the transitions that this needs.
@@ -16,15 +17,15 @@ use std::fmt;
 /// ```
 /// use texture_tracker::*;
 /// # fn main() -> Result<(), Box<dyn std::error::Error>> {
-/// let extent = Extent { mips: 1, layers: 8 };
-/// let cameras = Texture { index: TrackerIndex(0), extent };
+/// let extent = Extent::new(1, 8);
+/// let cameras = Texture::new(TrackerIndex(0), extent);
 /// let mut log = TransitionLog::with_room_for(1, extent);
 /// let mut tracker = TextureTracker::open(1, extent, uses::FLAGS, uses::ORDERED)?;
 /// tracker.set_single(cameras, extent.full_range(), uses::COPY_DST, &mut log)?;
 /// assert!(log.is_empty(), "a first use needs no transition here");
 /// tracker.set_single(cameras, Selector::one(Mip(0), Layer(5)), uses::RESOURCE, &mut log)?;
-/// for transition in log.drain_transitions()? {
-///     assert_eq!(transition.named(uses::name).to_string(), "texture 0, mip 0, layer 5: COPY_DST to RESOURCE");
+/// for transition in log.drain_transitions() {
+///     assert_eq!(format!("{transition:#}"), "texture 0, mip 0, layer 5: COPY_DST to RESOURCE");
 /// }
 /// # Ok(())
 /// # }
@@ -38,6 +39,46 @@ use std::fmt;
 ///     let _ = tracker.set_from_tracker(tracker, log);
 /// }
 /// ```
+///
+/// Two trackers are equal if they were opened alike and hold the same textures, with the same ranges at start and end:
+/// then every call returns the same of both.
+///
+/// # Freeing an index
+///
+/// A tracker keeps what it owns: no call forgets one texture. An index is used again at once for a texture of the same
+/// extent, by setting all of it to `UNINITIALIZED`, as for a new one; with another extent the calls refuse it
+/// ([`ExtentDiffers`](Refusal::ExtentDiffers)). To give an index to a texture of another extent, open a second tracker
+/// and set in it what the first one holds at the end, but for that index. Its start is then the same as its end, which
+/// is all that the tracker of a device needs:
+///
+/// ```
+/// # use texture_tracker::*;
+/// /// What the tracker holds at the end, without the texture of that index.
+/// fn without(tracker: &TextureTracker, gone: TrackerIndex, mut next: TextureTracker) -> Result<TextureTracker, Refusal> {
+///     let mut log = TransitionLog::with_capacity(0);                // a first use of a subresource logs nothing
+///     for states in tracker.owned().filter(|&index| index != gone).filter_map(|index| tracker.end(index)) {
+///         let texture = Texture::new(states.index(), states.extent());
+///         for (selector, state) in states.iter().filter(|(_, state)| *state != tracker.flags().unknown) {
+///             next.set_single(texture, selector, state, &mut log)?;
+///         }
+///     }
+///     Ok(next)
+/// }
+/// # fn main() -> Result<(), Refusal> {
+/// # let extent = Extent::new(2, 4);
+/// # let mut log = TransitionLog::with_room_for(3, extent);
+/// # let mut tracker = TextureTracker::open(3, extent, uses::FLAGS, uses::ORDERED)?;
+/// # for index in [0, 1, 2].map(TrackerIndex) {
+/// #     tracker.set_single(Texture::new(index, extent), extent.full_range(), uses::RESOURCE, &mut log)?;
+/// # }
+/// # tracker.set_single(Texture::new(TrackerIndex(2), extent), Selector::one(Mip(1), Layer(3)), uses::COPY_DST, &mut log)?;
+/// let next = TextureTracker::open(3, extent, uses::FLAGS, uses::ORDERED)?;
+/// let next = without(&tracker, TrackerIndex(1), next)?;
+/// assert!(next.owned().eq([TrackerIndex(0), TrackerIndex(2)]));
+/// assert_eq!(next.end(TrackerIndex(2)), tracker.end(TrackerIndex(2)));
+/// # Ok(())
+/// # }
+/// ```
 #[derive(Clone)]
 pub struct TextureTracker {
     pub(crate) storage: TrackerStorage,
@@ -49,22 +90,30 @@ impl TextureTracker {
     ///
     /// A transition from a state to itself is left out if `ordered` contains the state: the hardware keeps such
     /// uses in order without being told.
+    ///
+    /// # Errors
+    ///
+    /// [`NumbersOutOfLimits`](Refusal::NumbersOutOfLimits), [`FlagsBreakRule`](Refusal::FlagsBreakRule).
     pub fn open(textures: u32, largest: Extent, flags: UsageFlags, ordered: State) -> Result<Self, Refusal> {
-        let mut storage = TrackerStorage::new(textures, largest);
-        passed(sys::open_tracker(&mut storage, textures, largest, flags, ordered))?;
+        let mut storage = TrackerStorage::new(Opening { textures, largest, flags, ordered });
+        passed(sys::open_tracker(&mut storage))?;
         Ok(Self { storage })
     }
 
     /// Opens the tracker again in the memory that it has.
-    pub fn clear(&mut self) -> Result<(), Refusal> {
-        let (textures, largest) = storage::opened_for(&self.storage.table);
-        let (flags, ordered) = (self.flags(), self.ordered());
-        passed(sys::open_tracker(&mut self.storage, textures, largest, flags, ordered))
+    pub fn clear(&mut self) {
+        // The library took these numbers before, so it takes them again.
+        let _ = sys::open_tracker(&mut self.storage);
     }
 
     /// Sets one use of the selected part of a texture.
     ///
-    /// Refused with 7 to 13, and 15.
+    /// # Errors
+    ///
+    /// Before any change: [`NoSuchIndex`](Refusal::NoSuchIndex), [`ExtentOutOfLimits`](Refusal::ExtentOutOfLimits),
+    /// [`ExtentDiffers`](Refusal::ExtentDiffers), [`SelectorEmpty`](Refusal::SelectorEmpty),
+    /// [`SelectorPastExtent`](Refusal::SelectorPastExtent), [`StateReserved`](Refusal::StateReserved),
+    /// [`StateIncompatible`](Refusal::StateIncompatible), [`NoFreeEntry`](Refusal::NoFreeEntry).
     pub fn set_single(
         &mut self,
         texture: Texture,
@@ -72,12 +121,16 @@ impl TextureTracker {
         new_state: State,
         log: &mut TransitionLog,
     ) -> Result<(), Refusal> {
-        passed(sys::set_single(&mut self.storage, texture, &selector, new_state, &mut log.storage))
+        passed(sys::set_single(&mut self.storage, texture, selector, new_state, &mut log.storage))
     }
 
     /// Sets every texture that a scope owns: the pass that the scope stands for comes next.
     ///
-    /// Refused with 6 to 9, and 15.
+    /// # Errors
+    ///
+    /// Before any change: [`FlagsDiffer`](Refusal::FlagsDiffer), [`NoSuchIndex`](Refusal::NoSuchIndex),
+    /// [`ExtentOutOfLimits`](Refusal::ExtentOutOfLimits), [`ExtentDiffers`](Refusal::ExtentDiffers),
+    /// [`NoFreeEntry`](Refusal::NoFreeEntry).
     pub fn set_from_usage_scope(&mut self, scope: &UsageScope, log: &mut TransitionLog) -> Result<(), Refusal> {
         passed(sys::set_from_usage_scope(&mut self.storage, &scope.storage, &mut log.storage))
     }
@@ -85,23 +138,25 @@ impl TextureTracker {
     /// Joins the tracker with another, whose passes come next: transitions lead to the other's start, and its end is
     /// what they leave. So wgpu-core takes a command buffer into its device.
     ///
-    /// Refused with 6 to 9, and 15.
+    /// # Errors
+    ///
+    /// Those of [`set_from_usage_scope`](Self::set_from_usage_scope).
     ///
     /// ```
     /// # use texture_tracker::*;
     /// # fn main() -> Result<(), Refusal> {
-    /// # let extent = Extent { mips: 1, layers: 8 };
-    /// # let cameras = Texture { index: TrackerIndex(0), extent };
+    /// # let extent = Extent::new(1, 8);
+    /// # let cameras = Texture::new(TrackerIndex(0), extent);
     /// # let mut log = TransitionLog::with_room_for(1, extent);
     /// # let open = || TextureTracker::open(1, extent, uses::FLAGS, uses::ORDERED);
     /// let (mut device, mut commands) = (open()?, open()?);
     /// device.set_single(cameras, extent.full_range(), uses::UNINITIALIZED, &mut log)?;
     /// commands.set_single(cameras, extent.full_range(), uses::COPY_DST, &mut log)?;
     /// commands.set_single(cameras, extent.full_range(), uses::RESOURCE, &mut log)?;
-    /// log.clear()?;                            // what happens between the commands was told to the driver
+    /// log.clear();                             // what happens between the commands was told to the driver
     ///
     /// device.set_from_tracker(&commands, &mut log)?;
-    /// let before: Vec<_> = log.drain_transitions()?.map(|each| (each.from, each.to)).collect();
+    /// let before: Vec<_> = log.drain_transitions().map(|each| (each.from, each.to)).collect();
     /// assert_eq!(before, [(uses::UNINITIALIZED, uses::COPY_DST)]);
     /// assert_eq!(device.end(TrackerIndex(0)).and_then(|end| end.single()), Some(uses::RESOURCE));
     /// # Ok(())
@@ -114,17 +169,19 @@ impl TextureTracker {
     /// Sets the listed textures of a scope, in the order of the list, and takes them out of the scope. What the scope
     /// does not own is passed over, and an index that is listed twice counts once.
     ///
-    /// Refused with 6 to 9, and 15.
+    /// # Errors
+    ///
+    /// Those of [`set_from_usage_scope`](Self::set_from_usage_scope).
     ///
     /// ```
     /// # use texture_tracker::*;
     /// # fn main() -> Result<(), Box<dyn std::error::Error>> {
-    /// # let extent = Extent { mips: 1, layers: 8 };
+    /// # let extent = Extent::new(1, 8);
     /// # let mut log = TransitionLog::with_room_for(2, extent);
     /// # let mut tracker = TextureTracker::open(2, extent, uses::FLAGS, uses::ORDERED)?;
     /// let mut pass = UsageScope::open(2, extent, uses::FLAGS)?;
     /// for index in [0, 1].map(TrackerIndex) {
-    ///     pass.merge_single(Texture { index, extent }, None, uses::RESOURCE)?;
+    ///     pass.merge_single(Texture::new(index, extent), None, uses::RESOURCE)?;
     /// }
     /// tracker.set_and_remove_from_usage_scope_sparse(&mut pass, &[TrackerIndex(1)], &mut log)?;
     /// assert!(pass.owned().eq([TrackerIndex(0)]));
@@ -138,22 +195,20 @@ impl TextureTracker {
         indices: &[TrackerIndex],
         log: &mut TransitionLog,
     ) -> Result<(), Refusal> {
-        passed(sys::set_and_remove_from_usage_scope_sparse(
-            &mut self.storage,
-            &mut scope.storage,
-            indices,
-            &mut log.storage,
-        ))
+        let (scope, log) = (&mut scope.storage, &mut log.storage);
+        passed(sys::set_and_remove_from_usage_scope_sparse(&mut self.storage, scope, indices, log))
     }
 
     /// The usage flags that the tracker was opened with.
+    #[must_use]
     pub fn flags(&self) -> UsageFlags {
-        storage::flags(&self.storage.table)
+        self.storage.opening.flags
     }
 
     /// The ordered uses that the tracker was opened with.
+    #[must_use]
     pub fn ordered(&self) -> State {
-        storage::ordered(&self.storage.table)
+        self.storage.opening.ordered
     }
 
     /// Every texture that the tracker owns, by ascending index.
@@ -162,27 +217,52 @@ impl TextureTracker {
     }
 
     /// What a texture must be in at the start, if the tracker owns it.
+    #[must_use]
     pub fn start(&self, index: TrackerIndex) -> Option<TextureStates<'_>> {
         let TrackerStorage { table, starts, .. } = &self.storage;
         Held::of(table, starts, Half::Start, index).map(TextureStates::new)
     }
 
     /// What a texture is in at the end, if the tracker owns it.
+    #[must_use]
     pub fn end(&self, index: TrackerIndex) -> Option<TextureStates<'_>> {
         let TrackerStorage { table, ends, .. } = &self.storage;
         Held::of(table, ends, Half::End, index).map(TextureStates::new)
     }
 
-    /// Whether the storage is what the library left there. Each call tests it by itself, and answers
+    /// Whether the storage is what the library left there. Each call tests it by itself, and returns
     /// [`Refusal::NotWellFormed`] if a fault of the memory has damaged it.
+    #[must_use]
     pub fn is_well_formed(&self) -> bool {
         sys::tracker_is_well_formed(&self.storage)
     }
+
+    /// The textures with what is held of each.
+    fn held(&self) -> impl Iterator<Item = (TrackerIndex, Halves<'_>)> {
+        let halves = |index| Some(Halves { start: self.start(index)?, end: self.end(index)? });
+        self.owned().filter_map(move |index| Some((index, halves(index)?)))
+    }
 }
 
+/// Of one texture.
+#[derive(Debug, PartialEq)]
+struct Halves<'a> {
+    start: TextureStates<'a>,
+    end: TextureStates<'a>,
+}
+
+impl PartialEq for TextureTracker {
+    fn eq(&self, other: &Self) -> bool {
+        self.storage.opening == other.storage.opening && self.held().eq(other.held())
+    }
+}
+
+impl Eq for TextureTracker {}
+
+/// Each texture with its start and its end; with wgpu's names in a tracker that was opened with
+/// [`uses::FLAGS`](crate::uses::FLAGS).
 impl fmt::Debug for TextureTracker {
     fn fmt(&self, f: &mut fmt::Formatter<'_>) -> fmt::Result {
-        let states = self.owned().map(|index| (index, (self.start(index), self.end(index))));
-        f.debug_map().entries(states).finish()
+        f.debug_map().entries(self.held()).finish()
     }
 }

@@ -1,7 +1,9 @@
-//! wgpu's texture uses: the constants of wgpu-types' `TextureUses`, written down from memory.
+//! wgpu's texture uses: the constants of wgpu-types' `TextureUses`.
 //!
 //! The tracker takes any others; nothing in it knows these.
-use crate::values::{State, UsageFlags};
+use crate::{state::State, values::UsageFlags};
+use alloc::{format, string::String};
+use core::fmt;
 
 /// Nothing is known of the contents.
 pub const UNINITIALIZED: State = State(1 << 0);
@@ -45,7 +47,8 @@ pub const EXCLUSIVE: State = State(
         | PRESENT.0,
 );
 
-/// The uses that the hardware keeps in order by itself: those that read, and attachments.
+/// The uses that the hardware keeps in order by itself: those that read, and attachments. wgpu-types has no such
+/// constant: wgpu-core gets the mask from the device. A tracker is opened with any mask.
 pub const ORDERED: State = State(
     COPY_SRC.0 | RESOURCE.0 | DEPTH_STENCIL_READ.0 | STORAGE_READ_ONLY.0 | COLOR_TARGET.0 | DEPTH_STENCIL_WRITE.0,
 );
@@ -55,7 +58,7 @@ pub const FLAGS: UsageFlags =
     UsageFlags { exclusive: EXCLUSIVE, uninitialized: UNINITIALIZED, complex: COMPLEX, unknown: UNKNOWN };
 
 /// The names, by bit.
-const NAMES: [(State, &str); 15] = [
+pub(crate) const NAMES: [(State, &str); 15] = [
     (UNINITIALIZED, "UNINITIALIZED"),
     (PRESENT, "PRESENT"),
     (COPY_SRC, "COPY_SRC"),
@@ -73,6 +76,25 @@ const NAMES: [(State, &str); 15] = [
     (UNKNOWN, "UNKNOWN"),
 ];
 
+/// How a state without any use is written.
+pub(crate) const NONE: &str = "none";
+
+/// Writes the names of the uses in a state, with bars between them, and last the number of what has no name.
+pub(crate) fn write(f: &mut fmt::Formatter<'_>, state: State) -> fmt::Result {
+    let known = NAMES.iter().filter(|(one, _)| state.contains(*one));
+    let rest = NAMES.iter().fold(state, |rest, (one, _)| rest - *one);
+    let mut bar = "";
+    for (_, name) in known {
+        write!(f, "{bar}{name}")?;
+        bar = "|";
+    }
+    match rest {
+        State(0) if state.is_empty() => f.write_str(NONE),
+        State(0) => Ok(()),
+        State(rest) => write!(f, "{bar}{rest}"),
+    }
+}
+
 /// The names of the uses in a state, with bars between them.
 ///
 /// ```
@@ -81,27 +103,20 @@ const NAMES: [(State, &str); 15] = [
 /// assert_eq!(uses::name(State(0)), "none");
 /// assert_eq!(uses::name(State(1 << 15)), "32768");
 /// ```
+#[must_use]
 pub fn name(state: State) -> String {
-    let known = NAMES.iter().filter(|(one, _)| state.contains(*one));
-    let mut words: Vec<String> = known.map(|(_, name)| name.to_string()).collect();
-    let rest = NAMES.iter().fold(state.0, |rest, (one, _)| rest & !one.0);
-    if rest != 0 {
-        words.push(rest.to_string());
-    }
-    if words.is_empty() {
-        "none".to_string()
-    } else {
-        words.join("|")
-    }
+    format!("{state:#}")
 }
 
-/// The state of one or more names with bars between them; None if there is no such use.
+/// The state of one or more names with bars between them; None if there is no such use. [`State`]'s `FromStr` takes
+/// numbers too, and says which word is wrong.
 ///
 /// ```
 /// use texture_tracker::uses;
 /// assert_eq!(uses::from_name("COPY_SRC|RESOURCE"), Some(uses::COPY_SRC | uses::RESOURCE));
 /// assert_eq!(uses::from_name("COPY"), None);
 /// ```
+#[must_use]
 pub fn from_name(names: &str) -> Option<State> {
     let one = |name: &str| NAMES.iter().find(|(_, known)| *known == name).map(|(state, _)| *state);
     names.split('|').map(one).try_fold(State(0), |all, state| Some(all | state?))

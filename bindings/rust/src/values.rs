@@ -1,5 +1,9 @@
-//! The plain values: indices, mips and layers kept apart, states, usage flags, extents, selectors.
-use std::{fmt, ops::BitOr, ops::Range};
+//! The plain values: indices, mips and layers kept apart, extents, selectors, usage flags.
+use crate::state::State;
+use core::{
+    fmt,
+    ops::{Range, RangeInclusive},
+};
 
 /// The position of a texture in a set: wgpu-core's `TrackerIndex`.
 #[repr(transparent)]
@@ -13,40 +17,6 @@ pub struct Mip(pub u32);
 /// The number of an array layer: in a sorter, of a camera.
 #[derive(Clone, Copy, Debug, PartialEq, Eq, PartialOrd, Ord, Hash)]
 pub struct Layer(pub u32);
-
-/// A usage state, a set of at most 16 uses: wgpu's `TextureUses` as a number.
-///
-/// The tracker knows no use by name. Which ones exclude each other, and which four numbers have a meaning of
-/// their own, [`UsageFlags`] say; [`uses`](crate::uses) has wgpu's.
-///
-/// ```
-/// use texture_tracker::State;
-/// let both = State(2) | State(8);
-/// assert_eq!(both, State(10));
-/// assert!(both.contains(State(8)) && !State(8).contains(both));
-/// ```
-#[derive(Clone, Copy, Debug, PartialEq, Eq, PartialOrd, Ord, Hash)]
-pub struct State(pub u16);
-
-impl State {
-    /// Whether every use of `other` is among these.
-    pub const fn contains(self, other: State) -> bool {
-        self.0 & other.0 == other.0
-    }
-}
-
-impl BitOr for State {
-    type Output = State;
-    fn bitor(self, other: State) -> State {
-        State(self.0 | other.0)
-    }
-}
-
-impl fmt::Display for State {
-    fn fmt(&self, f: &mut fmt::Formatter<'_>) -> fmt::Result {
-        self.0.fmt(f)
-    }
-}
 
 /// What the tracker must know of the uses. In wgpu these are constants of `TextureUses`; here they are given at
 /// opening. A set is opened only if the last three are one bit each and all different, and [`complex`] and
@@ -77,9 +47,19 @@ pub struct Extent {
 }
 
 impl Extent {
+    /// An extent of that many mips, then that many layers.
+    #[must_use]
+    pub const fn new(mips: u32, layers: u32) -> Self {
+        Self { mips, layers }
+    }
+
     /// All mips and layers: wgpu-core's `full_range`.
+    #[must_use]
     pub const fn full_range(self) -> Selector {
-        Selector { mips: Mip(0)..Mip(self.mips), layers: Layer(0)..Layer(self.layers) }
+        Selector {
+            mips: Span { start: Mip(0), end: Mip(self.mips) },
+            layers: Span { start: Layer(0), end: Layer(self.layers) },
+        }
     }
 }
 
@@ -92,32 +72,149 @@ pub struct Texture {
     pub extent: Extent,
 }
 
-/// Some mips and some layers of a texture, ends not included: wgpu's `TextureSelector`.
+impl Texture {
+    /// The texture of that index and extent.
+    #[must_use]
+    pub const fn new(index: TrackerIndex, extent: Extent) -> Self {
+        Self { index, extent }
+    }
+}
+
+/// Mips, or layers, that follow each other; the end is not included. It is made from a range, or from one of them.
+///
+/// The standard library's `Range` cannot be copied; this can.
+///
+/// ```
+/// use texture_tracker::{Layer, Span};
+/// let cameras = Span::from(Layer(1)..Layer(3));
+/// assert_eq!(cameras, Span::from(Layer(1)..=Layer(2)));
+/// assert!(cameras.contains(&Layer(2)) && !cameras.contains(&Layer(3)));
+/// assert_eq!(Span::from(Layer(5)), Layer(5)..Layer(6));
+/// ```
+#[derive(Clone, Copy, Debug, PartialEq, Eq, Hash)]
+pub struct Span<T> {
+    /// The first.
+    pub start: T,
+    /// The one past the last.
+    pub end: T,
+}
+
+impl<T: PartialOrd> Span<T> {
+    /// Whether this one is among them.
+    pub fn contains(&self, one: &T) -> bool {
+        self.start <= *one && *one < self.end
+    }
+
+    /// Whether there are none.
+    pub fn is_empty(&self) -> bool {
+        self.start >= self.end
+    }
+}
+
+impl<T> From<Range<T>> for Span<T> {
+    fn from(range: Range<T>) -> Self {
+        Self { start: range.start, end: range.end }
+    }
+}
+
+impl<T> From<Span<T>> for Range<T> {
+    fn from(span: Span<T>) -> Self {
+        span.start..span.end
+    }
+}
+
+impl<T: PartialEq> PartialEq<Range<T>> for Span<T> {
+    fn eq(&self, other: &Range<T>) -> bool {
+        self.start == other.start && self.end == other.end
+    }
+}
+
+/// A number and the span of it alone. Past the largest number there is no end: that span is empty.
+macro_rules! number {
+    ($number:ident) => {
+        impl $number {
+            const fn past(self) -> Self {
+                Self(self.0.saturating_add(1))
+            }
+        }
+
+        impl From<$number> for Span<$number> {
+            fn from(one: $number) -> Self {
+                Self { start: one, end: one.past() }
+            }
+        }
+
+        impl From<RangeInclusive<$number>> for Span<$number> {
+            fn from(range: RangeInclusive<$number>) -> Self {
+                Self { start: *range.start(), end: range.end().past() }
+            }
+        }
+    };
+}
+number!(Mip);
+number!(Layer);
+
+/// Some mips and some layers of a texture: wgpu's `TextureSelector`.
 ///
 /// ```
 /// use texture_tracker::{Extent, Layer, Mip, Selector};
-/// let cameras_1_and_2 = Selector { mips: Mip(0)..Mip(1), layers: Layer(1)..Layer(3) };
-/// assert_eq!(cameras_1_and_2.to_string(), "mip 0, layers 1 to 2");
+/// let extent = Extent::new(4, 8);
+/// assert_eq!(Selector::new(Mip(0), Layer(1)..Layer(3)).to_string(), "mip 0, layers 1 to 2");
+/// assert_eq!(Selector::from((Mip(0)..=Mip(1), Layer(5))).to_string(), "mips 0 to 1, layer 5");
 /// assert_eq!(Selector::one(Mip(0), Layer(5)).to_string(), "mip 0, layer 5");
-/// assert_eq!(Extent { mips: 4, layers: 8 }.full_range().to_string(), "mips 0 to 3, layers 0 to 7");
+/// assert_eq!(Selector::mip(Mip(2), extent).to_string(), "mip 2, layers 0 to 7");
+/// assert_eq!(Selector::layer(Layer(5), extent).to_string(), "mips 0 to 3, layer 5");
+/// assert_eq!(extent.full_range().to_string(), "mips 0 to 3, layers 0 to 7");
 /// ```
-#[derive(Clone, Debug, PartialEq, Eq, Hash)]
+///
+/// Mips and layers are types of their own, so that the one is not taken for the other:
+///
+/// ```compile_fail,E0277
+/// # use texture_tracker::{Layer, Mip, Selector};
+/// let swapped = Selector::new(Layer(5), Mip(0));
+/// ```
+#[derive(Clone, Copy, Debug, PartialEq, Eq, Hash)]
 pub struct Selector {
     /// Which mips.
-    pub mips: Range<Mip>,
+    pub mips: Span<Mip>,
     /// Which layers.
-    pub layers: Range<Layer>,
+    pub layers: Span<Layer>,
 }
 
 impl Selector {
+    /// These mips of these layers, each one number or a range.
+    pub fn new(mips: impl Into<Span<Mip>>, layers: impl Into<Span<Layer>>) -> Self {
+        Self { mips: mips.into(), layers: layers.into() }
+    }
+
     /// One subresource. At the largest number it is empty.
+    #[must_use]
     pub const fn one(mip: Mip, layer: Layer) -> Self {
-        Self { mips: mip..Mip(mip.0.saturating_add(1)), layers: layer..Layer(layer.0.saturating_add(1)) }
+        Self { mips: Span { start: mip, end: mip.past() }, layers: Span { start: layer, end: layer.past() } }
+    }
+
+    /// One mip of every layer of a texture of that extent.
+    #[must_use]
+    pub const fn mip(mip: Mip, extent: Extent) -> Self {
+        Self { mips: Span { start: mip, end: mip.past() }, layers: extent.full_range().layers }
+    }
+
+    /// Every mip of one layer of a texture of that extent.
+    #[must_use]
+    pub const fn layer(layer: Layer, extent: Extent) -> Self {
+        Self { mips: extent.full_range().mips, layers: Span { start: layer, end: layer.past() } }
     }
 
     /// Whether a subresource is among these.
+    #[must_use]
     pub fn contains(&self, mip: Mip, layer: Layer) -> bool {
         self.mips.contains(&mip) && self.layers.contains(&layer)
+    }
+}
+
+impl<M: Into<Span<Mip>>, L: Into<Span<Layer>>> From<(M, L)> for Selector {
+    fn from((mips, layers): (M, L)) -> Self {
+        Self::new(mips, layers)
     }
 }
 
@@ -130,7 +227,7 @@ impl fmt::Display for Selector {
     }
 }
 
-fn span(f: &mut fmt::Formatter<'_>, word: &str, start: u32, end: u32) -> fmt::Result {
+pub(crate) fn span(f: &mut fmt::Formatter<'_>, word: &str, start: u32, end: u32) -> fmt::Result {
     match end.checked_sub(start) {
         None | Some(0) => write!(f, "no {word} ({start}..{end})"),
         Some(1) => write!(f, "{word} {start}"),

@@ -1,6 +1,6 @@
-//! Random calls through this crate and through the Rust of wgpu-core, every line of their answers compared.
+//! Random calls through this crate and through wgpu-core's own code, every line of their answers compared.
 //!
-//! `./compare` runs ten times as many. Where the Rust is not built, or there is no Python to hold the two together, the
+//! `./compare` runs ten times as many. Where that is not built, or there is no Python to hold the two together, the
 //! test says so and passes.
 mod built;
 use std::{
@@ -21,7 +21,7 @@ fn has_python() -> bool {
 }
 
 #[test]
-fn the_rust_answers_the_same() {
+fn wgpu_core_answers_the_same() {
     let oracle = PathBuf::from(env!("CARGO_MANIFEST_DIR")).join("../../oracle");
     if !oracle.join("rust/target/release/bench").is_file() {
         return tell("skipped: the oracle is not built; `oracle/build`, at the top of the repository, builds it");

@@ -1,6 +1,6 @@
 //! Every refusal that the safe interface can be brought to give, with its place, and that it changes nothing.
 //!
-//! 3, 4 and 5 cannot arise: the crate lends enough room, nobody else writes what it lends, and the log keeps its own
+//! 3, 4 and 5 cannot arise: the crate provides enough memory, nobody else writes it, and the log keeps its own
 //! head. 14 is of calls that are not in this crate.
 #![allow(clippy::reversed_empty_ranges)] // they are refused
 mod bench;
@@ -22,7 +22,7 @@ fn refused(scope: &mut UsageScope, texture: Texture, selector: Option<Selector>,
 
 /// The same merge, tried on a tracker: it is refused alike.
 fn refused_by_both(texture: Texture, selector: Selector, state: u16) -> Refusal {
-    let refusal = refused(&mut single(&[8]), texture, Some(selector.clone()), state);
+    let refusal = refused(&mut single(&[8]), texture, Some(selector), state);
     let (mut tracker, mut log) = (tracked(&[8]), log());
     let before = format!("{tracker:?}");
     assert_eq!(tracker.set_single(texture, selector, State(state), &mut log), Err(refusal));
@@ -185,10 +185,10 @@ fn a_log_with_room_is_never_short() {
     let (mut tracker, mut log) = (tracked(&[4]), log());
     for (mip, layer) in (0..8).map(|at| (Mip(at / 4), Layer(at % 4))) {
         let state = if (mip.0 + layer.0) % 2 == 0 { State(2) } else { State(8) };
-        log.clear().unwrap();
+        log.clear();
         tracker.set_single(TEXTURE, Selector::one(mip, layer), state, &mut log).unwrap();
     }
-    log.clear().unwrap();
+    log.clear();
     tracker.set_single(TEXTURE, EXTENT.full_range(), State(4), &mut log).unwrap();
     assert_eq!((log.len(), log.free()), (8, 0));
 }

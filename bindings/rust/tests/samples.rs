@@ -1,4 +1,4 @@
-//! The bench samples B1 to B12 of the scope document, and its edges.
+//! The samples B1 to B12 of docs/RULES.md, and its edges.
 mod bench;
 use bench::*;
 use texture_tracker::*;
@@ -118,7 +118,7 @@ fn a_sparse_call_takes_the_listed_textures_out_of_the_scope() {
     assert_eq!(scope.owned().collect::<Vec<_>>(), [TrackerIndex(0)]);
     tracker.set_and_remove_from_usage_scope_sparse(&mut scope, &list, &mut log).unwrap();
     assert_eq!(scope.owned().next(), None);
-    let moved: Vec<_> = log.drain_transitions().unwrap().map(|each| each.index.0).collect();
+    let moved: Vec<_> = log.drain_transitions().map(|each| each.index.0).collect();
     assert_eq!(moved, [2, 0]);
     assert_eq!((log.len(), log.free()), (0, 3));
 }
@@ -126,10 +126,10 @@ fn a_sparse_call_takes_the_listed_textures_out_of_the_scope() {
 #[test]
 fn clearing_opens_again() {
     let mut scope = many(8);
-    scope.clear().unwrap();
+    scope.clear();
     assert_eq!((of_scope(&scope), scope.flags()), ("unowned".to_string(), FLAGS));
     let mut tracker = tracked(&[8]);
-    tracker.clear().unwrap();
+    tracker.clear();
     assert_eq!((tracker.owned().next(), tracker.ordered()), (None, MASK));
     assert!(scope.is_well_formed() && tracker.is_well_formed());
 }

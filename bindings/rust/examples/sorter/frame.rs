@@ -203,5 +203,5 @@ fn selector(extent: Extent, mips: Option<Range<u32>>, layers: Option<Range<u32>>
     }
     let mips = mips.unwrap_or(0..extent.mips);
     let layers = layers.unwrap_or(0..extent.layers);
-    Some(Selector { mips: Mip(mips.start)..Mip(mips.end), layers: Layer(layers.start)..Layer(layers.end) })
+    Some(Selector::new(Mip(mips.start)..Mip(mips.end), Layer(layers.start)..Layer(layers.end)))
 }

@@ -63,7 +63,7 @@ impl<'a> Run<'a> {
 
     /// All uses of a pass, in one scope.
     fn merge(&mut self, made: &[Use]) -> Result<(), MergeError> {
-        self.scope.clear()?;
+        self.scope.clear();
         for Use { texture, selector, state, .. } in made {
             self.scope.merge_single(*texture, selector.clone(), *state)?;
         }
@@ -72,10 +72,10 @@ impl<'a> Run<'a> {
 
     /// The pass comes next: tells what the driver is told before it.
     fn advance(&mut self, page: &mut Page, title: &str) -> Result<(), Refusal> {
-        self.log.clear()?;
+        self.log.clear();
         self.tracker.set_from_usage_scope(&self.scope, &mut self.log)?;
         let mut title = title;
-        for transition in self.log.drain_transitions()? {
+        for transition in self.log.drain_transitions() {
             let line = self.frame.transition(&transition);
             self.frame.begin(page, title);
             page.line(Ink::Plain, &line);

@@ -1,4 +1,4 @@
-//! The bench of the scope document: its usage flags, a texture of 2 mips and 4 layers, and its notation.
+//! The bench of docs/RULES.md: its usage flags, a texture of 2 mips and 4 layers, and its notation.
 #![allow(dead_code)]
 use texture_tracker::*;
 
@@ -11,7 +11,7 @@ pub const TEXTURE: Texture = texture(0, EXTENT);
 pub const U: u16 = 8192;
 
 pub const fn texture(index: u32, extent: Extent) -> Texture {
-    Texture { index: TrackerIndex(index), extent }
+    Texture::new(TrackerIndex(index), extent)
 }
 
 /// Mip 0, layers 1..3.
@@ -20,7 +20,7 @@ pub fn part() -> Selector {
 }
 
 pub fn selector(mips: std::ops::Range<u32>, layers: std::ops::Range<u32>) -> Selector {
-    Selector { mips: Mip(mips.start)..Mip(mips.end), layers: Layer(layers.start)..Layer(layers.end) }
+    Selector::new(Mip(mips.start)..Mip(mips.end), Layer(layers.start)..Layer(layers.end))
 }
 
 pub fn scope() -> UsageScope {
@@ -55,7 +55,7 @@ pub fn many(state: u16) -> UsageScope {
 pub fn tracked(states: &[u16]) -> TextureTracker {
     let (mut tracker, mut log) = (tracker(), log());
     for &state in states {
-        log.clear().unwrap();
+        log.clear();
         tracker.set_single(TEXTURE, EXTENT.full_range(), State(state), &mut log).unwrap();
     }
     tracker
@@ -70,7 +70,7 @@ pub fn held(states: Option<TextureStates<'_>>) -> String {
         return single.to_string();
     }
     let mips = (0..states.extent().mips).map(|mip| {
-        let range = |(layers, State(state)): (std::ops::Range<Layer>, State)| {
+        let range = |(layers, State(state)): (Span<Layer>, State)| {
             let name = if state == U { "U".to_string() } else { state.to_string() };
             format!("{}..{} {name}", layers.start.0, layers.end.0)
         };
