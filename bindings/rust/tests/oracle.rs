@@ -5,7 +5,7 @@
 mod built;
 use std::{
     io::{self, Write},
-    path::PathBuf,
+    path::{Path, PathBuf},
     process::Command,
 };
 
@@ -20,10 +20,16 @@ fn has_python() -> bool {
     Command::new("python3").arg("--version").output().is_ok()
 }
 
+/// Where `oracle/build` puts what it builds: it knows.
+fn drivers(oracle: &Path) -> Option<PathBuf> {
+    let told = Command::new(oracle.join("build")).arg("--where").output().ok()?;
+    Some(PathBuf::from(String::from_utf8(told.stdout).ok()?.trim_end()))
+}
+
 #[test]
 fn wgpu_core_answers_the_same() {
     let oracle = PathBuf::from(env!("CARGO_MANIFEST_DIR")).join("../../oracle");
-    if !oracle.join("rust/target/release/bench").is_file() {
+    if !drivers(&oracle).is_some_and(|folder| folder.join("bench").is_file()) {
         return tell("skipped: the oracle is not built; `oracle/build`, at the top of the repository, builds it");
     }
     if !has_python() {
