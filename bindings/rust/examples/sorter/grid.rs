@@ -121,15 +121,16 @@ pub fn span(word: &str, range: &Range<u32>) -> String {
 }
 
 impl Row<'_> {
-    fn label(&self) -> String {
-        format!("{}  {}", span("layer", &self.layers), names_told(self.names)).trim_end().to_string()
+    /// The layers in so many characters, and the name.
+    fn label(&self, layers: usize) -> String {
+        format!("{:layers$}  {}", span("layer", &self.layers), names_told(self.names)).trim_end().to_string()
     }
 }
 
 impl Grid<'_> {
     /// As many mips side by side as fit, then the rest below.
     fn write(&self, page: &mut Page) {
-        let labels = self.rows.iter().map(|row| width(&row.label())).max().unwrap_or(0);
+        let labels = self.rows.iter().map(|row| width(&row.label(self.layers()))).max().unwrap_or(0);
         // A label may take half of the line; a longer one, of two names, has a line of its own.
         let labels = labels.max(width(&self.title)).min(page.columns / 2 + 6) + 3;
         let room = page.columns.saturating_sub(labels + 2);
@@ -139,6 +140,11 @@ impl Grid<'_> {
             self.write_columns(page, first..first + fits, labels, room);
             first += fits;
         }
+    }
+
+    /// How wide the layers of the rows are.
+    fn layers(&self) -> usize {
+        self.rows.iter().map(|row| width(&span("layer", &row.layers))).max().unwrap_or(0)
     }
 
     /// How wide a column is, with the gap after it.
@@ -163,7 +169,7 @@ impl Grid<'_> {
         let heads: String = shown.clone().map(head).collect();
         page.line(Ink::Dim, heads.trim_end());
         for row in &self.rows {
-            let label = row.label();
+            let label = row.label(self.layers());
             page.put(Ink::Dim, &format!("  {label:labels$}"));
             if width(&label) > labels {
                 page.put(Ink::Plain, &format!("\n  {:labels$}", ""));

@@ -18,8 +18,8 @@ const BELOW: usize = 8;
 /// Whether the frame as it is written has no conflict.
 pub fn tell(frame: &Frame, name: &str, page: &mut Page) -> Result<bool, Refusal> {
     let mut run = Run::new(frame, None)?;
-    page.heading(&format!("A frame, pass by pass: {name}"));
-    page.paragraph(Ink::Plain, &format!("{}.", frame.facts()));
+    page.heading("A frame, pass by pass");
+    page.paragraph(Ink::Plain, &format!("{name}: {}.", frame.facts()));
     page.paragraph(
         Ink::Plain,
         "A texture is shown with a row for each layer and a column for each mip: the use that each is in. Equal \
