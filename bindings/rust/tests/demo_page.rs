@@ -164,6 +164,15 @@ fn large_textures() {
     assert!(large.contains("more rows are not drawn") && large.contains("There are more passes than can be drawn"));
 }
 
+/// A file's name may have what means something to a browser, or to a terminal.
+#[test]
+fn odd_file_names() {
+    let (_, page) = page("<b>&\u{1b}", "texture a mips 1 layers 1\npass p\n");
+    well_formed(&page);
+    assert!(page.contains("<title>&lt;b&gt;&amp;\\u{1b}.frame, pass by pass</title>"), "{page}");
+    assert!(page.chars().all(|one| one == '\n' || !one.is_control()));
+}
+
 /// Standard output, and a file that cannot be written.
 #[test]
 fn where_the_page_goes() {

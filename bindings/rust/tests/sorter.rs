@@ -52,9 +52,14 @@ const PAST: &str = "the selector ends past the texture's extent (refusal 11)";
 const EMPTY: &str = "the selector has no mips or no layers (refusal 10)";
 const A_USE: &str = "write the use: PART, then STATE, then, if it has a name, as NAME";
 
-/// Each with the number of its bad line, and what is said of it.
-fn bad() -> Vec<(&'static str, usize, String)> {
-    let line = |text, number, what: &str| (text, number, what.to_string());
+/// A text, the number of its bad line, and what is said of it.
+type Bad = (&'static str, usize, String);
+
+fn line(text: &'static str, number: usize, what: &str) -> Bad {
+    (text, number, what.to_string())
+}
+
+fn bad_textures_and_passes() -> Vec<Bad> {
     vec![
         line("textures beans", 1, "\"textures\" is none of: texture, pass, use, late"),
         line("texture beans 4 8", 1, "a texture is written: texture NAME mips M layers W"),
@@ -72,6 +77,12 @@ fn bad() -> Vec<(&'static str, usize, String)> {
         line("pass a<b", 1, "a name has letters, digits and - _ . : / + only, not <"),
         line("pass a\u{202e}b", 1, "a name has letters, digits and - _ . : / + only, not \\u{202e}"),
         line("pass abcdefghijklmnopqrstuvwxy", 1, "the name abcdefghijklmnopqrstuvwxy has more than 24 characters"),
+    ]
+}
+
+/// Those that begin with "use a" and are told with a line past the second follow a texture and a pass.
+fn bad_uses() -> Vec<Bad> {
+    vec![
         line("use", 1, "a use is written: use TEXTURE PART STATE"),
         line("use beans RESOURCE", 1, "there is no texture beans"),
         line("texture a mips 1 layers 1\nuse a RESOURCE", 2, "a use comes after the pass that makes it"),
@@ -100,7 +111,8 @@ fn bad() -> Vec<(&'static str, usize, String)> {
 
 #[test]
 fn bad_lines() {
-    for (at, (text, number, what)) in bad().into_iter().enumerate() {
+    let bad = bad_textures_and_passes().into_iter().chain(bad_uses());
+    for (at, (text, number, what)) in bad.enumerate() {
         let within = text.starts_with("use a") && number > 2;
         let text = format!("{}{text}\n", if within { "texture a mips 2 layers 4\npass p\n" } else { "" });
         let line = text.lines().nth(number - 1).unwrap().split('#').next().unwrap().trim();

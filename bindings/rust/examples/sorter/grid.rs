@@ -132,7 +132,7 @@ impl Grid<'_> {
     fn write(&self, page: &mut Page) {
         let labels = self.rows.iter().map(|row| width(&row.label(self.layers()))).max().unwrap_or(0);
         // A label may take half of the line; a longer one, of two names, has a line of its own.
-        let labels = labels.max(width(&self.title)).min(page.columns / 2 + 6) + 3;
+        let labels = labels.max(width(self.title)).min(page.columns / 2 + 6) + 3;
         let room = page.columns.saturating_sub(labels + 2);
         let mut first = 0;
         while first < self.columns.len() {

@@ -235,11 +235,10 @@ fn cell_of(class: &str, code: &str, words: &str) -> String {
 
 /// The lines of the file that make a use.
 fn lines(picture: &Picture, column: &Column, place: &Place) -> String {
-    if picture.frame.passes[column.pass].uses.len() > USES {
+    if column.made.len() > USES {
         return String::new();
     }
-    let made = picture.frame.uses_of(column.pass, picture.late);
-    let here = made.iter().filter(|one| one.texture == place.texture);
+    let here = column.made.iter().filter(|one| one.texture == place.texture);
     let here = here.filter(|one| one.part().contains(Mip(place.mip), Layer(place.layer)));
     here.take(LINES).map(|one| said(picture.frame, one)).collect()
 }

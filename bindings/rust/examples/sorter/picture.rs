@@ -1,7 +1,7 @@
 //! What the page shows of a run: for each texture rows of cells, a cell for each pass.
 use super::{
     area::{layers, mips},
-    frame::{Frame, Late},
+    frame::{Frame, Late, Use},
     grid,
     run::{Run, Step},
 };
@@ -17,7 +17,6 @@ type Places = Vec<(Selector, State)>;
 /// Up to two runs of the same passes, drawn side by side.
 pub struct Picture<'a> {
     pub frame: &'a Frame<'a>,
-    pub late: Option<&'a Late<'a>>,
     pub columns: Vec<Column<'a>>,
     /// Whether no pass met a conflict.
     pub passes: bool,
@@ -27,6 +26,7 @@ pub struct Picture<'a> {
 pub struct Column<'a> {
     pub round: usize,
     pub pass: usize,
+    pub made: Vec<&'a Use>,
     pub step: Step<'a>,
     used: Vec<Places>,
     held: Vec<Places>,
@@ -67,13 +67,13 @@ impl<'a> Picture<'a> {
                     |of: &dyn Fn(TrackerIndex) -> Places| (0..frame.size().0).map(TrackerIndex).map(of).collect();
                 let used = places(&|index| run.scope.states(index).map_or(vec![], |states| states.iter().collect()));
                 let held = places(&|index| run.tracker.end(index).map_or(vec![], |states| states.iter().collect()));
-                columns.push(Column { round, pass, step, used, held });
+                columns.push(Column { round, pass, made: frame.uses_of(pass, late), step, used, held });
             }
             if clash {
-                return Ok(Self { frame, late, columns, passes: false });
+                return Ok(Self { frame, columns, passes: false });
             }
         }
-        Ok(Self { frame, late, columns, passes: true })
+        Ok(Self { frame, columns, passes: true })
     }
 
     /// Whether some passes are not drawn.
