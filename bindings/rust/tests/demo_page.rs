@@ -140,7 +140,7 @@ fn a_conflict_as_written() {
     well_formed(&page);
     assert_eq!(status, Some(1));
     assert_eq!(page.matches("<table class=\"picture\">").count(), 1);
-    assert!(page.contains("The frame has a conflict as it is written and ends there."));
+    assert!(page.contains("<h2>The frame</h2>\n<p>The frame has a conflict as it is written and ends there.</p>"));
     assert_eq!(rows(&page)[0][4].split(':').next(), Some("CD ✗ RConflict in pass 2 q"));
 }
 
@@ -162,6 +162,17 @@ fn large_textures() {
     assert_eq!(status, Some(0));
     assert!(large.len() < 40_000_000, "{}", large.len());
     assert!(large.contains("more rows are not drawn") && large.contains("There are more passes than can be drawn"));
+    assert_eq!(large.matches("<th scope=\"col\" colspan=\"2\"").count(), 2 * 100);
+}
+
+/// Of many passes the first are drawn, and the one that has a conflict.
+#[test]
+fn a_conflict_far_away() {
+    let passes: String = (0..500).map(|at| format!("pass p{at}\nuse a RESOURCE\n")).collect();
+    let (status, page) = page("far", &format!("texture a mips 1 layers 1\n{passes}use a COPY_DST\n"));
+    assert_eq!(status, Some(1));
+    assert_eq!(page.matches("<th scope=\"col\" colspan=\"2\"").count(), 100 + 1);
+    assert!(page.contains("✗ Conflict in pass 500 p499"));
 }
 
 /// A file's name may have what means something to a browser, or to a terminal.

@@ -384,3 +384,23 @@ fn wide_and_long() {
         "{shown}"
     );
 }
+
+/// Lines and tables that just fit, and those that just do not: a texture's name moves both by one column at a time.
+#[test]
+fn every_width() {
+    let reads = "COPY_SRC|RESOURCE|DEPTH_STENCIL_READ|STORAGE_READ_ONLY";
+    let mut longest_lines = vec![];
+    for length in 1..=24 {
+        let name = "a".repeat(length);
+        let frame = format!(
+            "texture {name} mips 3 layers 200\npass p\nuse {name} mip 0 {reads}\nuse {name} mip 1 DEPTH_STENCIL_WRITE\n\
+             pass q\nuse {name} mip 0 DEPTH_STENCIL_WRITE\nuse {name} mip 1 STORAGE_READ_WRITE\nuse {name} mip 2 COLOR_TARGET\n"
+        );
+        let (status, shown, _) = shown("widths.frame", frame);
+        assert_eq!(status, Some(0));
+        let told = shown.lines().filter(|line| !line.starts_with("──")).collect::<Vec<_>>().join("\n");
+        assert!(longest(&told) <= 80, "{shown}");
+        longest_lines.push(longest(&told));
+    }
+    assert!(longest_lines.contains(&80));
+}

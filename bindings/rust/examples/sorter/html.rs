@@ -15,7 +15,12 @@ const WORDS: usize = 2000;
 /// In a pass of more uses they are not looked through for each cell.
 const USES: usize = 1000;
 
-const TWICE: &str = "The frame, and the same frame again";
+/// The title of the first picture and what is said of it, without a conflict and with one.
+const TWICE: (&str, &str) = (
+    "The frame, and the same frame again",
+    "The second frame begins with what the first one left; every further frame is like it.",
+);
+const ONCE: (&str, &str) = ("The frame", "The frame has a conflict as it is written and ends there.");
 const STYLE: &str = include_str!("page.css");
 const ABOUT: &str = include_str!("about.html");
 
@@ -23,8 +28,9 @@ const ABOUT: &str = include_str!("about.html");
 pub fn page(frame: &Frame, name: &str) -> Result<(String, bool), Refusal> {
     let picture = Picture::new(frame, None, 2)?;
     let mut body = format!("<header>\n{}{}</header>\n", head(frame, name), legend(frame));
-    body += &section(TWICE, &twice(&picture), &picture);
-    let mut lists = list(TWICE, &picture);
+    let (title, said) = if picture.passes { TWICE } else { ONCE };
+    body += &section(title, &tag("p", "", said), &picture);
+    let mut lists = list(title, &picture);
     for late in frame.late.iter().filter(|_| picture.passes) {
         let said: String = explain(frame, late).iter().map(|one| tag("p", "", &text(one))).collect();
         let picture = Picture::new(frame, Some(late), 1)?;
@@ -41,15 +47,6 @@ pub fn page(frame: &Frame, name: &str) -> Result<(String, bool), Refusal> {
          <title>{title}, pass by pass</title>\n<style>\n{STYLE}</style>\n</head>\n<body>\n{body}</body>\n</html>\n"
     );
     Ok((page, picture.passes))
-}
-
-fn twice(picture: &Picture) -> String {
-    let said = if picture.passes {
-        "The second frame begins with what the first one left; every further frame is like it."
-    } else {
-        "The frame has a conflict as it is written and ends there."
-    };
-    tag("p", "", said)
 }
 
 /// Text that stands for itself.

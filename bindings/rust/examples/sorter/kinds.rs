@@ -3,7 +3,7 @@ use texture_tracker::{uses, State};
 
 #[derive(Clone, Copy, PartialEq, Eq)]
 pub enum Kind {
-    /// No use yet, or none that has contents.
+    /// Nothing is in it that a use could want.
     Nothing,
     Read,
     Copied,
@@ -57,7 +57,7 @@ impl Kind {
 
     pub fn words(self) -> &'static str {
         match self {
-            Kind::Nothing => "not used yet",
+            Kind::Nothing => "no contents",
             Kind::Read => "read",
             Kind::Copied => "copied into",
             Kind::Drawn => "drawn to",
