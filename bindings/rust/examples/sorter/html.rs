@@ -10,7 +10,7 @@ use super::{
 use texture_tracker::*;
 
 /// A larger picture is drawn up to so many cells, and told up to so many transitions.
-const CELLS: usize = 60_000;
+const CELLS: usize = 24_000;
 const WORDS: usize = 2000;
 /// In a pass of more uses they are not looked through for each cell.
 const USES: usize = 1000;
