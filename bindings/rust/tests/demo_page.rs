@@ -105,7 +105,7 @@ fn the_late_use_of_its_own_frame() {
                     line 42: use beans RESOURCE line 25: use beans mip 0 layer 5 COPY_DST as camera-5";
     assert_eq!(camera_5[10], format!("R ✗ CDConflict in pass 5 classify: {conflict}"));
     assert!(text(&page).contains(conflict), "the conflict is told above the picture, too");
-    assert_eq!(page.matches("<b class=\"clash\" aria-hidden=\"true\">").count(), 1);
+    assert_eq!(page.matches("<b class=\"clash\">R ✗ CD</b>").count(), 1);
     assert_eq!(page.matches("✗ turned down").count(), 1);
 }
 
@@ -120,6 +120,7 @@ fn for_screen_readers_and_paper() {
         "scope=\"colgroup\"",
         "scope=\"row\"",
         "scope=\"rowgroup\"",
+        "aria-label=\"transition\"",
     ] {
         assert!(page.contains(part), "{part}");
     }

@@ -190,7 +190,7 @@ fn gap(picture: &Picture, column: &Column, cell: &Cell, place: &str) -> String {
     let (old, new) = (uses::name(from), uses::name(to));
     let words = text(&format!("Before pass {number} {pass} the driver is told: {place}: {old} → {new}"));
     let (from, to) = (kinds::kind(from).class(), kinds::kind(to).class());
-    let arrow = format!("<b class=\"arrow from-{from} to-{to}\"></b><span class=\"tip\">{words}</span>");
+    let arrow = format!("<b class=\"arrow from-{from} to-{to}\" role=\"img\" aria-label=\"transition\"></b><span class=\"tip\">{words}</span>");
     tag("td", &format!("class=\"gap change{start}\" tabindex=\"0\""), &arrow)
 }
 
@@ -226,7 +226,7 @@ fn block(picture: &Picture, column: &Column, cell: &Cell, place: &Place) -> Stri
 }
 
 fn cell_of(class: &str, code: &str, words: &str) -> String {
-    let inside = format!("<b class=\"{class}\" aria-hidden=\"true\">{code}</b><span class=\"tip\">{words}</span>");
+    let inside = format!("<b class=\"{class}\">{code}</b><span class=\"tip\">{words}</span>");
     tag("td", "class=\"use\" tabindex=\"0\"", &inside)
 }
 
