@@ -190,7 +190,8 @@ fn gap(picture: &Picture, column: &Column, cell: &Cell, place: &str) -> String {
     let (old, new) = (uses::name(from), uses::name(to));
     let words = text(&format!("Before pass {number} {pass} the driver is told: {place}: {old} → {new}"));
     let (from, to) = (kinds::kind(from).class(), kinds::kind(to).class());
-    let arrow = format!("<b class=\"arrow from-{from} to-{to}\" role=\"img\" aria-label=\"transition\"></b><span class=\"tip\">{words}</span>");
+    let arrow = tag("b", &format!("class=\"arrow from-{from} to-{to}\" role=\"img\" aria-label=\"transition\""), "");
+    let arrow = format!("{arrow}<span class=\"tip\">{words}</span>");
     tag("td", &format!("class=\"gap change{start}\" tabindex=\"0\""), &arrow)
 }
 
