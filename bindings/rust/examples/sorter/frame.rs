@@ -2,206 +2,296 @@
 //!
 //! What a line may say of textures, mips, layers and states is not decided here: each use is tried on a scope of its
 //! own, and the library's refusal is what is wrong with the line.
-use std::{fmt, ops::Range};
+use super::{
+    area::{layers, mips, part},
+    input, kinds,
+};
+use std::{
+    collections::{HashMap, HashSet},
+    ops::Range,
+};
 use texture_tracker::*;
 
-pub struct Frame {
-    pub textures: Vec<(String, Texture)>,
-    pub passes: Vec<Pass>,
-    pub late: Vec<Late>,
+const MOST_IN_NAME: usize = 24;
+
+#[derive(Default)]
+pub struct Frame<'a> {
+    lines: Vec<&'a str>,
+    pub textures: Vec<(&'a str, Texture)>,
+    pub passes: Vec<Pass<'a>>,
+    pub late: Vec<Late<'a>>,
+    named: Named<'a>,
+    /// A scope for each texture, to try a use on.
+    trials: Vec<UsageScope>,
 }
 
-#[derive(Clone)]
-pub struct Pass {
-    pub name: String,
+pub struct Pass<'a> {
+    pub name: &'a str,
     pub uses: Vec<Use>,
 }
 
-#[derive(Clone)]
 pub struct Use {
+    /// Where it stands in the file, from 1.
+    pub line: usize,
     pub texture: Texture,
+    /// None for all of the texture.
     pub selector: Option<Selector>,
     pub state: State,
-    pub name: Option<String>,
 }
 
-/// A use, by its name, that is left out of its pass and made in another, by its position.
-pub struct Late {
-    pub name: String,
+/// Uses that are left out of their passes and made in another one, by its position.
+pub struct Late<'a> {
+    pub names: Vec<&'a str>,
+    /// Their lines.
+    lines: Vec<usize>,
     pub pass: usize,
 }
 
-/// A line that makes no sense.
-pub struct BadLine {
-    number: usize,
-    line: String,
-    what: String,
-}
-
-impl fmt::Display for BadLine {
-    fn fmt(&self, f: &mut fmt::Formatter<'_>) -> fmt::Result {
-        let Self { number, line, what } = self;
-        write!(f, "line {number}: {line}\n    {what}")
-    }
+/// What has a name, by it.
+#[derive(Default)]
+struct Named<'a> {
+    textures: HashMap<&'a str, usize>,
+    passes: HashMap<&'a str, usize>,
+    /// A use: its pass, and its position there.
+    uses: HashMap<&'a str, (usize, usize)>,
+    /// The first named use of that layer alone, as a camera has: texture, mip and layer.
+    labels: HashMap<(TrackerIndex, u32, u32), &'a str>,
 }
 
 type Told<T> = Result<T, String>;
 
-/// How many textures a frame has, and an extent that none of them exceeds: what sets are opened with.
-pub fn size(textures: &[(String, Texture)]) -> (u32, Extent) {
-    let most = |of: fn(Extent) -> u32| textures.iter().map(|(_, texture)| of(texture.extent)).max();
-    let largest =
-        Extent { mips: most(|extent| extent.mips).unwrap_or(0), layers: most(|extent| extent.layers).unwrap_or(0) };
-    (textures.len() as u32, largest)
+impl Use {
+    pub fn part(&self) -> Selector {
+        self.selector.unwrap_or(self.texture.extent.full_range())
+    }
 }
 
-impl Frame {
-    pub fn read(text: &str) -> Result<Self, BadLine> {
-        let mut frame = Self { textures: vec![], passes: vec![], late: vec![] };
-        for (at, line) in text.lines().enumerate() {
-            let said = line.split('#').next().unwrap_or_default();
+impl<'a> Frame<'a> {
+    pub fn read(text: &'a str) -> Told<Self> {
+        let mut frame = Self { lines: text.lines().collect(), ..Self::default() };
+        for at in 1..=frame.lines.len() {
+            let said = frame.said(at);
             let words: Vec<&str> = said.split_whitespace().collect();
-            frame.line(&words).map_err(|what| BadLine { number: at + 1, line: said.trim().to_string(), what })?;
+            frame.line(at, &words).map_err(|what| format!("line {at}: {}\n    {what}", input::told(said)))?;
         }
-        Ok(frame)
+        match (frame.textures.is_empty(), frame.passes.is_empty()) {
+            (true, _) => {
+                Err("the frame has no texture: write one as in bindings/rust/examples/sorter/demo.frame".into())
+            }
+            (_, true) => Err("the frame has no pass: write one as in bindings/rust/examples/sorter/demo.frame".into()),
+            _ => Ok(frame),
+        }
     }
 
-    fn line(&mut self, words: &[&str]) -> Told<()> {
+    /// What a line says, from 1, without its comment.
+    pub fn said(&self, line: usize) -> &'a str {
+        self.lines[line - 1].split('#').next().unwrap_or_default().trim()
+    }
+
+    fn line(&mut self, at: usize, words: &[&'a str]) -> Told<()> {
         match words {
             [] => Ok(()),
             ["texture", name, "mips", mips, "layers", layers] => self.texture(name, mips, layers),
-            ["texture", ..] => Err("a texture is written: texture NAME mips M layers W".to_string()),
+            ["texture", ..] => Err("a texture is written: texture NAME mips M layers W".into()),
             ["pass", name] => self.pass(name),
-            ["pass", ..] => Err("a pass is written: pass NAME".to_string()),
-            ["use", name, rest @ ..] => self.use_of(name, rest),
-            ["use"] => Err("a use is written: use TEXTURE PART STATE".to_string()),
-            ["late", name, pass] => self.late(name, pass),
-            ["late", ..] => Err("a late use is written: late NAME PASS".to_string()),
-            [word, ..] => Err(format!("\"{word}\" is none of: texture, pass, use, late")),
+            ["pass", ..] => Err("a pass is written: pass NAME".into()),
+            ["use", name, rest @ ..] => self.use_of(at, name, rest),
+            ["use"] => Err("a use is written: use TEXTURE PART STATE".into()),
+            ["late", first, rest @ .., pass] => self.late(first, rest, pass),
+            ["late", ..] => Err("late uses are written: late NAME PASS, or late NAME NAME .. PASS".into()),
+            [word, ..] => Err(format!("\"{}\" is none of: texture, pass, use, late", input::told(word))),
         }
     }
 
-    fn texture(&mut self, name: &str, mips: &str, layers: &str) -> Told<()> {
+    fn texture(&mut self, name: &'a str, mips: &str, layers: &str) -> Told<()> {
         if !self.passes.is_empty() {
-            return Err("textures come before the first pass".to_string());
+            return Err("textures come before the first pass".into());
         }
-        if self.textures.iter().any(|(known, _)| known == name) {
+        let index = self.textures.len();
+        if self.named.textures.insert(proper(name)?, index).is_some() {
             return Err(format!("there is a texture {name} already"));
         }
-        let extent = Extent { mips: number(mips)?, layers: number(layers)? };
-        let index = TrackerIndex(self.textures.len() as u32);
-        UsageScope::open(index.0 + 1, extent, uses::FLAGS).map_err(|refusal| refusal.to_string())?;
-        self.textures.push((name.to_string(), Texture { index, extent }));
+        let extent = Extent { mips: number("mips", mips)?, layers: number("layers", layers)? };
+        let open = |textures, mips, layers| UsageScope::open(textures, Extent { mips, layers }, uses::FLAGS);
+        let out = |what: String| move |refusal| format!("{what} is out of range: {refusal}");
+        open(index as u32 + 1, 1, 1).map_err(out(format!("texture number {}", index + 1)))?;
+        open(1, extent.mips, 1).map_err(out(format!("mips {mips}")))?;
+        open(1, 1, extent.layers).map_err(out(format!("layers {layers}")))?;
+        self.trials.push(open(1, extent.mips, extent.layers).map_err(|refusal| refusal.to_string())?);
+        self.textures.push((name, Texture { index: TrackerIndex(index as u32), extent }));
         Ok(())
     }
 
-    fn pass(&mut self, name: &str) -> Told<()> {
-        if self.passes.iter().any(|pass| pass.name == name) {
+    fn pass(&mut self, name: &'a str) -> Told<()> {
+        if self.named.passes.insert(proper(name)?, self.passes.len()).is_some() {
             return Err(format!("there is a pass {name} already"));
         }
-        self.passes.push(Pass { name: name.to_string(), uses: vec![] });
+        self.passes.push(Pass { name, uses: vec![] });
         Ok(())
     }
 
-    fn use_of(&mut self, name: &str, rest: &[&str]) -> Told<()> {
-        let named = |(known, _): &&(String, Texture)| known == name;
-        let (_, texture) = self.textures.iter().find(named).ok_or(format!("there is no texture {name}"))?;
-        let made = read_use(*texture, rest)?;
-        if made.name.is_some() && self.uses().any(|known| known.name == made.name) {
-            return Err(format!("there is a use named {} already", made.name.unwrap_or_default()));
-        }
+    fn use_of(&mut self, line: usize, texture: &str, rest: &[&'a str]) -> Told<()> {
+        let known = self.named.textures.get(texture);
+        let at = *known.ok_or_else(|| format!("there is no texture {}", input::told(texture)))?;
+        let (made, name) = read_use(line, self.textures[at].1, rest)?;
         self.try_alone(&made)?;
-        let pass = self.passes.last_mut().ok_or("a use comes after the pass that makes it")?;
-        pass.uses.push(made);
+        let home = self.passes.len().checked_sub(1).ok_or("a use comes after the pass that makes it")?;
+        if let Some(name) = name {
+            if self.named.uses.insert(proper(name)?, (home, self.passes[home].uses.len())).is_some() {
+                return Err(format!("there is a use named {name} already"));
+            }
+            self.label(&made, name);
+        }
+        self.passes[home].uses.push(made);
         Ok(())
     }
 
-    /// What the library says of a use.
-    fn try_alone(&self, made: &Use) -> Told<()> {
-        let (textures, largest) = size(&self.textures);
-        let scope = UsageScope::open(textures, largest, uses::FLAGS);
-        let mut scope = scope.map_err(|refusal| refusal.to_string())?;
-        let answer = scope.merge_single(made.texture, made.selector.clone(), made.state);
-        answer.map_err(|refused| refused.to_string())
+    /// What the library says of a use, and which number it means.
+    fn try_alone(&mut self, made: &Use) -> Told<()> {
+        let alone = Texture { index: TrackerIndex(0), extent: made.texture.extent };
+        let trial = &mut self.trials[made.texture.index.0 as usize];
+        trial.clear();
+        let answer = trial.merge_single(alone, made.selector, made.state);
+        answer.map_err(|refused| format!("{}{refused}", wrong_number(made)))
     }
 
-    fn late(&mut self, name: &str, pass: &str) -> Told<()> {
-        let makes = |known: &Pass| known.uses.iter().any(|made| made.name.as_deref() == Some(name));
-        let home = self.passes.iter().find(|known| makes(known)).ok_or(format!("there is no use named {name}"))?;
-        if home.name == pass {
-            return Err(format!("{name} is made in pass {pass} as it is"));
+    fn label(&mut self, made: &Use, name: &'a str) {
+        let part = made.part();
+        if layers(&part).len() == 1 {
+            for mip in mips(&part) {
+                let place = (made.texture.index, mip, layers(&part).start);
+                self.named.labels.entry(place).or_insert(name);
+            }
         }
-        if self.late.iter().any(|late| late.name == name) {
-            return Err(format!("{name} is late already"));
+    }
+
+    fn late(&mut self, first: &'a str, rest: &[&'a str], pass: &str) -> Told<()> {
+        let known = self.named.passes.get(pass);
+        let position = *known.ok_or_else(|| format!("there is no pass {}", input::told(pass)))?;
+        let mut late = Late { names: vec![], lines: vec![], pass: position };
+        let mut seen = HashSet::new();
+        for &name in [first].iter().chain(rest) {
+            let known = self.named.uses.get(name);
+            let &(home, at) = known.ok_or_else(|| format!("there is no use named {}", input::told(name)))?;
+            if home == position {
+                return Err(format!("{name} is made in pass {pass} as it is"));
+            }
+            if !seen.insert(name) {
+                return Err(format!("{name} is named twice"));
+            }
+            late.names.push(name);
+            late.lines.push(self.passes[home].uses[at].line);
         }
-        let position = self.passes.iter().position(|known| known.name == pass);
-        let pass = position.ok_or(format!("there is no pass {pass}"))?;
-        self.late.push(Late { name: name.to_string(), pass });
+        self.late.push(late);
         Ok(())
     }
 
-    pub fn uses(&self) -> impl Iterator<Item = &Use> {
-        self.passes.iter().flat_map(|pass| &pass.uses)
+    /// The uses of a pass, with late ones left out of it or added to it.
+    pub fn uses_of<'b>(&'b self, pass: usize, late: Option<&'b Late>) -> Vec<&'b Use> {
+        let lines: &[usize] = late.map_or(&[], |late| &late.lines);
+        let made = self.passes[pass].uses.iter().filter(|made| !lines.contains(&made.line));
+        let added = late.filter(|late| late.pass == pass).map_or(&[][..], |late| &late.names);
+        made.chain(added.iter().map(|name| self.named_use(name).1)).collect()
     }
 
-    /// The passes with every late use where it is late.
-    pub fn with_late(&self) -> Vec<Pass> {
-        let mut passes = self.passes.clone();
-        for late in &self.late {
-            let is_late = |made: &mut Use| made.name.as_ref() == Some(&late.name);
-            let taken: Vec<Use> = passes.iter_mut().flat_map(|pass| pass.uses.extract_if(.., is_late)).collect();
-            passes[late.pass].uses.extend(taken);
-        }
-        passes
+    /// The pass of a named use, by its position, and the use.
+    pub fn named_use(&self, name: &str) -> (usize, &Use) {
+        let (home, at) = self.named.uses[name];
+        (home, &self.passes[home].uses[at])
+    }
+
+    pub fn texture_name(&self, index: TrackerIndex) -> &'a str {
+        self.textures[index.0 as usize].0
+    }
+
+    pub fn label_of(&self, index: TrackerIndex, mip: u32, layer: u32) -> Option<&'a str> {
+        self.named.labels.get(&(index, mip, layer)).copied()
+    }
+
+    /// How many textures there are, and an extent that none of them exceeds: what sets are opened with.
+    pub fn size(&self) -> (u32, Extent) {
+        let most = |of: fn(Extent) -> u32| self.textures.iter().map(|(_, texture)| of(texture.extent)).max();
+        let largest = Extent { mips: most(|one| one.mips).unwrap_or(0), layers: most(|one| one.layers).unwrap_or(0) };
+        (self.textures.len() as u32, largest)
+    }
+
+    /// In words: how many of everything.
+    pub fn facts(&self) -> String {
+        let count = |number: usize, one: &str, many: &str| format!("{number} {}", if number == 1 { one } else { many });
+        let made = self.passes.iter().map(|pass| pass.uses.len()).sum();
+        let textures = count(self.textures.len(), "texture", "textures");
+        let passes = count(self.passes.len(), "pass", "passes");
+        format!("{textures}, {passes}, {}", count(made, "use", "uses"))
     }
 }
 
-fn number(word: &str) -> Told<u32> {
-    word.parse().map_err(|_| format!("\"{word}\" is not a number below 4294967296"))
+/// A name that can be shown wherever it has to be.
+fn proper(name: &str) -> Told<&str> {
+    let good = |one: char| one.is_alphanumeric() || "-_.:/+".contains(one);
+    if name.chars().count() > MOST_IN_NAME {
+        return Err(format!("the name {} has more than {MOST_IN_NAME} characters", input::told(name)));
+    }
+    match name.chars().find(|&one| !good(one)) {
+        Some(bad) => Err(format!("a name has letters, digits and - _ . : / + only, not {}", bad.escape_debug())),
+        None => Ok(name),
+    }
 }
 
-/// Where mips or layers end whose last one is this.
-fn after(last: u32, word: &str) -> Told<u32> {
-    last.checked_add(1).ok_or(format!("{word} {last} is past the texture"))
+fn number(what: &str, word: &str) -> Told<u32> {
+    word.parse().map_err(|_| format!("{what}: \"{}\" is not a whole number from 0 to {}", input::told(word), u32::MAX))
 }
 
 /// Takes mips or layers off the words, if they are there.
-fn span<'a>(words: &'a [&'a str], one: &str, many: &str) -> Told<(Option<Range<u32>>, &'a [&'a str])> {
+fn span<'w, 'a>(words: &'w [&'a str], one: &str, many: &str) -> Told<(Option<Range<u32>>, &'w [&'a str])> {
+    let after = |last: u32| last.checked_add(1).ok_or(format!("{one} {last} is out of range"));
     match words {
         [word, first, "to", last, rest @ ..] if *word == many => {
-            Ok((Some(number(first)?..after(number(last)?, one)?), rest))
+            Ok((Some(number(many, first)?..after(number(many, last)?)?), rest))
         }
         [word, at, rest @ ..] if *word == one => {
-            let at = number(at)?;
-            Ok((Some(at..after(at, one)?), rest))
+            let at = number(one, at)?;
+            Ok((Some(at..after(at)?), rest))
         }
         [word, ..] if *word == one || *word == many => Err(format!("write: {one} NUMBER, or {many} NUMBER to NUMBER")),
         _ => Ok((None, words)),
     }
 }
 
-fn read_use(texture: Texture, words: &[&str]) -> Told<Use> {
+/// A use and its name.
+fn read_use<'a>(line: usize, texture: Texture, words: &[&'a str]) -> Told<(Use, Option<&'a str>)> {
     let (mips, words) = span(words, "mip", "mips")?;
     let (layers, words) = span(words, "layer", "layers")?;
-    let (state, name) = match words {
-        [state] => (state, None),
-        [state, "as", name] => (state, Some(name.to_string())),
-        _ => return Err("write the use: PART, then STATE, then, if it has a name, as NAME".to_string()),
+    let (names, name) = match words {
+        [names] => (names, None),
+        [names, "as", name] => (names, Some(*name)),
+        _ => return Err("write the use: PART, then STATE, then, if it has a name, as NAME".into()),
     };
-    Ok(Use {
-        texture,
-        selector: selector(texture.extent, mips, layers),
-        state: uses::from_name(state).ok_or(format!("{state} is not a use that wgpu knows"))?,
-        name,
+    let all = texture.extent;
+    let whole = mips.is_none() && layers.is_none();
+    let selector = part(mips.unwrap_or(0..all.mips), layers.unwrap_or(0..all.layers));
+    let state = names.split('|').try_fold(State(0), |all, name| Ok::<_, String>(all | use_named(name)?))?;
+    Ok((Use { line, texture, selector: (!whole).then_some(selector), state }, name))
+}
+
+fn use_named(name: &str) -> Told<State> {
+    uses::from_name(name).ok_or_else(|| {
+        let known: Vec<String> = kinds::USES.iter().map(|(state, ..)| uses::name(*state)).collect();
+        let lines: Vec<String> = known.chunks(4).map(|few| few.join(", ")).collect();
+        format!("{} is not a use that wgpu knows. These are:\n      {}", input::told(name), lines.join(",\n      "))
     })
 }
 
-/// None for all of the texture.
-fn selector(extent: Extent, mips: Option<Range<u32>>, layers: Option<Range<u32>>) -> Option<Selector> {
-    if mips.is_none() && layers.is_none() {
-        return None;
+/// Which number of a refused use is meant, if it is one.
+fn wrong_number(made: &Use) -> String {
+    let (part, Extent { mips: all_mips, layers: all_layers }) = (made.part(), made.texture.extent);
+    let sides = [("mip", mips(&part), all_mips), ("layer", layers(&part), all_layers)];
+    for (word, side, all) in sides {
+        if side.is_empty() {
+            return format!("{word}s {} to {} end before they begin: ", side.start, side.end - 1);
+        }
+        if side.end > all {
+            return format!("{word} {} is out of range, the last one is {}: ", side.end - 1, all - 1);
+        }
     }
-    let mips = mips.unwrap_or(0..extent.mips);
-    let layers = layers.unwrap_or(0..extent.layers);
-    Some(Selector::new(Mip(mips.start)..Mip(mips.end), Layer(layers.start)..Layer(layers.end)))
+    String::new()
 }
