@@ -1,135 +1,234 @@
-//! A sorting line with 12 cameras: two frames, and a third in which the picture of camera 7 comes late.
-//!
-//!     twelve-cameras [FILE]      FILE: every call of the tracker is recorded there
-//!
-//! Each frame is a list of passes. Its commands are tracked by themselves and then joined with what the device is in, as
-//! wgpu-core does it. What a driver would be told is printed.
-use std::{env, error::Error, io};
-use texture_tracker::{
-    record::{Recorder, TextureTracker, TransitionLog, UsageScope},
-    uses, Conflict, Extent, Layer, MergeError, Mip, Selector, State, Texture, TrackerIndex,
-};
+//! One frame of an optical sorter with twelve cameras, written from the documents alone: README.md, docs/CALLS.md, docs/RULES.md and the
+//! crate's documentation. What is expected was written down before the first run, with the sentence that it follows from.
+
+use std::fmt::Debug;
+use std::process::ExitCode;
+use texture_tracker::*;
 
 const CAMERAS: u32 = 12;
-/// A layer for each camera, and two smaller pictures of each.
+const LATE: u32 = 7;
 const PICTURES: Texture = Texture::new(TrackerIndex(0), Extent::new(3, CAMERAS));
-/// What good goods look like.
-const REFERENCE: Texture = Texture::new(TrackerIndex(1), Extent::new(1, 1));
-/// What the classifier found.
-const VERDICTS: Texture = Texture::new(TrackerIndex(2), Extent::new(1, 1));
-const TEXTURES: [Texture; 3] = [PICTURES, REFERENCE, VERDICTS];
-const LATE: Layer = Layer(7);
+const VERDICTS: Texture = Texture::new(TrackerIndex(1), Extent::new(1, 1));
 
-/// A use of a part of a texture, or of all of it.
+/// The passes of the frame, in their order.
+#[derive(Clone, Copy, PartialEq)]
+enum Pass {
+    CopyIn,
+    MakeMip1,
+    MakeMip2,
+    Classify,
+    CopyOut,
+}
+const FRAME: [Pass; 5] = [Pass::CopyIn, Pass::MakeMip1, Pass::MakeMip2, Pass::Classify, Pass::CopyOut];
+
 type Use = (Texture, Option<Selector>, State);
+type Told = Vec<Vec<String>>;
 
-struct Pass {
-    name: &'static str,
-    uses: Vec<Use>,
+// ---- Expected -------------------------------------------------------------------------------------------------------
+
+/// The textures are new, so each part comes from UNINITIALIZED. Inside a pass a texture's mips come in their order ("Subresources go mip
+/// first, then layer"). The classifier's read of mips 0 and 1 is not told: they are in RESOURCE already, which ORDERED contains.
+const FIRST: [&[&str]; 5] = [
+    &["texture 0, mip 0, layers 0 to 11: UNINITIALIZED to COPY_DST"],
+    &[
+        "texture 0, mip 0, layers 0 to 11: COPY_DST to RESOURCE",
+        "texture 0, mip 1, layers 0 to 11: UNINITIALIZED to COLOR_TARGET",
+    ],
+    &[
+        "texture 0, mip 1, layers 0 to 11: COLOR_TARGET to RESOURCE",
+        "texture 0, mip 2, layers 0 to 11: UNINITIALIZED to COLOR_TARGET",
+    ],
+    &[
+        "texture 0, mip 2, layers 0 to 11: COLOR_TARGET to RESOURCE",
+        "texture 1, mip 0, layer 0: UNINITIALIZED to STORAGE_WRITE_ONLY",
+    ],
+    &["texture 1, mip 0, layer 0: STORAGE_WRITE_ONLY to COPY_SRC"],
+];
+
+/// The second frame begins where the first ended: pictures in RESOURCE, verdicts in COPY_SRC.
+const SECOND: [&[&str]; 5] = [
+    &["texture 0, mip 0, layers 0 to 11: RESOURCE to COPY_DST"],
+    &[
+        "texture 0, mip 0, layers 0 to 11: COPY_DST to RESOURCE",
+        "texture 0, mip 1, layers 0 to 11: RESOURCE to COLOR_TARGET",
+    ],
+    &[
+        "texture 0, mip 1, layers 0 to 11: COLOR_TARGET to RESOURCE",
+        "texture 0, mip 2, layers 0 to 11: RESOURCE to COLOR_TARGET",
+    ],
+    &[
+        "texture 0, mip 2, layers 0 to 11: COLOR_TARGET to RESOURCE",
+        "texture 1, mip 0, layer 0: COPY_SRC to STORAGE_WRITE_ONLY",
+    ],
+    &["texture 1, mip 0, layer 0: STORAGE_WRITE_ONLY to COPY_SRC"],
+];
+
+/// The third frame, with camera 7 late: its layer of mip 0 stays in RESOURCE, so nothing is told of it. Then comes the conflict.
+const THIRD: [&[&str]; 3] = [
+    &[
+        "texture 0, mip 0, layers 0 to 6: RESOURCE to COPY_DST",
+        "texture 0, mip 0, layers 8 to 11: RESOURCE to COPY_DST",
+    ],
+    &[
+        "texture 0, mip 0, layers 0 to 6: COPY_DST to RESOURCE",
+        "texture 0, mip 0, layers 8 to 11: COPY_DST to RESOURCE",
+        "texture 0, mip 1, layers 0 to 11: RESOURCE to COLOR_TARGET",
+    ],
+    SECOND[2],
+];
+
+const CONFLICT: &str = "texture 0, mip 0, layer 7: in use as RESOURCE, cannot be used as COPY_DST beside it";
+const OTHER_WAY: &str = "texture 0, mip 0, layer 7: in use as COPY_DST, cannot be used as RESOURCE beside it";
+
+// ---- The frame ------------------------------------------------------------------------------------------------------
+
+/// The copy of one camera's picture into mip 0 of its layer.
+fn copy_of(camera: u32) -> Use {
+    (PICTURES, Some(Selector::one(Mip(0), Layer(camera))), uses::COPY_DST)
 }
 
-fn copy_from(camera: Layer) -> Use {
-    (PICTURES, Some(Selector::one(Mip(0), camera)), uses::COPY_DST)
+/// Makes a mip from the one before: reads that one, draws to this one.
+fn make(mip: u32) -> Vec<Use> {
+    let one = |mip| Some(Selector::mip(Mip(mip), PICTURES.extent));
+    vec![(PICTURES, one(mip - 1), uses::RESOURCE), (PICTURES, one(mip), uses::COLOR_TARGET)]
 }
 
-/// One mip is read, the next is written.
-fn shrink(name: &'static str, from: Mip, to: Mip) -> Pass {
-    let all = |mip| Some(Selector::mip(mip, PICTURES.extent));
-    Pass { name, uses: vec![(PICTURES, all(from), uses::RESOURCE), (PICTURES, all(to), uses::COLOR_TARGET)] }
+fn uses_of(pass: Pass, late: Option<u32>) -> Vec<Use> {
+    match pass {
+        Pass::CopyIn => (0..CAMERAS).filter(|&camera| Some(camera) != late).map(copy_of).collect(),
+        Pass::MakeMip1 => make(1),
+        Pass::MakeMip2 => make(2),
+        Pass::Classify => {
+            let mut all = vec![(PICTURES, None, uses::RESOURCE), (VERDICTS, None, uses::STORAGE_WRITE_ONLY)];
+            all.extend(late.map(copy_of));
+            all
+        }
+        Pass::CopyOut => vec![(VERDICTS, None, uses::COPY_SRC)],
+    }
 }
 
-/// The passes of a frame. A late camera is not copied with the others, but still while the classifier reads.
-fn frame(late: Option<Layer>) -> Vec<Pass> {
-    let in_time = (0..CAMERAS).map(Layer).filter(|camera| Some(*camera) != late);
-    let screen = (PICTURES, Some(Selector::new(Mip(0), Layer(2)..Layer(4))), uses::COPY_SRC);
-    let mut classify = vec![
-        (PICTURES, None, uses::RESOURCE),
-        (REFERENCE, None, uses::RESOURCE),
-        (VERDICTS, None, uses::STORAGE_WRITE_ONLY),
-    ];
-    classify.push(screen);
-    classify.extend(late.map(copy_from));
-    vec![
-        Pass { name: "cameras", uses: in_time.map(copy_from).collect() },
-        shrink("half", Mip(0), Mip(1)),
-        shrink("quarter", Mip(1), Mip(2)),
-        Pass { name: "classify", uses: classify },
-        Pass { name: "jets", uses: vec![(VERDICTS, None, uses::COPY_SRC)] },
-    ]
-}
-
-/// The device, and what each frame needs again.
-struct Line {
+/// What keeps account of the device, and the memory of a pass.
+struct Sorter {
     device: TextureTracker,
-    commands: TextureTracker,
-    pass: UsageScope,
+    scope: UsageScope,
     log: TransitionLog,
 }
 
-impl Line {
-    fn open(recorder: &Recorder) -> Result<Self, Box<dyn Error>> {
-        let (textures, largest) = (TEXTURES.len().try_into()?, PICTURES.extent);
-        let tracker = || recorder.open_tracker(textures, largest, uses::FLAGS, uses::ORDERED);
-        let log = texture_tracker::TransitionLog::with_room_for(textures, largest);
-        let mut line = Self {
-            device: tracker()?,
-            commands: tracker()?,
-            pass: recorder.open_scope(textures, largest, uses::FLAGS)?,
-            log: recorder.log(log),
+impl Sorter {
+    fn open() -> Result<Self, Refusal> {
+        let largest = PICTURES.extent;
+        let mut sorter = Self {
+            device: TextureTracker::open(2, largest, uses::FLAGS, uses::ORDERED)?,
+            scope: UsageScope::open(2, largest, uses::FLAGS)?,
+            log: TransitionLog::with_room_for(2, largest),
         };
-        for texture in TEXTURES {
-            line.device.set_single(texture, texture.extent.full_range(), uses::UNINITIALIZED, &mut line.log)?;
+        for new in [PICTURES, VERDICTS] {
+            sorter.device.set_single(new, new.extent.full_range(), uses::UNINITIALIZED, &mut sorter.log)?;
         }
-        Ok(line)
+        Ok(sorter)
     }
 
-    /// The conflict that keeps the frame from being run, if there is one; the device is then as it was.
-    fn run(&mut self, passes: &[Pass]) -> Result<Option<Conflict>, Box<dyn Error>> {
-        self.commands.clear();
-        for Pass { name, uses } in passes {
-            self.pass.clear();
-            for &(texture, selector, state) in uses {
-                match self.pass.merge_single(texture, selector, state) {
-                    Err(MergeError::Conflict(found)) => return Ok(Some(found)),
-                    answer => answer?,
-                }
+    /// One pass: its uses in one scope, then the device goes on to it, then the driver is told.
+    fn pass(&mut self, pass: Pass, late: Option<u32>) -> Result<Vec<String>, MergeError> {
+        self.scope.clear();
+        for (texture, selector, state) in uses_of(pass, late) {
+            self.scope.merge_single(texture, selector, state)?;
+        }
+        self.device.set_from_usage_scope(&self.scope, &mut self.log)?;
+        Ok(self.log.drain_transitions().map(|each| format!("{each:#}")).collect())
+    }
+
+    /// A frame up to its end, or up to the pass that has a conflict: what was told in each pass, and why it stopped.
+    fn frame(&mut self, late: Option<u32>) -> (Told, Option<MergeError>) {
+        let mut told = Told::new();
+        for pass in FRAME {
+            match self.pass(pass, late) {
+                Ok(transitions) => told.push(transitions),
+                Err(error) => return (told, Some(error)),
             }
-            self.commands.set_from_usage_scope(&self.pass, &mut self.log)?;
-            self.tell(name);
         }
-        self.device.set_from_tracker(&self.commands, &mut self.log)?;
-        self.tell("before the frame");
-        Ok(None)
+        (told, None)
     }
 
-    fn tell(&mut self, when: &str) {
-        for transition in self.log.drain_transitions() {
-            println!("  {when:17}{transition:#}");
-        }
+    fn ends(&self) -> [Option<State>; 2] {
+        [PICTURES, VERDICTS].map(|texture| self.device.end(texture.index).and_then(|states| states.single()))
     }
+}
 
-    fn show(&self) {
-        for index in self.device.owned() {
-            if let Some(states) = self.device.end(index) {
-                print!("\n{}", states.grid(uses::name));
-            }
+// ---- Checking -------------------------------------------------------------------------------------------------------
+
+#[derive(Default)]
+struct Checks {
+    made: u32,
+    wrong: u32,
+}
+
+impl Checks {
+    fn same<T: PartialEq + Debug>(&mut self, what: &str, got: T, expected: T) {
+        self.made += 1;
+        if got != expected {
+            self.wrong += 1;
+            eprintln!("{what}:\n  expected {expected:#?}\n  got      {got:#?}");
         }
     }
 }
 
-fn main() -> Result<(), Box<dyn Error>> {
-    let recorder = match env::args_os().nth(1) {
-        Some(path) => Recorder::create(path)?,
-        None => Recorder::new(io::sink()),
+fn lines(expected: &[&[&str]]) -> Told {
+    expected.iter().map(|pass| pass.iter().map(|line| line.to_string()).collect()).collect()
+}
+
+fn run(checks: &mut Checks) -> Result<(), Box<dyn std::error::Error>> {
+    let mut sorter = Sorter::open()?;
+    checks.same("nothing is told of new textures", sorter.log.is_empty(), true);
+
+    checks.same("the first frame", sorter.frame(None), (lines(&FIRST), None));
+    checks.same("the end of the first frame", sorter.ends(), [Some(uses::RESOURCE), Some(uses::COPY_SRC)]);
+    let after_first = sorter.device.clone();
+
+    checks.same("the second frame", sorter.frame(None), (lines(&SECOND), None));
+    checks.same("the second frame ends as the first", &sorter.device, &after_first);
+    let start = sorter.device.start(PICTURES.index).and_then(|states| states.single());
+    checks.same("the device's start", start, Some(uses::UNINITIALIZED));
+
+    // Camera 7's copy is left out of its pass and goes on while the classifier reads.
+    let (told, error) = sorter.frame(Some(LATE));
+    checks.same("what was told before the conflict", told, lines(&THIRD));
+    let conflict = Conflict {
+        index: PICTURES.index,
+        selector: Selector::one(Mip(0), Layer(LATE)),
+        current_state: uses::RESOURCE,
+        new_state: uses::COPY_DST,
     };
-    let mut line = Line::open(&recorder)?;
-    for (title, late) in [("First frame", None), ("Second frame", None), ("Camera 7 is late", Some(LATE))] {
-        println!("\n{title}");
-        if let Some(conflict) = line.run(&frame(late))? {
-            println!("  not run: {conflict:#}");
-        }
-        line.show();
+    if let Some(error) = error {
+        println!("conflict: {error:#}");
     }
-    recorder.finish()?;
+    checks.same("the conflict", error, Some(MergeError::Conflict(conflict)));
+    checks.same("the conflict in words", error.map(|error| format!("{error:#}")), Some(CONFLICT.to_string()));
+    // "Whole with parted: on a conflict nothing of it changes."
+    let read = sorter.scope.states(PICTURES.index).and_then(|states| states.single());
+    checks.same("the scope after the conflict", read, Some(uses::RESOURCE));
+    checks.same("nothing was told of the pass in conflict", sorter.log.is_empty(), true);
+    let mip_2 = sorter.device.end(PICTURES.index).and_then(|states| states.state(Mip(2), Layer(0)));
+    checks.same("the device is where the pass before left it", mip_2, Some(uses::COLOR_TARGET));
+
+    // The same mistake, the copy first: "the first conflict stops, what was changed before it stays changed".
+    sorter.scope.clear();
+    let (texture, selector, state) = copy_of(LATE);
+    sorter.scope.merge_single(texture, selector, state)?;
+    let error = sorter.scope.merge_single(PICTURES, None, uses::RESOURCE).err();
+    checks.same("the conflict, the copy first", error.map(|error| format!("{error:#}")), Some(OTHER_WAY.to_string()));
+    let states = sorter.scope.states(PICTURES.index).ok_or("the scope has no pictures")?;
+    let around = [LATE - 1, LATE, LATE + 1].map(|layer| states.state(Mip(0), Layer(layer)));
+    checks.same("what is merged then", around, [Some(uses::RESOURCE), Some(uses::COPY_DST), Some(uses::UNKNOWN)]);
     Ok(())
+}
+
+fn main() -> ExitCode {
+    let mut checks = Checks::default();
+    if let Err(error) = run(&mut checks) {
+        eprintln!("stranger in Rust: {error}");
+        return ExitCode::FAILURE;
+    }
+    println!("stranger in Rust: {} checks, {} wrong", checks.made, checks.wrong);
+    if checks.wrong == 0 { ExitCode::SUCCESS } else { ExitCode::FAILURE }
 }
