@@ -14,6 +14,11 @@
  *     if (tt_done(answer)) answer = tt_merge_single(pass, beans, camera_5, TRACK_USE_COPY_DST);
  *     // answer.kind is TRACK_CONFLICT, answer.layer_start 5, answer.old_state TRACK_USE_RESOURCE
  *
+ * A pass in conflict must not run: open its scope again, and do not hand it to a tracker, since part of the rejected use may be in it.
+ *
+ * A first use is taken as what the texture already is, and nothing is logged. In a device's tracker set each new texture to
+ * TRACK_USE_UNINITIALIZED first, all of it; otherwise the driver is not told of its first uses.
+ *
  * This header only forms the calls of track.h, which has the answers, the refusals and the layout of the memory; the library decides. Two
  * refusals are this header's own (enum tt_refusal). The calls on ranges by themselves are in track.h alone.
  *
@@ -63,7 +68,8 @@
 
 /* The uses that write: PRESENT, COPY_DST, COLOR_TARGET, DEPTH_STENCIL_WRITE, STORAGE_WRITE_ONLY, _READ_WRITE and _ATOMIC. */
 #define TRACK_USE_EXCLUSIVE 0x0eaau
-/* The uses that hardware commonly keeps in order by itself: those that read, and attachments. wgpu asks the device for them. */
+/* The uses that hardware commonly keeps in order by itself: COPY_SRC, RESOURCE, COLOR_TARGET, DEPTH_STENCIL_READ, DEPTH_STENCIL_WRITE and
+ * STORAGE_READ_ONLY. wgpu asks the device for them. */
 #define TRACK_USE_ORDERED 0x01f4u
 
 /* ---- Values ------------------------------------------------------------------------------------------------------------------ */
@@ -135,7 +141,8 @@ static inline tt_layers tt_layer(uint32_t layer)
     return layers;
 }
 
-/* All mips and layers of a texture. */
+/* All mips and layers of a texture. One mip of all layers is { .mips = tt_mip(1), .layers = tt_all(texture).layers }; one layer of all
+ * mips is { .mips = tt_all(texture).mips, .layers = tt_layer(5) }. */
 static inline tt_selector tt_all(tt_texture texture)
 {
     tt_selector all;
@@ -170,7 +177,7 @@ TT_CALL int tt_done(track_answer answer)
 /* ---- Memory ------------------------------------------------------------------------------------------------------------------ */
 
 /* Each declares an array: `static TT_SCOPE_MEMORY(memory, 2, 4, 8);`, which is passed in as `memory, sizeof memory`. A call needs at
- * most as many entries of the log as the tracker has subresources, textures * mips * layers. */
+ * most as many entries of the log as the tracker has subresources, textures * mips * layers, at 28 bytes each. */
 #define TT_SCOPE_MEMORY(name, textures, mips, layers) \
     uint32_t name[TRACK_TABLE_LENGTH + TRACK_RANGES_LENGTH(textures, mips, layers)]
 #define TT_TRACKER_MEMORY(name, textures, mips, layers) \
@@ -260,7 +267,8 @@ static inline track_answer tt_head_taken(tt_log log, track_logged_answer logged)
 
 /* ---- Opening ----------------------------------------------------------------------------------------------------------------- */
 
-/* Opens a scope that owns no texture yet in so many bytes of memory, which need not be cleared first. Refuses 1, 2, 3. */
+/* Opens a scope that owns no texture yet in so many bytes of memory, which need not be cleared first. Open it again in the same memory
+ * before each pass: that empties it. Refuses 1, 2, 3. */
 TT_CALL track_answer tt_open_scope(tt_scope *scope, uint32_t *memory, size_t bytes, tt_size size, tt_flags flags)
 {
     tt_scope opened;
@@ -347,7 +355,7 @@ TT_CALL track_answer tt_set_single(tt_tracker tracker, tt_log log, tt_texture te
         tt_entries(log), tt_entries_length(log), log.memory[0], log.memory[1]));
 }
 
-/* All textures of a scope. Refuses 4 to 9, 15. */
+/* All textures of a scope, by ascending index. Refuses 4 to 9, 15. */
 TT_CALL track_answer tt_set_from_usage_scope(tt_tracker tracker, tt_log log, tt_scope given)
 {
     if (tracker.memory == NULL || given.memory == NULL) return tt_refused(TRACK_NOT_WELL_FORMED);
@@ -358,7 +366,8 @@ TT_CALL track_answer tt_set_from_usage_scope(tt_tracker tracker, tt_log log, tt_
         tt_entries(log), tt_entries_length(log), log.memory[0], log.memory[1]));
 }
 
-/* All textures of another tracker: transitions go to the other's start, and its end is what they leave. Refuses 4 to 9, 15, 1002. */
+/* All textures of another tracker, by ascending index: transitions go to the other's start, and its end is what they leave. Refuses 4 to
+ * 9, 15, 1002. */
 TT_CALL track_answer tt_set_from_tracker(tt_tracker tracker, tt_log log, tt_tracker given)
 {
     if (tracker.memory == NULL || given.memory == NULL) return tt_refused(TRACK_NOT_WELL_FORMED);
@@ -403,7 +412,8 @@ static inline size_t tt_log_free(tt_log log)
     return log.memory == NULL ? 0 : log.memory[1];
 }
 
-/* Entry k of those written, the oldest first; all zeros if there are not so many. */
+/* Entry k of those written, the oldest first; all zeros if there are not so many. Those of one call go by ascending texture (of the sparse
+ * call in the order of its list), then mip, then layer. */
 static inline tt_transition tt_log_entry(tt_log log, size_t k)
 {
     tt_transition entry = { 0, { { 0, 0 }, { 0, 0 } }, 0, 0 };

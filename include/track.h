@@ -62,7 +62,8 @@ extern "C" {
 
 /* A log. An entry is seven numbers: texture, first mip, mip past the last, first layer, layer past the last, old state, new state.
  * Its head is two counts of entries, written and free; the caller passes both in and takes both over from the answer. A call writes its
- * entries after the written ones. No call needs more entries than the tracker has subresources, N * M * W. */
+ * entries after the written ones: by ascending texture (the sparse call in the order of its list), then mip, then layer. No call needs
+ * more entries than the tracker has subresources, N * M * W. */
 #define TRACK_LOG_ENTRY_LENGTH 7
 #define TRACK_LOG_LENGTH(entries) ((size_t)TRACK_LOG_ENTRY_LENGTH * (entries))
 
@@ -117,9 +118,13 @@ typedef struct track_answer {
     uint32_t mip_end;
     uint32_t layer_start; /*   its layers from layer_start up to, not including, layer_end, */
     uint32_t layer_end;
-    uint32_t old_state;   /*   the state that they had */
+    uint32_t old_state;   /*   the state that all of them had */
     uint32_t new_state;   /*   and the one that was given */
 } track_answer;
+
+/* What a conflict names begins at the first subresource in conflict; others past it may be in conflict as well. Of a texture that is held
+ * in one state it is the part that was given (of a scope with ranges, one of them); of one with ranges of its own it is a range of one mip.
+ * A pass in conflict must not run: open its scope again, and do not hand it to a tracker, since part of the rejected use may be in it. */
 
 /* What a call with a log returns: the answer, and the head of the log after it, which a refusal leaves as it was given. */
 typedef struct track_logged_answer {
@@ -139,7 +144,7 @@ typedef struct track_ranges_answer {
 /* ---- Opening a set ----------------------------------------------------------------------------------------------------------- */
 
 /* A state is 16 bits. exclusive is the mask of those that suffer no other beside them; uninitialized, complex and unknown are one bit
- * each. Opened, a set owns no texture. Refuses 1, 2, 3. */
+ * each. Opened, a set owns no texture: open a scope again in the same memory before each pass, which empties it. Refuses 1, 2, 3. */
 track_answer track_open_scope(uint32_t table[TRACK_TABLE_LENGTH], const uint32_t *ranges, size_t ranges_length,
                               uint32_t n, uint32_t m, uint32_t w,
                               uint32_t exclusive, uint32_t uninitialized_bit, uint32_t complex_bit, uint32_t unknown_bit);
@@ -171,6 +176,9 @@ track_answer track_merge_usage_scope(uint32_t table[TRACK_TABLE_LENGTH], uint32_
                                      const uint32_t given[TRACK_TABLE_LENGTH], const uint32_t *given_ranges, size_t given_ranges_length);
 
 /* ---- The calls of a tracker: each logs the transitions that its uses make necessary, and none returns a conflict ------------- */
+
+/* A first use is taken as what the texture already is, and nothing is logged. In a device's tracker set each new texture to UNINITIALIZED
+ * first, all of it; otherwise the driver is not told of its first uses. */
 
 /* One use of texture index. Refuses 4, 5, 7 to 13, 15. */
 track_logged_answer track_set_single(uint32_t table[TRACK_TABLE_LENGTH], uint32_t *starts, size_t starts_length,

@@ -164,9 +164,10 @@ impl Error for Refusal {}
 pub struct Conflict {
     /// The texture.
     pub index: TrackerIndex,
-    /// The mips and layers. Its first subresource conflicts for certain.
+    /// The mips and layers, from the first subresource in conflict on; others past it may be in conflict as well. Of a
+    /// texture that the scope holds in one state it is the part that was given; otherwise it is a range of one mip.
     pub selector: Selector,
-    /// What the scope holds there.
+    /// What the scope holds there, in all of it.
     pub current_state: State,
     /// What was to be merged into it.
     pub new_state: State,

@@ -30,14 +30,17 @@
 //! let beans = Texture::new(TrackerIndex(0), extent);
 //! let mut tracker = TextureTracker::open(1, extent, uses::FLAGS, uses::ORDERED)?;
 //! let mut log = TransitionLog::with_room_for(1, extent);
-//! tracker.set_single(beans, extent.full_range(), uses::COPY_DST, &mut log)?;   // the cameras' pictures are copied in
+//! tracker.set_single(beans, extent.full_range(), uses::UNINITIALIZED, &mut log)?;   // a new texture: logs nothing
+//! tracker.set_single(beans, extent.full_range(), uses::COPY_DST, &mut log)?;        // the pictures are copied in
 //!
 //! let mut pass = UsageScope::open(1, extent, uses::FLAGS)?;
-//! pass.merge_single(beans, None, uses::RESOURCE)?;                             // the classifier reads them all
+//! pass.merge_single(beans, None, uses::RESOURCE)?;                                  // the classifier reads them all
 //! tracker.set_from_usage_scope(&pass, &mut log)?;
-//! for transition in log.drain_transitions() {
-//!     println!("{transition:#}");                     // texture 0, mip 0, layers 0 to 7: COPY_DST to RESOURCE
-//! }
+//! let told: Vec<String> = log.drain_transitions().map(|transition| format!("{transition:#}")).collect();
+//! assert_eq!(told, [
+//!     "texture 0, mip 0, layers 0 to 7: UNINITIALIZED to COPY_DST",
+//!     "texture 0, mip 0, layers 0 to 7: COPY_DST to RESOURCE",
+//! ]);
 //! # Ok(())
 //! # }
 //! ```

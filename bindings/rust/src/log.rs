@@ -53,6 +53,9 @@ impl fmt::Display for PendingTransition {
 /// Where a tracker's calls write their transitions, one after the other, until it is emptied. wgpu-core keeps it
 /// inside the tracker, as `temp`, and lets it grow; here it has room for a number of entries that does not change.
 ///
+/// The entries of a call go by ascending index (of the sparse call in the order of its list), then mip, then layer.
+/// Entries are not joined; `docs/RULES.md` of the repository has how many there are.
+///
 /// A call that needs more entries than are free is refused with [`NoFreeEntry`](crate::Refusal::NoFreeEntry) and
 /// changes nothing. No call needs more than one for each subresource that it names, so a log
 /// [`with_room_for`](Self::with_room_for) the textures of a tracker, emptied before each call, never makes that happen.

@@ -31,6 +31,9 @@ use core::fmt;
 /// # }
 /// ```
 ///
+/// A pass in conflict must not run: [`clear`](Self::clear) its scope, and do not hand it to a tracker, since part of
+/// the rejected use may be in it.
+///
 /// Two scopes are equal if they were opened alike and hold the same textures, with the same ranges: then every
 /// call returns the same of both.
 ///

@@ -21,15 +21,17 @@ use core::fmt;
 /// let cameras = Texture::new(TrackerIndex(0), extent);
 /// let mut log = TransitionLog::with_room_for(1, extent);
 /// let mut tracker = TextureTracker::open(1, extent, uses::FLAGS, uses::ORDERED)?;
-/// tracker.set_single(cameras, extent.full_range(), uses::COPY_DST, &mut log)?;
-/// assert!(log.is_empty(), "a first use needs no transition here");
-/// tracker.set_single(cameras, Selector::one(Mip(0), Layer(5)), uses::RESOURCE, &mut log)?;
-/// for transition in log.drain_transitions() {
-///     assert_eq!(format!("{transition:#}"), "texture 0, mip 0, layer 5: COPY_DST to RESOURCE");
-/// }
+/// tracker.set_single(cameras, extent.full_range(), uses::UNINITIALIZED, &mut log)?;
+/// assert!(log.is_empty(), "a first use logs nothing");
+/// tracker.set_single(cameras, Selector::one(Mip(0), Layer(5)), uses::COPY_DST, &mut log)?;
+/// let told: Vec<String> = log.drain_transitions().map(|transition| format!("{transition:#}")).collect();
+/// assert_eq!(told, ["texture 0, mip 0, layer 5: UNINITIALIZED to COPY_DST"]);
 /// # Ok(())
 /// # }
 /// ```
+///
+/// A first use is taken as what the texture already is, and nothing is logged. In a device's tracker set each new
+/// texture to `UNINITIALIZED` first, all of it; otherwise the driver is not told of its first uses.
 ///
 /// A tracker cannot be joined with itself, nor a scope merged with itself: the borrow rules see to it.
 ///
@@ -124,7 +126,9 @@ impl TextureTracker {
         passed(sys::set_single(&mut self.storage, texture, selector, new_state, &mut log.storage))
     }
 
-    /// Sets every texture that a scope owns: the pass that the scope stands for comes next.
+    /// Sets every texture that a scope owns, by ascending index: the pass that the scope stands for comes next.
+    ///
+    /// Do not hand in a scope that met a conflict: part of the rejected use may be in it.
     ///
     /// # Errors
     ///
@@ -135,8 +139,8 @@ impl TextureTracker {
         passed(sys::set_from_usage_scope(&mut self.storage, &scope.storage, &mut log.storage))
     }
 
-    /// Joins the tracker with another, whose passes come next: transitions lead to the other's start, and its end is
-    /// what they leave. So wgpu-core takes a command buffer into its device.
+    /// Joins the tracker with another, whose passes come next, by ascending index: transitions lead to the other's
+    /// start, and its end is what they leave. So wgpu-core takes a command buffer into its device.
     ///
     /// # Errors
     ///

@@ -5,7 +5,7 @@ use crate::{state::State, values::UsageFlags};
 use alloc::{format, string::String};
 use core::fmt;
 
-/// Nothing is known of the contents.
+/// Nothing is known of the contents. In a device's tracker a new texture is set to this first.
 pub const UNINITIALIZED: State = State(1 << 0);
 /// Ready to be presented.
 pub const PRESENT: State = State(1 << 1);
@@ -36,7 +36,8 @@ pub const COMPLEX: State = State(1 << 13);
 /// Nothing is known of the state; no use.
 pub const UNKNOWN: State = State(1 << 14);
 
-/// The uses that write: each allows no other beside it.
+/// The uses that write, each of which allows no other beside it: `PRESENT`, `COPY_DST`, `COLOR_TARGET`,
+/// `DEPTH_STENCIL_WRITE`, `STORAGE_WRITE_ONLY`, `STORAGE_READ_WRITE`, `STORAGE_ATOMIC`.
 pub const EXCLUSIVE: State = State(
     COPY_DST.0
         | COLOR_TARGET.0
@@ -47,8 +48,9 @@ pub const EXCLUSIVE: State = State(
         | PRESENT.0,
 );
 
-/// The uses that the hardware keeps in order by itself: those that read, and attachments. wgpu-types has no such
-/// constant: wgpu-core gets the mask from the device. A tracker is opened with any mask.
+/// The uses that hardware commonly keeps in order by itself: `COPY_SRC`, `RESOURCE`, `COLOR_TARGET`,
+/// `DEPTH_STENCIL_READ`, `DEPTH_STENCIL_WRITE`, `STORAGE_READ_ONLY`. wgpu-types has no such constant: wgpu-core gets
+/// the mask from the device. A tracker is opened with any mask.
 pub const ORDERED: State = State(
     COPY_SRC.0 | RESOURCE.0 | DEPTH_STENCIL_READ.0 | STORAGE_READ_ONLY.0 | COLOR_TARGET.0 | DEPTH_STENCIL_WRITE.0,
 );

@@ -29,7 +29,8 @@ pub struct Layer(pub u32);
 pub struct UsageFlags {
     /// The uses that allow no other use beside them: those that write.
     pub exclusive: State,
-    /// What a texture is in before its first use.
+    /// What a new texture is set to in a device's tracker: see [`TextureTracker`](crate::TextureTracker). No
+    /// call does it by itself.
     pub uninitialized: State,
     /// Marks, inside the storage, a texture whose subresources differ.
     pub complex: State,

@@ -288,8 +288,8 @@ fn a_conflict_as_written() {
     assert_eq!((status, errors.as_str()), (Some(1), ""));
     let conflict = "
   1 p
-    ✗ CONFLICT in a, mip 0, layer 1: COPY_SRC|RESOURCE and COPY_DST at the same
-    time
+    ✗ CONFLICT in a, mip 0, layer 1:
+      COPY_SRC|RESOURCE and COPY_DST at the same time
         line 3: use a RESOURCE
         line 5: use a COPY_SRC
         line 6: use a layer 1 COPY_DST
@@ -303,6 +303,25 @@ fn a_conflict_as_written() {
   The pass is turned down before it runs; the driver is told nothing of it.
 ";
     assert!(shown.ends_with(conflict), "{shown}");
+}
+
+/// The place of a conflict stands on one line, to be searched for, and the states beside it where they fit.
+#[test]
+fn the_place_of_a_conflict() {
+    for length in 1..=24 {
+        let name = "a".repeat(length);
+        let frame = format!(
+            "texture {name} mips 16 layers 256\npass p\nuse {name} RESOURCE\nuse {name} mip 0 layer 7 COPY_DST\n\
+             use {name} mips 10 to 14 layers 100 to 254 COPY_DST\n"
+        );
+        let (status, shown, _) = shown("place.frame", frame);
+        let states = "RESOURCE and COPY_DST at the same time";
+        let between = if length <= 6 { " " } else { "\n      " };
+        let short = format!("    ✗ CONFLICT in {name}, mip 0, layer 7:{between}{states}\n");
+        let long = format!("    ✗ CONFLICT in {name}, mips 10 to 14, layers 100 to 254:\n      {states}\n");
+        assert!(status == Some(1) && shown.contains(&short) && shown.contains(&long), "{shown}");
+        assert!(longest(&shown) <= 80, "{shown}");
+    }
 }
 
 /// Of many conflicts, and of many uses that meet one, the first are told and the others counted.

@@ -3,8 +3,8 @@
 //!     sorter [FRAME]                FRAME: a file like demo.frame, which is taken if none is given; - is standard input
 //!     sorter --html FILE [FRAME]    writes the same as a page for a browser; - is standard output
 //!
-//! Ends with 0; with 1 if the frame has a conflict as it is written; with 2 if its file makes no sense, the arguments do
-//! not, or the output cannot be written.
+//! Ends with 0, whatever late uses meet; with 1 if the frame has a conflict as it is written; with 2 if its file makes
+//! no sense, the arguments do not, or the output cannot be written.
 mod area;
 mod frame;
 mod grid;

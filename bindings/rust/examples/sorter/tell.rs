@@ -163,8 +163,15 @@ fn begin(page: &mut Page, start: &str, long: usize) {
 fn tell_clash(page: &mut Page, frame: &Frame, clash: &Clash) {
     let Conflict { index, selector, current_state, new_state } = &clash.conflict;
     let texture = frame.texture_name(*index);
-    let (current, new) = (uses::name(*current_state), uses::name(*new_state));
-    page.words(Ink::Red, 4, &format!("✗ CONFLICT in {texture}, {selector}: {current} and {new} at the same time"));
+    let place = format!("✗ CONFLICT in {texture}, {selector}:");
+    let states = format!("{} and {} at the same time", uses::name(*current_state), uses::name(*new_state));
+    // A place is never broken, so that it can be searched for; at its longest it fits into 80 columns.
+    if 4 + width(&place) + 1 + width(&states) <= page.columns {
+        page.words(Ink::Red, 4, &format!("{place} {states}"));
+    } else {
+        page.words(Ink::Red, 4, &place);
+        page.words(Ink::Red, 6, &states);
+    }
     for made in clash.held.iter().take(LINES).chain([&clash.new]) {
         page.words(Ink::Plain, 8, &format!("line {}: {}", made.line, frame.said(made.line)));
     }
