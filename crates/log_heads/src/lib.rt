@@ -2,7 +2,8 @@
 //
 // Place in the picture: the top, over `track`. 01: "the head of the log, entries written and entries free, is lent and moved on by the call
 // itself". The borrow checker's own plan covers no reference to a struct; so each function is thin, one call with the head by value and
-// one store, and its proof is a walk of its code by hand. proofs/Thin has what the walks share.
+// one store. proofs/Thin proves every such function by one lemma, over the rules of crate `walk`; a proof of one says only its parameters,
+// and how its code lends them again.
 //
 // What holds: what holds of the call that each function hands on to. The `ensures` are that call's own definitions, at what is lent here; so
 // nothing is required, a refusal leaves everything as it was, and nothing more is to be believed.

@@ -6,7 +6,10 @@ use model::Outcome;
 use model::Selector;
 use model::TrackerIndex;
 use set_storage::Table;
-ghost use Rattle.track.specs.Trace.{SetSingle, SetFromUsageScope, SetFromTracker, SetAndRemoveSparse, Emptying};
+ghost use Rattle.call_set.specs.Contract.{SetSingle};
+ghost use Rattle.call_join.specs.Contract.{SetFromUsageScope, SetFromTracker};
+ghost use Rattle.call_remove.specs.Removed.{SetAndRemoveSparse};
+ghost use Rattle.log_head.specs.Log.{Emptying};
 
 // Sets one use of one texture in a tracker, and logs its transitions: `TextureTracker::set_single`, without its drain.
 pub fn set_single(

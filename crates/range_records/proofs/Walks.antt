@@ -1,17 +1,28 @@
--- The rules by which code that has range records in hand is walked.
---     Locals    a function's locals as one entry of the context; entering, returning, and `while`
---     Values    types by value, and calls of functions that take and give values
---     Params    a list of parameters: what is had at exit, and the step to the contract
---     Records   an element of a run, read or written where it stands; runs opened and closed
---     Types     the structs of `decisions` by value
---     Passing   calls that take runs beside values
---     Lending   a run lent for a call, and back
---     Walk      all of it by one name
-pub mod Locals
-pub mod Values
-pub mod Params
-pub mod Records
-pub mod Types
-pub mod Passing
-pub mod Lending
-pub mod Walk
+-- A range record as the element of a run, and the structs of `decisions` by value.
+use Prim.Native.Nat.{_<_, _^_}
+use mathlib.Core.List.{[], _∷_}
+use denote.Struct.Laws.{owed}
+use Rattle.model.specs.declared.Range.{Range}
+use Rattle.model.proofs.Range as range
+use Rattle.range_states.specs.View.{blank}
+use Rattle.range_records.proofs.decisions as decisions
+use Rattle.walk.specs.Values.{Data, struct}
+use Rattle.walk.specs.Slices.{Element, spell, IsE}
+
+abbrev pub E : Element
+E = record { type = range.the-type; laws = range.Laws.the-laws; plains = range.Laws.the-plain; copies = range.Laws.the-copy; past = blank }
+
+pub start-fits : (r : Range) → IsE E r → r .start < 2 ^ 32
+start-fits r is = owed range.the-type range.Laws.the-laws r (spell E r ∷ []) is .0 .1
+
+abbrev pub ScanOf : Data decisions.Scan.the-row
+ScanOf = struct decisions.Scan.the-type decisions.Scan.Laws.the-laws decisions.Scan.Laws.the-plain decisions.Scan.Laws.the-copy
+
+abbrev pub PieceOf : Data decisions.Piece.the-row
+PieceOf = struct decisions.Piece.the-type decisions.Piece.Laws.the-laws decisions.Piece.Laws.the-plain decisions.Piece.Laws.the-copy
+
+abbrev pub NextOf : Data decisions.Next.the-row
+NextOf = struct decisions.Next.the-type decisions.Next.Laws.the-laws decisions.Next.Laws.the-plain decisions.Next.Laws.the-copy
+
+abbrev pub PlanOf : Data decisions.Plan.the-row
+PlanOf = struct decisions.Plan.the-type decisions.Plan.Laws.the-laws decisions.Plan.Laws.the-plain decisions.Plan.Laws.the-copy

@@ -1,6 +1,6 @@
 -- The passes over a run of records: what each computes, in the direction of its loop. That they are the model's calls is proved in proofs/.
 use Prim.Native.Nat.{ℕ, zero, suc, _+_, _-_, _≤_, min, max}
-use mathlib.Core.Bool.{Bool, true, false, _&&_, _||_, not}
+use mathlib.Core.Bool.{Bool, true, _&&_, _||_, not}
 use mathlib.Core.List.{List, [], _∷_}
 use lib.Dec.{leb, ltb, eqb}
 use lib.ListN.{getD, set}
@@ -11,9 +11,8 @@ use Rattle.model.specs.Base.{if_then_else_}
 use Rattle.model.specs.RangedStates.{range, joins}
 use Rattle.range_states.specs.View.{blank}
 use Rattle.range_states.specs.Filtering.{overlaps, clip}
-use Rattle.range_checks.specs.declared.checking.Verdict.{Verdict}
-use Rattle.range_checks.specs.declared.checking.Verdict.the-variants as verdict
-use Rattle.range_calls.specs.declared.IsolateAnswer.{IsolateAnswer}
+use Rattle.model.specs.declared.Verdict.{Verdict}
+use Rattle.model.specs.declared.Verdict.the-variants as verdict
 use Rattle.range_calls.specs.declared.IsolateAnswer.the-variants as isolate
 use Rattle.range_calls.specs.declared.CoalesceAnswer.{CoalesceAnswer}
 use Rattle.range_calls.specs.declared.CoalesceAnswer.the-variants as coalesce

@@ -1,11 +1,11 @@
 // The decisions of the calls on range records, on plain numbers: what a pass has found, what a call answers, which record is written next.
 use model::Range;
 use model::Refusal;
+use model::Verdict;
 use range_calls::CoalesceAnswer;
 use range_calls::FilterAnswer;
 use range_calls::IsolateAnswer;
 use range_calls::Isolation;
-use range_checks::Verdict;
 use range_states::coalescing::joins;
 use range_states::filtering::overlap;
 use range_states::larger;

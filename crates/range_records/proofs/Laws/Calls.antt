@@ -1,8 +1,8 @@
 -- The passes are the model's calls: what each answers and leaves, for every input.
 use Prim.Native.Nat.{ℕ, _+_, _≤_, min, max}
 use native.Mathlib.Omega.{arith}
-use mathlib.Core.Path.{_≡_, refl, _∙_}
-use mathlib.Core.Bool.{Bool, true, false, _||_, not}
+use mathlib.Core.Path.{_≡_, _∙_}
+use mathlib.Core.Bool.{false, _||_, not}
 use mathlib.Core.List.{List}
 use mathlib.Core.Option.{none, some}
 use borrow.Author.Tests.{lt-ltb, le-ltb, le-leb, lt-leb, leb-false, ltb-false, not-false}
@@ -16,11 +16,11 @@ use Rattle.model.specs.Base.{if_then_else_}
 use Rattle.model.specs.Refusals.{firstFailing}
 use Rattle.model.specs.RangedStates.{listOf, isolate, iterFilter}
 use Rattle.model.specs.RangeCalls.{ascends, isolateRefusal, coalesceRefusal, filterRefusal}
+use Rattle.model.specs.BoolLaws.{by-test, neither}
 use Rattle.range_states.specs.View.{blank}
-use Rattle.range_isolate.specs.Tiling.{by-test}
 use Rattle.range_isolate.proofs.Covering.{by-order}
-use Rattle.range_checks.specs.declared.checking.Verdict.{Verdict}
-use Rattle.range_checks.specs.declared.checking.Verdict.the-variants as verdict
+use Rattle.model.specs.declared.Verdict.{Verdict}
+use Rattle.model.specs.declared.Verdict.the-variants as verdict
 use Rattle.range_calls.specs.declared.IsolateAnswer.the-variants as isolate
 use Rattle.range_calls.specs.declared.FilterAnswer.{FilterAnswer}
 use Rattle.range_calls.specs.declared.FilterAnswer.the-variants as filter
@@ -53,10 +53,6 @@ record InOrder (told : ℕ) (rs : List Range) : Type 0 where
   used : min told (length rs) ≡ told
   size : length (take told rs) ≡ told
   order : Ascends 0 (take told rs)
-
-neither : (x y : Bool) → (x || y) ≡ false → (x ≡ false) × (y ≡ false)
-neither false y q = (refl, q)
-neither true y q = absurd (let z : _≡_ {A = ℕ} 0 1 = cc in omega arith)
 
 in-order : (a e told : ℕ) (rs : List Range) → (ltb (length rs) told || not (survey a e told rs .ascends)) ≡ false → InOrder told rs
 in-order a e told rs q =

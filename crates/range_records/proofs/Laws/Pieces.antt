@@ -2,7 +2,7 @@
 use Prim.Native.Nat.{ℕ, _≤_, _<_, min, max}
 use native.Mathlib.Omega.{arith}
 use mathlib.Core.Path.{_≡_, refl, sym, ap}
-use mathlib.Core.Bool.{Bool, true, false, _&&_}
+use mathlib.Core.Bool.{true, _&&_}
 use mathlib.Core.List.{List, [], _∷_, _++_, append-assoc}
 use borrow.Author.Tests.{lt-ltb, le-ltb, le-leb, lt-leb, leb-true, ltb-true}
 use lib.Dec.{leb, ltb}
@@ -10,6 +10,7 @@ use Rattle.model.specs.declared.Range.{Range}
 use Rattle.model.specs.Base.{if_then_else_}
 use Rattle.model.specs.RangedStates.{range, Cut, Rest, rest, withRun, cutAt, withBefore, listOf, isolateFrom, isolate}
 use Rattle.model.specs.RangeCalls.{ascends}
+use Rattle.model.specs.BoolLaws.{and-both as both}
 use Rattle.range_isolate.specs.Isolation.{allOf, gapBefore}
 use Rattle.range_isolate.proofs.Covering.{by-order, from-before, from-last, from-more}
 
@@ -17,10 +18,6 @@ use Rattle.range_isolate.proofs.Covering.{by-order, from-before, from-last, fro
 abbrev pub Ascends : ℕ → List Range → Type 0
 Ascends from [] = Unit
 Ascends from (r ∷ s) = (from ≤ r .start) × (r .start < r .end) × Ascends (r .end) s
-
-both : (x y : Bool) → (x && y) ≡ true → (x ≡ true) × (y ≡ true)
-both true y q = (refl, q)
-both false y q = absurd (let z : _≡_ {A = ℕ} 0 1 = cc in omega arith)
 
 pub ascending : (from : ℕ) (rs : List Range) → ascends from rs ≡ true → Ascends from rs
 ascending from [] q = tt

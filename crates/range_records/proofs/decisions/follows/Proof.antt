@@ -3,16 +3,7 @@ use borrow.Author.Tests.{le-leb, lt-leb, not-true, not-false}
 use Rattle.range_records.proofs.decisions.follows.Statement.{statement}
 use Rattle.range_records.proofs.decisions.follows.Tie as tie
 
-returns : tie.Need-returns
-returns c = simp (not-true (c .before .args .ascends) (c .if1 .taken))
-
-returns-2 : tie.Need-returns-2
-returns-2 c = simp (not-false (c .before .before .before .args .ascends) (c .before .before .if1 .left), lt-leb _ _ (c .if2 .taken))
-
-returns-3 : tie.Need-returns-3
-returns-3 c = simp (not-false (c .before .before .before .before .args .ascends) (c .before .before .before .if1 .left), le-leb _ _ (c .before .if2 .left))
-
 pub follows-spec : {M : Type 1} → statement M
-follows-spec =
-    tie.close
-    (tie.spec returns returns-2 returns-3)
+follows-spec = tie.close (tie.spec (λ c. simp (not-true (c .before .args .ascends) (c .if1 .taken)))
+    (λ c. simp (not-false (c .before .before .before .args .ascends) (c .before .before .if1 .left), lt-leb _ _ (c .if2 .taken)))
+    (λ c. simp (not-false (c .before .before .before .before .args .ascends) (c .before .before .before .if1 .left), le-leb _ _ (c .before .if2 .left))))

@@ -5,13 +5,7 @@ use borrow.Author.Needs.{needs}
 use Rattle.range_records.proofs.decisions.left_of.Statement.{statement}
 use Rattle.range_records.proofs.decisions.left_of.Tie as tie
 
-returns : tie.Need-returns
-returns c = (simp (eq-eqb _ _ (c .before .if1 .taken), (c .before2 .ensures)), omega arith)
-
-returns-2 : tie.Need-returns-2
-returns-2 c = (simp (ne-eqb _ _ (c .if1 .left)), omega arith)
-
 pub left-of-spec : {M : Type 1} → statement M
-left-of-spec =
-    tie.close
-    (tie.spec (λ c κs. search needs) returns returns-2)
+left-of-spec = tie.close (tie.spec (λ c κs. search needs)
+    (λ c. (simp (eq-eqb _ _ (c .before .if1 .taken), (c .before2 .ensures)), omega arith))
+    (λ c. (simp (ne-eqb _ _ (c .if1 .left)), omega arith)))

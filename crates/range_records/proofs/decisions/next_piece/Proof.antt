@@ -15,7 +15,5 @@ unfolding pieceOf
 returns-2 c = let h = rw ((c .before .before .before .before .before .larger .ensures), (c .before .before .before .before .smaller .ensures), (c .before .before .before .before .before .before .end-of .ensures)) at (c .before .before .before .if1 .left) in (rw (le-ltb _ _ h, (c .left-of .ensures) .0, (c .before .lower .ensures), (c .before .before .smaller2 .ensures)), (c .left-of .ensures) .1)
 
 pub next-piece-spec : {M : Type 1} → statement M
-next-piece-spec =
-    tie.close
-    (tie.spec (λ c κs. search needs) (λ c κs. search needs) (λ c κs. search needs) returns (λ c κs. search needs)
-    (λ c κs. search needs) (λ c κs. search needs) returns-2)
+next-piece-spec = tie.close (tie.spec (λ c κs. search needs) (λ c κs. search needs) (λ c κs. search needs) returns
+    (λ c κs. search needs) (λ c κs. search needs) (λ c κs. search needs) returns-2)

@@ -4,13 +4,6 @@ use borrow.Author.Tests.{lt-ltb, le-ltb}
 use Rattle.range_records.proofs.decisions.out_of_order.Statement.{statement}
 use Rattle.range_records.proofs.decisions.out_of_order.Tie as tie
 
-returns : tie.Need-returns
-returns c = (simp (lt-ltb _ _ (c .if1 .taken)), λ e. not-both e)
-
-returns-2 : tie.Need-returns-2
-returns-2 c = (simp (le-ltb _ _ (c .before .if1 .left)), λ e. (c .before .if1 .left))
-
 pub out-of-order-spec : {M : Type 1} → statement M
-out-of-order-spec =
-    tie.close
-    (tie.spec returns returns-2)
+out-of-order-spec = tie.close (tie.spec (λ c. (simp (lt-ltb _ _ (c .if1 .taken)), λ e. not-both e))
+    (λ c. (simp (le-ltb _ _ (c .before .if1 .left)), λ e. (c .before .if1 .left))))

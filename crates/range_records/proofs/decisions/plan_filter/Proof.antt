@@ -6,23 +6,9 @@ use borrow.Author.Needs.{needs}
 use Rattle.range_records.proofs.decisions.plan_filter.Statement.{statement}
 use Rattle.range_records.proofs.decisions.plan_filter.Tie as tie
 
-returns : tie.Need-returns
-unfolding filterPlan
-returns c = rw (le-leb _ _ (c .if1 .taken))
-
-returns-2 : tie.Need-returns-2
-unfolding filterPlan
-returns-2 c = rw (lt-leb _ _ (c .before .before .if1 .left), sym ((c .before .out-of-order .ensures) .0) ∙ (c .if2 .taken))
-
-returns-3 : tie.Need-returns-3
-unfolding filterPlan
-returns-3 c = rw (lt-leb _ _ (c .before .before .before .before .if1 .left), sym ((c .before .before .before .out-of-order .ensures) .0) ∙ (c .before .before .if2 .left), lt-ltb _ _ (c .if3 .taken))
-
-returns-4 : tie.Need-returns-4
-unfolding filterPlan
-returns-4 c = rw (lt-leb _ _ (c .before .before .before .before .if1 .left), sym ((c .before .before .before .out-of-order .ensures) .0) ∙ (c .before .before .if2 .left), le-ltb _ _ (c .if3 .left))
-
 pub plan-filter-spec : {M : Type 1} → statement M
-plan-filter-spec =
-    tie.close
-    (tie.spec returns (λ c κs. search needs) returns-2 returns-3 returns-4)
+unfolding filterPlan
+plan-filter-spec = tie.close (tie.spec (λ c. rw (le-leb _ _ (c .if1 .taken))) (λ c κs. search needs)
+    (λ c. rw (lt-leb _ _ (c .before .before .if1 .left), sym ((c .before .out-of-order .ensures) .0) ∙ (c .if2 .taken)))
+    (λ c. rw (lt-leb _ _ (c .before .before .before .before .if1 .left), sym ((c .before .before .before .out-of-order .ensures) .0) ∙ (c .before .before .if2 .left), lt-ltb _ _ (c .if3 .taken)))
+    (λ c. rw (lt-leb _ _ (c .before .before .before .before .if1 .left), sym ((c .before .before .before .out-of-order .ensures) .0) ∙ (c .before .before .if2 .left), le-ltb _ _ (c .if3 .left))))

@@ -7,14 +7,6 @@ use borrow.Author.Needs.{needs}
 use Rattle.range_records.proofs.decisions.plan_isolate.Statement.{statement}
 use Rattle.range_records.proofs.decisions.plan_isolate.Tie as tie
 
-returns : tie.Need-returns
-unfolding isolatePlan
-returns c = rw (le-leb _ _ (c .before .if1 .taken)) (c .refused-plan .ensures)
-
-returns-2 : tie.Need-returns-2
-unfolding isolatePlan
-returns-2 c = rw (lt-leb _ _ (c .before .before .before .if1 .left), sym ((c .before .before .out-of-order .ensures) .0) ∙ (c .before .if2 .taken)) (c .refused-plan2 .ensures)
-
 add-n : tie.Need-add-n
 add-n c = record { fits = omega (arith, ((c .before .before .before .before .out-of-order .ensures) .1) (c .before .before .before .if2 .left), (c .before .one .ensures) .1, (c .before .before .before .before .before .before .pre) .0 .gaps, (c .before .before .before .before .before .before .pre) .0 .lead, (c .before .before .before .before .before .before .pre) .0 .tail, (c .before .before .before .before .before .before .pre) .1) }
 
@@ -33,8 +25,10 @@ unfolding isolatePlan
 returns-4 c = let h = rw ((c .before .before .before .before .before .before .before .one .ensures) .0, (c .before .before .before .before .before .before .before .before .larger .ensures)) at (c .before .before .before .if3 .left) in rw (lt-leb _ _ (c .before .before .before .before .before .before .before .before .before .before .before .if1 .left), sym ((c .before .before .before .before .before .before .before .before .before .before .out-of-order .ensures) .0) ∙ (c .before .before .before .before .before .before .before .before .before .if2 .left), le-ltb _ _ h, (c .before .before .before .before .before .before .before .one .ensures) .0, (c .before .before .before .before .before .before .before .before .larger .ensures), (c .larger2 .ensures)) refl
 
 pub plan-isolate-spec : {M : Type 1} → statement M
-plan-isolate-spec =
-    tie.close
-    (tie.spec (λ c κs. search needs) returns (λ c κs. search needs) (λ c κs. search needs) returns-2
+unfolding isolatePlan
+plan-isolate-spec = tie.close (tie.spec (λ c κs. search needs)
+    (λ c. rw (le-leb _ _ (c .before .if1 .taken)) (c .refused-plan .ensures)) (λ c κs. search needs)
+    (λ c κs. search needs)
+    (λ c. rw (lt-leb _ _ (c .before .before .before .if1 .left), sym ((c .before .before .out-of-order .ensures) .0) ∙ (c .before .if2 .taken)) (c .refused-plan2 .ensures))
     (λ c κs. search needs) (λ c κs. search needs) (λ c. search needs) add-n add-n-2 add-n-3 (λ c κs. search needs)
     returns-3 (λ c. search needs) (λ c. search needs) (λ c κs. search needs) returns-4)

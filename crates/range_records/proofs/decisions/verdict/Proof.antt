@@ -5,15 +5,8 @@ use borrow.Author.Needs.{needs}
 use Rattle.range_records.proofs.decisions.verdict.Statement.{statement}
 use Rattle.range_records.proofs.decisions.verdict.Tie as tie
 
-returns : tie.Need-returns
-unfolding verdictOf
-returns c = rw (sym ((c .before .out-of-order .ensures) .0) ∙ (c .if1 .taken))
-
-returns-2 : tie.Need-returns-2
-unfolding verdictOf
-returns-2 c = rw (sym ((c .before .out-of-order .ensures) .0) ∙ (c .if1 .left))
-
 pub verdict-spec : {M : Type 1} → statement M
-verdict-spec =
-    tie.close
-    (tie.spec (λ c κs. search needs) returns returns-2)
+unfolding verdictOf
+verdict-spec = tie.close (tie.spec (λ c κs. search needs)
+    (λ c. rw (sym ((c .before .out-of-order .ensures) .0) ∙ (c .if1 .taken)))
+    (λ c. rw (sym ((c .before .out-of-order .ensures) .0) ∙ (c .if1 .left))))

@@ -32,6 +32,17 @@ use types.Part.{whole, sub, look-in}
 use types.Run.{Reads, Writes, Finds, Opd, Rv, look, init, stop, hop, fld, from, load, assigns, assigns-last, land, stays, leaves-loop, returns, enter, alloc1, alloc0, params1, pass1, pass0, free1, free0, first, blocks, Below, loops}
 use types.Run as run
 
+-- P stays before the others while Q is taken out from behind it, or put in there
+module _ {M : Type 1} (𝓤 : URA M) (P Q R S : SProp 𝓤) where
+  swap : (X Y : SProp 𝓤) → ent 𝓤 (sep 𝓤 X (sep 𝓤 Y R)) (sep 𝓤 Y (sep 𝓤 X R))
+  swap X Y = via 𝓤 (sep 𝓤 (sep 𝓤 X Y) R) (assoc′ 𝓤 X Y R) (via 𝓤 (sep 𝓤 (sep 𝓤 Y X) R) (monoL 𝓤 R (comm∗ 𝓤 X Y)) (assoc∗ 𝓤 Y X R))
+
+  pub out-past : ent 𝓤 S (sep 𝓤 Q R) → ent 𝓤 (sep 𝓤 P S) (sep 𝓤 Q (sep 𝓤 P R))
+  out-past h = via 𝓤 (sep 𝓤 P (sep 𝓤 Q R)) (monoR 𝓤 P h) (swap P Q)
+
+  pub in-past : ent 𝓤 (sep 𝓤 Q R) S → ent 𝓤 (sep 𝓤 Q (sep 𝓤 P R)) (sep 𝓤 P S)
+  in-past h = via 𝓤 (sep 𝓤 P (sep 𝓤 Q R)) (swap Q P) (monoR 𝓤 P h)
+
 abbrev hd : List (Option Val) → Option Val
 hd [] = none
 hd (h ∷ hs) = h
@@ -49,7 +60,7 @@ abbrev pub with : ℕ → Option Val → List (Option Val) → List (Option Val)
 with zero h hs = h ∷ tl hs
 with (suc j) h hs = hd hs ∷ with j h (tl hs)
 
-at-with : (j : ℕ) (h : Option Val) (hs : List (Option Val)) → at j (with j h hs) ≡ h
+pub at-with : (j : ℕ) (h : Option Val) (hs : List (Option Val)) → at j (with j h hs) ≡ h
 at-with zero h hs = refl
 at-with (suc j) h hs = at-with j h (tl hs)
 
@@ -95,35 +106,27 @@ module _ {M : Type 1} (𝓤 : URA M) (H : Heap 𝓤) where
   Rest (e ∷ E) hs zero = sep 𝓤 (H .dies (e .0) (e .1)) (Locals E (tl hs))
   Rest (e ∷ E) hs (suc j) = sep 𝓤 (sep 𝓤 (Cell (e .0) (e .1) (hd hs)) (H .dies (e .0) (e .1))) (Rest E (tl hs) j)
 
-  swap : (P Q R : SProp 𝓤) → ent 𝓤 (sep 𝓤 P (sep 𝓤 Q R)) (sep 𝓤 Q (sep 𝓤 P R))
-  swap P Q R = via 𝓤 (sep 𝓤 (sep 𝓤 P Q) R) (assoc′ 𝓤 P Q R) (via 𝓤 (sep 𝓤 (sep 𝓤 Q P) R) (monoL 𝓤 R (comm∗ 𝓤 P Q)) (assoc∗ 𝓤 Q P R))
-
   out : (E : Env 𝓤 H) (hs : List (Option Val)) (j : ℕ) → Has E j → ent 𝓤 (Locals E hs) (sep 𝓤 (Cell (spotOf 𝓤 H E j .0) (spotOf 𝓤 H E j .1) (at j hs)) (Rest E hs j))
   unfolding Locals Rest
   out [] hs j i = absurd i
   out (e ∷ E) hs zero i = assoc∗ 𝓤 (Cell (e .0) (e .1) (hd hs)) (H .dies (e .0) (e .1)) (Locals E (tl hs))
-  out (e ∷ E) hs (suc j) i =
-      let P : SProp 𝓤 = sep 𝓤 (Cell (e .0) (e .1) (hd hs)) (H .dies (e .0) (e .1)) in
-      let Q : SProp 𝓤 = Cell (spotOf 𝓤 H E j .0) (spotOf 𝓤 H E j .1) (at j (tl hs)) in
-      via 𝓤 (sep 𝓤 P (sep 𝓤 Q (Rest E (tl hs) j))) (monoR 𝓤 P (out E (tl hs) j i)) (swap P Q (Rest E (tl hs) j))
-
-  back : (E : Env 𝓤 H) (hs : List (Option Val)) (j : ℕ) → Has E j → ent 𝓤 (sep 𝓤 (Cell (spotOf 𝓤 H E j .0) (spotOf 𝓤 H E j .1) (at j hs)) (Rest E hs j)) (Locals E hs)
-  unfolding Locals Rest
-  back [] hs j i = absurd i
-  back (e ∷ E) hs zero i = assoc′ 𝓤 (Cell (e .0) (e .1) (hd hs)) (H .dies (e .0) (e .1)) (Locals E (tl hs))
-  back (e ∷ E) hs (suc j) i =
-      let P : SProp 𝓤 = sep 𝓤 (Cell (e .0) (e .1) (hd hs)) (H .dies (e .0) (e .1)) in
-      let Q : SProp 𝓤 = Cell (spotOf 𝓤 H E j .0) (spotOf 𝓤 H E j .1) (at j (tl hs)) in
-      via 𝓤 (sep 𝓤 P (sep 𝓤 Q (Rest E (tl hs) j))) (swap Q P (Rest E (tl hs) j)) (monoR 𝓤 P (back E (tl hs) j i))
+  out (e ∷ E) hs (suc j) i = out-past 𝓤 (sep 𝓤 (Cell (e .0) (e .1) (hd hs)) (H .dies (e .0) (e .1))) (Cell (spotOf 𝓤 H E j .0) (spotOf 𝓤 H E j .1) (at j (tl hs))) (Rest E (tl hs) j) (Locals E (tl hs)) (out E (tl hs) j i)
 
   other : (E : Env 𝓤 H) (hs : List (Option Val)) (j : ℕ) (h : Option Val) → Has E j → ent 𝓤 (sep 𝓤 (Cell (spotOf 𝓤 H E j .0) (spotOf 𝓤 H E j .1) h) (Rest E hs j)) (Locals E (with j h hs))
   unfolding Locals Rest
   other [] hs j h i = absurd i
   other (e ∷ E) hs zero h i = assoc′ 𝓤 (Cell (e .0) (e .1) h) (H .dies (e .0) (e .1)) (Locals E (tl hs))
-  other (e ∷ E) hs (suc j) h i =
-      let P : SProp 𝓤 = sep 𝓤 (Cell (e .0) (e .1) (hd hs)) (H .dies (e .0) (e .1)) in
-      let Q : SProp 𝓤 = Cell (spotOf 𝓤 H E j .0) (spotOf 𝓤 H E j .1) h in
-      via 𝓤 (sep 𝓤 P (sep 𝓤 Q (Rest E (tl hs) j))) (swap Q P (Rest E (tl hs) j)) (monoR 𝓤 P (other E (tl hs) j h i))
+  other (e ∷ E) hs (suc j) h i = in-past 𝓤 (sep 𝓤 (Cell (e .0) (e .1) (hd hs)) (H .dies (e .0) (e .1))) (Cell (spotOf 𝓤 H E j .0) (spotOf 𝓤 H E j .1) h) (Rest E (tl hs) j) (Locals E (with j h (tl hs))) (other E (tl hs) j h i)
+
+  -- with what it held
+  same : (E : Env 𝓤 H) (hs : List (Option Val)) (j : ℕ) → ent 𝓤 (Locals E (with j (at j hs) hs)) (Locals E hs)
+  unfolding Locals
+  same [] hs j = id⊢ 𝓤 (emp 𝓤)
+  same (e ∷ E) hs zero = id⊢ 𝓤 (Locals (e ∷ E) hs)
+  same (e ∷ E) hs (suc j) = monoR 𝓤 (sep 𝓤 (Cell (e .0) (e .1) (hd hs)) (H .dies (e .0) (e .1))) (same E (tl hs) j)
+
+  back : (E : Env 𝓤 H) (hs : List (Option Val)) (j : ℕ) → Has E j → ent 𝓤 (sep 𝓤 (Cell (spotOf 𝓤 H E j .0) (spotOf 𝓤 H E j .1) (at j hs)) (Rest E hs j)) (Locals E hs)
+  back E hs j i = via 𝓤 (Locals E (with j (at j hs) hs)) (other E hs j (at j hs) i) (same E hs j)
 
   module _ (A : Atoms 𝓤) (W : Given 𝓤 H A) where
     empties : (τ : Ty) (b : ℕ) (h : Option Val) → ent 𝓤 (Cell τ b h) (H .room τ b zero)

@@ -1,6 +1,6 @@
--- A run of records behind a `&mut` that is lent again for a call: the code that does so, and the run lent as a `&` for the call's time.
+-- A run of structs behind a `&mut` that is lent again for a call: the code that does so, and the run lent as a `&` for the call's time.
 --     relent       the code: the run's address is taken anew, and its count is read beside it
---     Sharing      what the holder of a `&κ mut [Range]` keeps while it is lent as a `&ν [Range]`
+--     Sharing      what the holder of a `&κ mut [E]` keeps while it is lent as a `&ν [E]`
 --     shares       it is lent so, for κ's token and a lifetime ν that begins.        shared-back      ν ends, and the run and κ's token are back
 -- Assumes `Given`.
 use mathlib.Core.Path.{_≡_, refl, sym, subst}
@@ -25,10 +25,9 @@ use types.Tokens.{lft-new, lft-end, lent-back}
 use denote.Lend.{lends-shr-slice}
 use denote.Memory.{shares as shares-of}
 use denote.Slice.{sliceTy, sliceVal, Room}
-use Rattle.model.proofs.Range as T
-use Rattle.range_records.proofs.Walks.Locals.{held, Has, at, with, Rest, within, var, part, lets}
-use Rattle.range_records.proofs.Walks.Passing.{tokens}
-use Rattle.range_records.proofs.Walks.Records.{Slice, Shared, Lent, Writing, opens-run, closes-run}
+use Rattle.walk.specs.Locals.{held, Has, at, with, Rest, within, var, part, lets}
+use Rattle.walk.specs.Calls.{tokens}
+use Rattle.walk.specs.Slices.{Element, Row, Slice, Shared, Lent, Writing, opens-run, closes-run}
 
 module _ {M : Type 1} {𝓤 : URA M} {H : Heap 𝓤} {A : Atoms 𝓤} {K : Type 0} {W : Given 𝓤 H A} {Γ : List (Item 𝓤)} {E : Env 𝓤 H} {hs : List (Option Val)} where
   -- where a slice's first element lies
@@ -45,22 +44,22 @@ module _ {M : Type 1} {𝓤 : URA M} {H : Heap 𝓤} {A : Atoms 𝓤} {K : Type 
   relent t i-is p-is s-is m e e′ e″ typed typed′ = step (λ k. lets t p-is (addr t (first t i-is m e)) typed $ lets t s-is (agg t (and-then t (var t p-is e″) (and-then t (part t i-is m refl e′) (no-more t)))) typed′ $ k)
 
 -- the same run under another name
-abbrev pub called : GName → Slice → Slice
-called δ s = record { ptr = s .ptr; name = δ; now = s .now }
+abbrev pub called : (E : Element) → GName → Slice E → Slice E
+called E δ s = record { ptr = s .ptr; name = δ; now = s .now }
 
-abbrev pub Sharing : ℕ → Lft → Share → Slice → Fml
-Sharing ν κ q s = fsep (flent (ν ∷ []) (arr-parts (shares-of T.the-row) (length (s .now)) .part fullShare (s .now) (s .ptr .0) (s .ptr .1))) (Writing κ q s)
+abbrev pub Sharing : (E : Element) → ℕ → Lft → Share → Slice E → Fml
+Sharing E ν κ q s = fsep (flent (ν ∷ []) (arr-parts (shares-of (Row E)) (length (s .now)) .part fullShare (s .now) (s .ptr .0) (s .ptr .1))) (Writing E κ q s)
 
 -- beside the locals i
-module _ {M : Type 1} {𝓤 : URA M} {H : Heap 𝓤} {A : Atoms 𝓤} {K : Type 0} {W : Given 𝓤 H A} {Γ : List (Item 𝓤)} {i : Item 𝓤} {G : Goal 𝓤 H} (t : K) (z : Soaks G) (κ : Lft) (q : Share) (s : Slice) (room : Room T.the-row (length (s .now))) where
-  pub shares : ((ν : ℕ) (δ : GName) → Seq K W (i ∷ tokens 1 (ν ∷ [], tt) (fullShare, tt) ∷ ‵ (Shared (named 0) (ν ∷ []) (called δ s)) ∷ ‵ (Sharing ν κ q s) ∷ Γ) G) → Seq K W (i ∷ tokens 1 (κ, tt) (q, tt) ∷ ‵ (Lent (named 0) κ s (s .now)) ∷ Γ) G
-  shares k = move t (1 ∷ []) $ split t $ move t (3 ∷ 0 ∷ []) $ opens-run t z (named 0) κ q s $ feqI t ℕ (length (s .now)) (length (s .now)) refl $ fjoin t $ lft-new t z (λ ν. move t (1 ∷ []) $
-      use1 W (later (some-of (λ (δ : GName). ‵ (Shared (named 0) (ν ∷ []) (called δ s)) ⊛ ‵ (flent (ν ∷ []) (arr-parts (shares-of T.the-row) (length (s .now)) .part fullShare (s .now) (s .ptr .0) (s .ptr .1))))))
-      (lends-shr-slice 𝓤 H A W T.the-row (named 0) (ν ∷ []) fullShare (s .now) (s .ptr .0) (s .ptr .1) room) $ await t z $ pick t (λ δ. split t $
+module _ {M : Type 1} {𝓤 : URA M} {H : Heap 𝓤} {A : Atoms 𝓤} {K : Type 0} {W : Given 𝓤 H A} {Γ : List (Item 𝓤)} {i : Item 𝓤} {G : Goal 𝓤 H} (E : Element) (t : K) (z : Soaks G) (κ : Lft) (q : Share) (s : (Slice E)) (room : Room (Row E) (length (s .now))) where
+  pub shares : ((ν : ℕ) (δ : GName) → Seq K W (i ∷ tokens 1 (ν ∷ [], tt) (fullShare, tt) ∷ ‵ (Shared E (named 0) (ν ∷ []) (called E δ s)) ∷ ‵ (Sharing E ν κ q s) ∷ Γ) G) → Seq K W (i ∷ tokens 1 (κ, tt) (q, tt) ∷ ‵ (Lent E (named 0) κ s (s .now)) ∷ Γ) G
+  shares k = move t (1 ∷ []) $ split t $ move t (3 ∷ 0 ∷ []) $ opens-run E t z (named 0) κ q s $ feqI t ℕ (length (s .now)) (length (s .now)) refl $ fjoin t $ lft-new t z (λ ν. move t (1 ∷ []) $
+      use1 W (later (some-of (λ (δ : GName). ‵ (Shared E (named 0) (ν ∷ []) (called E δ s)) ⊛ ‵ (flent (ν ∷ []) (arr-parts (shares-of (Row E)) (length (s .now)) .part fullShare (s .now) (s .ptr .0) (s .ptr .1))))))
+      (lends-shr-slice 𝓤 H A W (Row E) (named 0) (ν ∷ []) fullShare (s .now) (s .ptr .0) (s .ptr .1) room) $ await t z $ pick t (λ δ. split t $
       -- [the `&`; the lender's part; ν's token; the open borrow; nothing; i; Γ]
       move t (1 ∷ 3 ∷ []) $ fjoin t $ move t (2 ∷ 3 ∷ []) $ join t $ move t (3 ∷ 0 ∷ 2 ∷ []) $ k ν δ))
 
   -- what a call has said meanwhile is let go
-  pub shared-back : (ν : ℕ) {j : Item 𝓤} → Step K W (i ∷ tokens 1 (κ, tt) (q, tt) ∷ ‵ (Lent (named 0) κ s (s .now)) ∷ Γ) G (i ∷ tokens 1 (ν ∷ [], tt) (fullShare, tt) ∷ j ∷ ‵ (Sharing ν κ q s) ∷ Γ) G
+  pub shared-back : (ν : ℕ) {j : Item 𝓤} → Step K W (i ∷ tokens 1 (κ, tt) (q, tt) ∷ ‵ (Lent E (named 0) κ s (s .now)) ∷ Γ) G (i ∷ tokens 1 (ν ∷ [], tt) (fullShare, tt) ∷ j ∷ ‵ (Sharing E ν κ q s) ∷ Γ) G
   shared-back ν = step (λ k. move t (3 ∷ 2 ∷ []) $ fsplit t $ move t (2 ∷ []) $ drop t $ move t (3 ∷ []) $ split t $ lft-end t z $ move t (0 ∷ 2 ∷ []) $ lent-back t z $ fsplit t $ drop t $
-      move t (0 ∷ 2 ∷ []) $ closes-run t z (named 0) κ q s (s .now) refl room $ move t (1 ∷ 2 ∷ []) $ join t $ move t (2 ∷ 0 ∷ []) $ k)
+      move t (0 ∷ 2 ∷ []) $ closes-run E t z (named 0) κ q s (s .now) refl room $ move t (1 ∷ 2 ∷ []) $ join t $ move t (2 ∷ 0 ∷ []) $ k)

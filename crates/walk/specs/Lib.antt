@@ -1,0 +1,10 @@
+pub mod Locals
+pub mod Values
+pub mod Site
+pub mod Calls
+pub mod Params
+pub mod Slices
+pub mod Lending
+pub mod LastParam
+pub mod PassedOn
+pub mod Walk
