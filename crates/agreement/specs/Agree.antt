@@ -1,41 +1,105 @@
 -- Demand 3, from sets that are good: what holds of one texture in a scope and in a tracker is handed to the lifting of LiftCalls, for every list of calls.
-use mathlib.Core.Bool.{Bool, true, false, _||_, and-eq-true-iff, false≢true}
-use mathlib.Core.List.{List, [], _∷_, _++_, map}
+use mathlib.Core.Bool.{Bool, true, false, and-eq-true-iff, _||_, false≢true}
+use mathlib.Core.List.{[], _∷_, _++_, append-nil, List, map}
 use mathlib.Core.Option.{Option, none, some, Option·map}
 use mathlib.Core.Path.{_≡_, refl, sym, ap, _∙_}
-use Prim.Native.Nat.{ℕ, zero, suc}
+use Prim.Native.Nat.{ℕ, zero, suc, _-_, _+_, _≤_, _<_}
+use native.Mathlib.Omega.{arith}
 use lib.Bits.{bitAnd, bitOr}
-use lib.Dec.{eqb}
-use lib.ListN.{replicate, length, getD}
-use borrow.Author.Tests.{eqb-true, not-false}
+use lib.Dec.{ltb, eqb}
+use lib.ListN.{replicate, getD}
+use borrow.Author.Tests.{eqb-true, ltb-true, ltb-false, not-false, le-leb, lt-ltb}
 use Rattle.model.specs.declared.Extent.{Extent}
 use Rattle.model.specs.declared.InvalidUse.{InvalidUse}
 use Rattle.model.specs.declared.Selector.{Selector}
 use Rattle.model.specs.declared.UsageFlags.{UsageFlags}
 use Rattle.model.specs.Base.{if_then_else_, ruled, orKeep, passes}
-use Rattle.model.specs.Flags.{meets, isBit, apart, flagsFit}
 use Rattle.model.specs.Representation.{isFull, Ends, full}
-use Rattle.model.specs.Sets.{Slot, Set, Tracker, Head, Opening}
-use Rattle.model.specs.Refusals.{opens, textureChecks, selectorChecks, stateChecks, singleRefusal}
+use Rattle.model.specs.Sets.{Head, outside, Slot, Set, Tracker, Opening}
+use Rattle.model.specs.Refusals.{textureChecks, selectorChecks, stateChecks, singleRefusal}
+use Rattle.model.specs.Texture.{Held, single, many, Given, givenSingle, givenMany, fromUse, fromHeld, ranged, Entry, merge, invalidUse, spreadPiece, freshMips}
+use Rattle.model.specs.Subresources.{everywhere}
+use Rattle.model.specs.ListLaws.{all-left, all-right}
+use Rattle.model.specs.BoolLaws.{neither, by-test, and-left}
+use Rattle.model.specs.CheckLaws.{passed, inside, Passed}
+use Rattle.model.specs.Flags.{meets, isBit, apart, flagsFit}
 use Rattle.model.specs.Calls.{Answer, done, refused, inConflict, CallResult, Call, callMergeSingle, callMergeUsageScope, callSetSingle, callSetFromUsageScope, callSetFromTracker, callSetAndRemoveSparse, Sets, step, newly}
 use Rattle.model.specs.StateRules.{Move, invalidState, unite}
-use Rattle.model.specs.Texture.{Held, single, many, Given, givenSingle, givenMany, Entry, fromUse, fromHeld, ranged, merge, invalidUse, spreadPiece, freshMips}
-use Rattle.model.specs.Subresources.{everywhere}
-use Rattle.agreement.specs.Grid.{Grid, Named, SubresourceConflict, grid, namedUse, namedAll, gridBarrier}
-use Rattle.agreement.specs.Shared.{firstOf, seen, seenSlot, itself, seenAnswer, Shares, Agree, gridOf, gridEnds, gridScope, gridTracker, toGrids, entriesAt, gridAt}
-use Rattle.agreement.specs.WellFormedSets.{All}
-use Rattle.agreement.specs.BoolLaws.{by-test, neither}
-use Rattle.agreement.specs.ListLaws.{all-right, at-most-one}
 use Rattle.usage.specs.BitLaws.{and-or}
+use Rattle.agreement.specs.Grid.{Named, grid, namedUse, namedAll, tab, namedRow, Grid, SubresourceConflict, gridBarrier}
+use Rattle.agreement.specs.Shared.{firstOf, gridOf, seen, seenSlot, itself, seenAnswer, Shares, Agree, gridEnds, gridScope, gridTracker, toGrids, entriesAt, gridAt}
+use Rattle.agreement.specs.GridLaws.{map-everywhere, grid-map, grid-everywhere}
 use Rattle.agreement.specs.RulesAgree.{update-rule}
-use Rattle.agreement.specs.TextureLaws.{Measured, Fit, Gives, gives-one, inserted, merged, fills}
-use Rattle.agreement.specs.TrackerLaws.{Known, KnownAll, Clear, ClearHeld, ClearGiven, UnknownNonzero, KnownEnd, FitEnds, KnownO, KnownGiven, clear-known, dims-held, dims-everywhere, updated, inserted-ends, insert-clear}
-use Rattle.agreement.specs.BarrierLaws.{logged}
-use Rattle.agreement.specs.LiftScope.{passed, Textures}
+use Rattle.agreement.specs.TextureLaws.{Measured, Fit, Gives, gives-one, gives-place, gives-set, inserted, merged}
+use Rattle.agreement.specs.TrackerLaws.{Known, Clear, ClearHeld, ClearGiven, UnknownNonzero, KnownEnd, FitEnds, KnownO, KnownGiven, clear-known, updated, inserted-ends, insert-clear}
+use Rattle.agreement.specs.BarrierLaws.{logged, at-most-one}
+use Rattle.agreement.specs.LiftScope.{Textures, mapAnswer}
 use Rattle.agreement.specs.LiftTracker.{Tracks}
-use Rattle.agreement.specs.LiftCalls.{Words, Stepped, imageAnswer, Good, stepped, opened}
-use Rattle.agreement.specs.ScopeLaws.{textures, held-gives, WordP}
-use Rattle.agreement.specs.OpeningLaws.{opened-fits}
+use Rattle.agreement.specs.LiftCalls.{Words, Stepped, Good, stepped, opened}
+
+measured : (h : Head) (i : ℕ) (sh : Extent) → Passed (textureChecks h i sh) → Measured sh
+measured h i sh t =
+    let o = neither (outside (sh .mips) (h .numbers .mips)) (outside (sh .layers) (h .numbers .layers)) (t .1 .0) in
+    (inside _ _ (o .0) .0, inside _ _ (o .1) .0)
+
+-- a selector of the full extent names every subresource
+full-place : (sh : Extent) (q : Selector) → isFull sh q ≡ true → (q .mips .start .0 ≡ 0) × (q .mips .end .0 ≡ sh .mips) × (q .layers .start .0 ≡ 0) × (q .layers .end .0 ≡ sh .layers)
+full-place sh q e =
+    let h = and-eq-true-iff _ _ .0 e in let g = and-eq-true-iff _ _ .0 (h .0) in let f = and-eq-true-iff _ _ .0 (g .0) in
+    (eqb-true _ _ (f .0), eqb-true _ _ (f .1), eqb-true _ _ (g .1), eqb-true _ _ (h .1))
+
+pub full-grid : (sh : Extent) (q : Selector) (st : ℕ) → isFull sh q ≡ true → tab (namedRow sh q st) 0 (sh .mips) ≡ everywhere sh (some st)
+full-grid sh q st e = go 0 (sh .mips) (omega arith)
+  where
+    f : (q .mips .start .0 ≡ 0) × (q .mips .end .0 ≡ sh .mips) × (q .layers .start .0 ≡ 0) × (q .layers .end .0 ≡ sh .layers)
+    f = full-place sh q e
+
+    row : (k : ℕ) → k < sh .mips → namedRow sh q st k ≡ replicate (sh .layers) (some st)
+    row k h =
+        let z : sh .layers - 0 ≡ sh .layers = omega arith in let y : sh .layers - sh .layers ≡ 0 = omega arith in
+        rw (le-leb (q .mips .start .0) k (omega (arith, f)), lt-ltb k (q .mips .end .0) (omega (arith, f)), f .2, f .3, z, y, append-nil)
+
+    go : (k n : ℕ) → k + n ≤ sh .mips → tab (namedRow sh q st) k n ≡ replicate n (replicate (sh .layers) (some st))
+    go k zero h = refl
+    go k (suc n) h = rw (row k (omega arith), go (suc k) n (omega arith))
+
+pub use-gives : (sh : Extent) (sel : Option Selector) (st : ℕ) → Passed (selectorChecks sh sel) → Gives sh (fromUse sh sel st) (namedUse sh sel st)
+use-gives sh none st t = gives-one
+use-gives sh (some q) st t = go (isFull sh q) refl
+  where
+    go : (b : Bool) → isFull sh q ≡ b
+        → Gives sh (if b then givenSingle st else givenMany (record { selector = q; state = st } ∷ [])) (record { single = b; states = tab (namedRow sh q st) 0 (sh .mips) })
+    go true e = rw (full-grid sh q st e) gives-one
+    go false e =
+        let h = and-eq-true-iff _ _ .0 (not-false _ (t .0)) in
+        let g = neither (ltb (sh .mips) (q .mips .end .0)) (ltb (sh .layers) (q .layers .end .0)) (t .1 .0) in
+        gives-place (ltb-true _ _ (h .1)) (ltb-false _ _ (g .1)) (ltb-true _ _ (h .0)) (ltb-false _ _ (g .0))
+
+held-gives : (sh : Extent) (h : Held) → Fit sh h → Measured sh × Gives sh (fromHeld h) (namedAll (gridOf sh h))
+unfolding gridOf
+held-gives sh (single st) f = (f, rw (map-everywhere {B = Option ℕ} some sh st) gives-one)
+held-gives sh (many ss) f = (f .0, gives-set ss (f .1) (f .2))
+
+abbrev FitP : UsageFlags → Extent → Held → Type 0
+FitP p = Fit
+
+abbrev pub WordP : ℕ → Type 0
+WordP st = Unit {0}
+
+abbrev GivesP : UsageFlags → Extent → Given → Named → Type 0
+GivesP p sh g n = Measured sh × Gives sh g n
+
+pub textures : Textures ranged grid gridOf firstOf WordP FitP GivesP
+unfolding gridOf
+textures = record {
+  fresh = λ n. refl;
+  used = λ h i sh sel st z w e. let c = passed _ e in
+      let t = all-left _ (textureChecks h i sh ++ selectorChecks sh sel) (stateChecks (h .flags) st) c in
+      (measured h i sh (all-left _ (textureChecks h i sh) (selectorChecks sh sel) t), use-gives sh sel st (all-right _ (textureChecks h i sh) (selectorChecks sh sel) t));
+  passed-on = λ p sh h f. held-gives sh h f;
+  inserted = λ p sh g n r. inserted p sh g n (r .0) (r .1);
+  merged = λ p sh h g n r f. merged p sh h g n (r .1) f;
+}
 
 -- what holds of a scope's texture: its ranges tile, and a Single state has no UNKNOWN bit
 pub record FitS (p : UsageFlags) (sh : Extent) (h : Held) : Type 0 where
@@ -64,13 +128,18 @@ pub clear-use : (p : UsageFlags) (sh : Extent) (sel : Option Selector) (st : ℕ
 clear-use p sh none st c = c
 clear-use p sh (some q) st c = by-test (ClearGiven p) (isFull sh q) (λ b. c) (λ b. tt)
 
-used : (h : Head) (i : ℕ) (sh : Extent) (sel : Option Selector) (st : ℕ) → UnknownNonzero (h .flags) → singleRefusal h i sh sel st ≡ none → GivesC (h .flags) sh (fromUse sh sel st) (namedUse sh sel st)
+-- flags that fit have an UNKNOWN of one bit
+known-flags : (p : UsageFlags) → flagsFit p ≡ true → UnknownNonzero p
+unfolding flagsFit
+known-flags p e z = false≢true (rw z at (and-left (isBit (p .unknown)) (apart p) e))
+
+used : (h : Head) (i : ℕ) (sh : Extent) (sel : Option Selector) (st : ℕ) → flagsFit (h .flags) ≡ true → singleRefusal h i sh sel st ≡ none → GivesC (h .flags) sh (fromUse sh sel st) (namedUse sh sel st)
 used h i sh sel st s e =
-    let g = textures .used h i sh sel st tt tt e in
+    let g = textures .used h i sh sel st s tt e in
     let t = all-right _ (textureChecks h i sh ++ selectorChecks sh sel) (stateChecks (h .flags) st) (passed _ e) in
     let o = neither (eqb st 0 || meets st (h .flags .unknown)) (meets st (h .flags .complex)) (t .0) in
     let u = neither (eqb st 0) (meets st (h .flags .unknown)) (o .0) in
-    record { sure = s; measured = g .0; gives = g .1; clear = clear-use (h .flags) sh sel st (clear-state (h .flags) st (u .1)) }
+    record { sure = known-flags (h .flags) s; measured = g .0; gives = g .1; clear = clear-use (h .flags) sh sel st (clear-state (h .flags) st (u .1)) }
 
 clear-held : (p : UsageFlags) (h : Held) → ClearHeld p h → ClearGiven p (fromHeld h)
 clear-held p (single st) c = c
@@ -98,7 +167,7 @@ merge-clear p sh (single cur) (givenMany qs) x y = go (passes (spreadPiece p cur
 merge-clear p sh (many ss) (givenSingle new) x y = tt
 merge-clear p sh (many ss) (givenMany qs) x y = tt
 
-pub scope-facts : Textures ranged grid gridOf firstOf UnknownNonzero WordP FitS GivesC
+pub scope-facts : Textures ranged grid gridOf firstOf WordP FitS GivesC
 scope-facts = record {
   fresh = textures .fresh;
   used = λ h i sh sel st s w e. used h i sh sel st s e;
@@ -108,30 +177,11 @@ scope-facts = record {
 }
 
 -- ---- trackers
-known-somes : (u st : ℕ) (sh : Extent) → Known u st → All (All (KnownO u)) (everywhere sh (some st))
-known-somes u st sh k = go (sh .mips)
-  where
-    row : (n : ℕ) → All (KnownO u) (replicate n (some st))
-    row zero = tt
-    row (suc n) = (k, row n)
-
-    go : (n : ℕ) → All (All (KnownO u)) (replicate n (replicate (sh .layers) (some st)))
-    go zero = tt
-    go (suc n) = (row (sh .layers), go n)
-
-known-map : (u : ℕ) (g : List (List ℕ)) → KnownAll u g → All (All (KnownO u)) (map (map some) g)
-known-map u [] k = tt
-known-map u (r ∷ g) k = (row r (k .0), known-map u g (k .1))
-  where
-    row : (r : List ℕ) → All (Known u) r → All (KnownO u) (map some r)
-    row [] k = tt
-    row (c ∷ r) k = (k .0, row r (k .1))
-
 pub twice : (p : UsageFlags) (sh : Extent) (g : Given) (n : Named) → GivesC p sh g n → Pairs p sh g n g n
 twice p sh g n r = record { from = r; to = r; known = known g n (r .gives) (r .clear) }
   where
     known : (g : Given) (n : Named) → Gives sh g n → ClearGiven p g → KnownGiven p g n
-    known (givenSingle st) n gives-one c = known-somes (p .unknown) st sh (clear-known p st (r .sure) c)
+    known (givenSingle st) n gives-one c = grid-everywhere (KnownO (p .unknown)) sh (some st) (clear-known p st (r .sure) c)
     known (givenMany qs) n g c = tt
 
 joined : (p : UsageFlags) (sh : Extent) (e : Ends Held) → FitEnds p sh e
@@ -143,14 +193,10 @@ joined p sh e f = record {
 }
   where
     go : (s : Held) → KnownEnd p s (gridOf sh (e .end) .states) → KnownGiven p (fromHeld s) (namedAll (gridOf sh (e .end)))
-    go (single st) k = known-map (p .unknown) (gridOf sh (e .end) .states) k
+    go (single st) k = grid-map (Known (p .unknown)) (KnownO (p .unknown)) some (λ c k. k) (gridOf sh (e .end) .states) k
     go (many ss) k = tt
 
-dims-given : (sh : Extent) (g : Given) (n : Named) → Gives sh g n → (length (n .states) ≡ sh .mips) × All (λ (r : List (Option ℕ)). length r ≡ sh .layers) (n .states)
-dims-given sh (givenSingle st) n gives-one = dims-everywhere sh (some st)
-dims-given sh (givenMany qs) n g = fills sh qs n g
-
-pub tracker-facts : Tracks ranged grid gridOf UnknownNonzero WordP FitS FitEnds Pairs entriesAt gridAt
+pub tracker-facts : Tracks ranged grid gridOf WordP FitS FitEnds Pairs entriesAt gridAt
 tracker-facts = record {
   fresh = textures .fresh;
   used = λ h i sh sel st s w e. twice (h .flags) sh _ _ (used h i sh sel st s e);
@@ -159,16 +205,9 @@ tracker-facts = record {
   inserted = λ p sh a b c d r. inserted-ends p sh a c b d (r .from .sure) (r .from .measured) (r .from .gives) (r .to .gives) (r .from .clear) (r .to .clear) (r .known);
   updated = λ p sh e a b c d r f. let k = updated p sh (e .start) (e .end) c d f (r .to .gives) (r .to .clear) in (k .fit, (λ i. record { start = k .start i; end = k .end i }) ∙ sym (update-rule p sh (gridEnds sh e) d));
   logged = λ p mask sh e a b c d r f m l.
-      let x = dims-held sh (e .end) (f .end) in let y = dims-given sh a b (r .from .gives) in
-      let z = logged p mask sh m l (e .end) a b (f .end) (r .from .gives) (x .0) (x .1) (y .0) (y .1) in
+      let z = logged p mask sh m l (e .end) a b (f .end) (r .from .gives) in
       (z, rw z (at-most-one (getD (getD (gridBarrier p mask sh (gridOf sh (e .end)) b) m []) l none)));
 }
-
-pub sure-open : (o : Opening) → opens o ≡ true → UnknownNonzero (o .flags)
-unfolding flagsFit
-sure-open o e z =
-    let b = and-eq-true-iff (isBit (o .flags .unknown)) (apart (o .flags)) .0 (opened-fits o e) .0 in
-    false≢true (rw z at b)
 
 -- ---- what is seen of the two representations
 seen-map : {H A : Type 0} (v : Extent → H → A) (l : List (Slot H))
@@ -185,9 +224,9 @@ sees-t [] = refl
 sees-t (x ∷ s) = rw (sees-t s, seen-map gridEnds (x .set .slots))
 
 abbrev StepS : CallResult InvalidUse (List Entry) (Sets ranged) → CallResult SubresourceConflict (List (List (Option Move))) (Sets grid) → Type 0
-StepS = Stepped ranged grid gridOf firstOf UnknownNonzero WordP FitS FitEnds GivesC Pairs entriesAt gridAt
+StepS = Stepped ranged grid gridOf firstOf WordP WordP FitS FitEnds GivesC Pairs entriesAt gridAt
 
-same-answer : (a : Answer InvalidUse) → seenAnswer a ≡ imageAnswer ranged grid gridOf firstOf UnknownNonzero WordP FitS FitEnds GivesC Pairs entriesAt gridAt a
+same-answer : (a : Answer InvalidUse) → seenAnswer a ≡ mapAnswer firstOf a
 same-answer done = refl
 same-answer (refused x) = refl
 same-answer (inConflict c) = refl
@@ -202,9 +241,9 @@ shares r u m = record {
 }
 
 abbrev pub GoodSets : Sets ranged → Type 0
-GoodSets = Good ranged grid gridOf firstOf UnknownNonzero WordP FitS FitEnds GivesC Pairs entriesAt gridAt
+GoodSets = Good ranged grid gridOf firstOf WordP WordP FitS FitEnds GivesC Pairs entriesAt gridAt
 
-pub no-word : (c : Call) → Words WordP c
+pub no-word : (c : Call) → Words WordP WordP c
 no-word (callMergeSingle n i sh sel st) = tt
 no-word (callMergeUsageScope n m) = tt
 no-word (callSetSingle n i sh sel st) = tt
@@ -213,7 +252,7 @@ no-word (callSetFromTracker n m) = tt
 no-word (callSetAndRemoveSparse n m is) = tt
 
 pub one-step : (c : Call) (k : Sets ranged) → GoodSets k → StepS (step ranged c k) (step grid c (toGrids k))
-one-step c k ok = stepped ranged grid gridOf firstOf UnknownNonzero WordP FitS FitEnds GivesC Pairs entriesAt gridAt scope-facts tracker-facts sure-open c k (no-word c) ok
+one-step c k ok = stepped ranged grid gridOf firstOf WordP WordP FitS FitEnds GivesC Pairs entriesAt gridAt scope-facts tracker-facts c k (no-word c) ok
 
 pub from-here : (cs : List Call) (k : Sets ranged) → GoodSets k → Agree k (toGrids k) cs
 from-here [] k ok = tt
@@ -221,4 +260,4 @@ from-here (c ∷ cs) k ok = let m = one-step c k ok in (shares (step ranged c k)
 
 -- newly opened sets of the two are each other's image
 pub opened-grids : (os ts : List Opening) → toGrids (newly ranged os ts) ≡ newly grid os ts
-opened-grids os ts = opened ranged grid gridOf firstOf UnknownNonzero WordP FitS FitEnds GivesC Pairs entriesAt gridAt scope-facts tracker-facts sure-open os ts .1
+opened-grids os ts = opened ranged grid gridOf firstOf WordP WordP FitS FitEnds GivesC Pairs entriesAt gridAt scope-facts tracker-facts os ts .1

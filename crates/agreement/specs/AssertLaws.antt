@@ -1,40 +1,111 @@
--- No strict assertion about UNKNOWN fires in an update of a well-formed texture.
-use mathlib.Core.Bool.{Bool, true, false, _&&_, not}
+-- No strict assertion about pieces, states and UNKNOWN fires where a well-formed texture is inserted, merged or updated.
+use mathlib.Core.Bool.{true, not, Bool, false, _&&_}
 use mathlib.Core.List.{List, [], _∷_, _++_, map, append-assoc, append-nil}
+use mathlib.Core.Option.{none, some}
 use mathlib.Core.Path.{_≡_, refl, sym, ap, _∙_}
-use Prim.Native.Nat.{ℕ, zero, suc, _-_, _≤_}
+use Prim.Native.Nat.{ℕ, zero, suc, _-_, _+_, _≤_, _<_}
+use native.Mathlib.Decide.{ℕ-discrete}
 use native.Mathlib.Omega.{arith}
-use lib.Dec.{eqb}
-use lib.ListN.{replicate, length, length-replicate, length-append, take, drop, take-append-drop, length-take, length-drop}
-use borrow.Author.Tests.{eqb-false, ne-eqb}
+use lib.Dec.{leb, eqb}
+use lib.ListN.{length, replicate, length-replicate, length-append, take, drop, take-append-drop, length-take, length-drop}
+use borrow.Author.Tests.{le-leb, lt-ltb, eqb-false, ne-eqb}
 use Rattle.model.specs.declared.Extent.{Extent}
 use Rattle.model.specs.declared.Range.{Range}
 use Rattle.model.specs.declared.UsageFlags.{UsageFlags}
-use Rattle.model.specs.Base.{every, if_then_else_, zip₂}
-use Rattle.model.specs.Representation.{inMips, Ends}
-use Rattle.model.specs.RangedStates.{coalesce, isolate, paint, layerStates, Tiles}
+use Rattle.model.specs.Base.{every, eachAt, if_then_else_, zip₂}
+use Rattle.model.specs.Flags.{incompatible}
+use Rattle.model.specs.Representation.{select, mipStart, mipEnd, layerStart, layerEnd, full, inMips, Ends}
+use Rattle.model.specs.StateRules.{invalidState}
+use Rattle.model.specs.RangedStates.{layerStates, coalesce, isolate, paint, Tiles}
 use Rattle.model.specs.Texture.{Held, single, many, Given, givenSingle, givenMany, Piece, onMips, learnAll, metBy}
-use Rattle.agreement.specs.Grid.{Named}
+use Rattle.model.specs.ListLaws.{All, all-every, all-left, all-right, all-join, first-of, AllO, zip-append, all-replicate, all-map}
+use Rattle.model.specs.BoolLaws.{both, by-test}
+use Rattle.model.specs.RangeLaws.{tiles-le, isolate-cuts, tiles-length}
+use Rattle.agreement.specs.Grid.{Named, tab, namedRow}
 use Rattle.agreement.specs.Shared.{gridOf}
-use Rattle.agreement.specs.WellFormedSets.{All}
-use Rattle.agreement.specs.Asserts.{learnAsserts, learnAllAsserts, noneUnknown, piecesAssert, singleAsserts, startAsserts}
-use Rattle.agreement.specs.BoolLaws.{by-test}
-use Rattle.agreement.specs.ListLaws.{all-left, all-right, all-join, zip-append}
-use Rattle.agreement.specs.RangeLaws.{tiles-le, isolate-cuts}
+use Rattle.agreement.specs.Asserts.{pieceInside, insertAsserts, mipAsserts, spreadAsserts, learnAsserts, learnAllAsserts, noneUnknown, piecesAssert, singleAsserts, startAsserts}
 use Rattle.agreement.specs.PaintLaws.{painted-states, split-left, split-right}
-use Rattle.agreement.specs.MergeLaws.{Tiled, tiles-length}
-use Rattle.agreement.specs.TextureLaws.{Gives}
-use Rattle.agreement.specs.PairLaws.{Two, Pair, pair, view, Ok, full-length, after, update-one, updateOne}
-use Rattle.agreement.specs.UpdateLaws.{mapAt, stepTwo, step-ends, step-starts, endsOf, startsOf, twos, twos-ok, twos-ends, twos-starts}
+use Rattle.agreement.specs.MergeLaws.{Tiled}
+use Rattle.agreement.specs.TextureLaws.{Measured, Fit, Gives, gives-one, gives-place, gives-set}
+use Rattle.agreement.specs.UpdateLaws.{mapAt, stepTwo, step-ends, step-starts, endsOf, startsOf, twos, twos-ok, twos-ends, twos-starts, Two, Pair, pair, view, Ok, full-length, after, update-one, updateOne}
 use Rattle.agreement.specs.TrackerLaws.{Known, KnownAll}
-use Rattle.agreement.specs.Fits.{unknowns}
+use Rattle.agreement.specs.Fits.{StateFits, HeldFits, unknowns}
+use Rattle.agreement.specs.WellStates.{NamedFit}
 use Rattle.agreement.specs.WellLaws.{ranges-of, FitEW}
-use Rattle.agreement.specs.LogCount.{PieceIn, pieces-in}
+use Rattle.agreement.specs.GridLaws.{thirds}
+use Rattle.agreement.specs.LogRoom.{PieceIn, pieces-in}
 
-every-of : {A : Type 0} (P : A → Type 0) (f : A → Bool) → ((a : A) → P a → f a ≡ true) → (s : List A) → All P s → every f s ≡ true
-every-of P f h [] t = refl
-every-of P f h (x ∷ s) t = rw (h x (t .0), every-of P f h s (t .1))
+-- ---- a state is named where its piece lies
+tab-at : {A : Type 0} (P : A → Type 0) (f : ℕ → A) (k n j : ℕ) → All P (tab f k n) → k ≤ j → j < k + n → P (f j)
+tab-at P f k zero j t a b = absurd (omega arith)
+tab-at P f k (suc n) j t a b = go (ℕ-discrete j k) (tab-at P f (suc k) n j (t .1))
+  where
+    go : Dec (j ≡ k) → (suc k ≤ j → j < suc k + n → P (f j)) → P (f j)
+    go (yes e) ih = rw e (t .0)
+    go (no e) ih = ih (omega arith) (omega arith)
 
+all-some : (P : ℕ → Type 0) (s : List ℕ) → All (AllO P) (map some s) → All P s
+all-some P [] t = tt
+all-some P (c ∷ s) t = (t .0, all-some P s (t .1))
+
+abbrev PieceFits : UsageFlags → Piece → Type 0
+PieceFits p q = StateFits p (q .state)
+
+abbrev mipPieces : ℕ → List Range → List Piece
+mipPieces k s = map (λ (r : Range). record { selector = select k (suc k) (r .start) (r .end); state = r .state }) s
+
+pieces-of : (p : UsageFlags) (sh : Extent) (k : ℕ) (ss : List (List Range)) → Tiled sh ss → NamedFit p (map (map some) (map layerStates ss)) → All (PieceFits p) (eachAt mipPieces k ss)
+pieces-of p sh k [] t f = tt
+pieces-of p sh k (s ∷ ss) t f =
+    all-join (PieceFits p) (mipPieces k s) (eachAt mipPieces (suc k) ss) (row s (ranges-of (StateFits p) s 0 (sh .layers) (t .0) (all-some (StateFits p) (layerStates s) (f .0))))
+    (pieces-of p sh (suc k) ss (t .1) (f .1))
+  where
+    row : (s : List Range) → All (λ (r : Range). StateFits p (r .state)) s → All (PieceFits p) (mipPieces k s)
+    row [] t = tt
+    row (r ∷ s) t = (t .0, row s (t .1))
+
+pieces-fit : (p : UsageFlags) (sh : Extent) (qs : List Piece) (n : Named) → Gives sh (givenMany qs) n → NamedFit p (n .states) → All (PieceFits p) qs
+pieces-fit p sh qs n (gives-place {q} a b c d) f = (first-of (AllO (StateFits p)) (some (q .state)) (layerEnd (q .selector) - layerStart (q .selector)) (omega arith) row, tt)
+  where
+    here : All (AllO (StateFits p)) (namedRow sh (q .selector) (q .state) (mipStart (q .selector)))
+    here = tab-at (All (AllO (StateFits p))) (namedRow sh (q .selector) (q .state)) 0 (sh .mips) (mipStart (q .selector)) f (omega arith) (omega arith)
+
+    inside : inMips (q .selector) (mipStart (q .selector)) ≡ true
+    inside = rw (le-leb (mipStart (q .selector)) (mipStart (q .selector)) (omega arith), lt-ltb (mipStart (q .selector)) (mipEnd (q .selector)) c)
+
+    row : All (AllO (StateFits p)) (replicate (layerEnd (q .selector) - layerStart (q .selector)) (some (q .state)))
+    row = all-left (AllO (StateFits p)) (replicate (layerEnd (q .selector) - layerStart (q .selector)) (some (q .state))) (replicate (sh .layers - layerEnd (q .selector)) none)
+        (all-right (AllO (StateFits p)) (replicate (layerStart (q .selector)) none)
+        (replicate (layerEnd (q .selector) - layerStart (q .selector)) (some (q .state)) ++ replicate (sh .layers - layerEnd (q .selector)) none) (rw inside at here))
+pieces-fit p sh qs n (gives-set ss h t) f = pieces-of p sh 0 ss t f
+
+-- ---- so the assertions about what is handed in hold
+valid : (p : UsageFlags) (st : ℕ) → StateFits p st → not (invalidState p st) ≡ true
+unfolding invalidState incompatible
+valid p st f = rw (f .compatible)
+
+pub insert-holds : (p : UsageFlags) (sh : Extent) (g : Given) (n : Named) → Measured sh → Gives sh g n → NamedFit p (n .states) → insertAsserts p sh g ≡ true
+insert-holds p sh (givenSingle st) n e gives-one f = valid p st (first-of (AllO (StateFits p)) (some st) (sh .layers) (e .1) (first-of (All (AllO (StateFits p))) (replicate (sh .layers) (some st)) (sh .mips) (e .0) f))
+insert-holds p sh (givenMany qs) n e g f = go qs (pieces-in sh qs n g) (pieces-fit p sh qs n g f)
+  where
+    go : (qs : List Piece) → All (PieceIn sh) qs → All (PieceFits p) qs → every (pieceInside p (full sh)) qs ≡ true
+    go [] t u = refl
+    go (q ∷ qs) t u =
+        both (both (both (le-leb (layerEnd (q .selector)) (sh .layers) (t .0 .3)) (le-leb (mipEnd (q .selector)) (sh .mips) (t .0 .1))) (valid p (q .state) (u .0))) (go qs (t .1) (u .1))
+
+pub mip-holds : (sh : Extent) (h : Held) (g : Given) (n : Named) → Fit sh h → Gives sh g n → mipAsserts h g ≡ true
+mip-holds sh (single cur) g n f r = refl
+mip-holds sh (many ss) (givenSingle new) n f r = refl
+mip-holds sh (many ss) (givenMany qs) n f r =
+    all-every (PieceIn sh) (λ (q : Piece). leb (mipEnd (q .selector)) (length ss)) (λ q t. le-leb (mipEnd (q .selector)) (length ss) (rw (f .1) (t .1))) qs (pieces-in sh qs n r)
+
+pub spread-holds : (p : UsageFlags) (sh : Extent) (h : Held) (g : Given) → HeldFits p sh h → spreadAsserts p sh h g ≡ true
+spread-holds p sh (single cur) (givenSingle new) f = refl
+spread-holds p sh (single cur) (givenMany qs) f =
+    rw (le-leb (sh .layers) (sh .layers) (omega arith), le-leb (sh .mips) (sh .mips) (omega arith), valid p cur (f .state))
+spread-holds p sh (many ss) g f = refl
+
+-- ---- no strict assertion about UNKNOWN fires in an update of a well-formed texture
 -- a start subresource is UNKNOWN where the end's is
 abbrev Under : ℕ → Pair → Type 0
 Under u c = eqb (c .end) u ≡ eqb (c .start) u
@@ -75,7 +146,7 @@ learn-safe u new w b (r ∷ s) t a x y z f g k hx hy e p =
         let lr : length (layerStates (c .run)) ≡ length y = omega (arith, tiles-length (c .run) (r .start) (r .end) (cuts .run)) in
         let run = split-left (layerStates (c .run)) (layerStates (c .after)) y (v ++ z) lr (split-right (layerStates (c .before)) _ x _ lb (cuts .same ∙ e′)) in
         let all = under-run u (r .state) q y n hy (all-left (Under u) (zip₂ pair (replicate n (r .state)) y) _ p′) in
-        let here = every-of (λ (x : Range). eqb (x .state) u ≡ true) (λ (x : Range). eqb (x .state) u) (λ x h. h) (c .run) (ranges-of (λ (c : ℕ). eqb c u ≡ true) (c .run) (r .start) (r .end) (cuts .run) (rw run all)) in
+        let here = all-every (λ (x : Range). eqb (x .state) u ≡ true) (λ (x : Range). eqb (x .state) u) (λ x h. h) (c .run) (ranges-of (λ (c : ℕ). eqb c u ≡ true) (c .run) (r .start) (r .end) (cuts .run) (rw run all)) in
         let m = painted-states u (r .start) (r .end) new w t x y (v ++ z) (omega arith) (omega arith) k (omega arith) hy e′ in
         let d = ih (coalesce (paint u (r .start) (r .end) new t)) (x ++ replicate n new) (m .0) (rw (length-append, length-replicate) (omega arith)) (rw append-assoc (m .1)) (all-right (Under u) (zip₂ pair (replicate n (r .state)) y) _ p′) in
         rw (here, d))
@@ -97,41 +168,19 @@ piece-safe : (u : ℕ) (sh : Extent) (q : Piece) (k : ℕ) (t : Two) → PieceIn
 unfolding learnAsserts
 piece-safe u sh q k t i o a = by-test (λ (s : List Range). learnAsserts u (q .state) s (t .start) ≡ true) (inMips (q .selector) k) (λ b. met) (λ b. refl)
   where
-    A : ℕ
-    A = q .selector .layers .start .0
-
-    E : ℕ
-    E = q .selector .layers .end .0
-
-    n : ℕ
-    n = q .selector .layers .end .0 - q .selector .layers .start .0
-
-    X : List ℕ
-    X = take (q .selector .layers .start .0) (layerStates (t .start))
-
-    Y : List ℕ
-    Y = take (q .selector .layers .end .0 - q .selector .layers .start .0) (drop (q .selector .layers .start .0) (layerStates (t .start)))
-
-    Z : List ℕ
-    Z = drop (q .selector .layers .end .0 - q .selector .layers .start .0) (drop (q .selector .layers .start .0) (layerStates (t .start)))
-
-    parts : layerStates (t .start) ≡ X ++ (Y ++ Z)
-    parts = sym (rw (take-append-drop (q .selector .layers .end .0 - q .selector .layers .start .0) (drop (q .selector .layers .start .0) (layerStates (t .start))), take-append-drop (q .selector .layers .start .0) (layerStates (t .start))))
-
     met : learnAsserts u (q .state) ((isolate (q .selector .layers .start .0) (q .selector .layers .end .0) u (t .end)) .run) (t .start) ≡ true
     met =
+        let A = q .selector .layers .start .0 in let E = q .selector .layers .end .0 in let in₂ = i .2 in let in₃ = i .3 in
         let ls = tiles-length (t .start) 0 (sh .layers) (o .1) in
-        let in₂ = i .2 in let in₃ = i .3 in
+        let d = thirds (layerStates (t .start)) A E (omega arith) (omega arith) in let X = d .before in let Y = d .run in let Z = d .after in
         let cuts = isolate-cuts (t .end) 0 A E u (sh .layers) (omega arith) in₂ in₃ (o .0) in
         let c = isolate A E u (t .end) in
-        let lx : length X ≡ A = rw length-take (omega arith) in
-        let ly : length Y ≡ n = rw (length-take, length-drop) (omega arith) in
-        let lb : length (layerStates (c .before)) ≡ length X = omega (arith, tiles-length (c .before) 0 A (cuts .before)) in
-        let lr : length (layerStates (c .run)) ≡ length Y = omega (arith, tiles-length (c .run) A E (cuts .run)) in
-        let all : All (Under u) (zip₂ pair (layerStates (c .before) ++ (layerStates (c .run) ++ layerStates (c .after))) (X ++ (Y ++ Z))) = rw (cuts .same, ← parts) a in
+        let lb : length (layerStates (c .before)) ≡ length X = omega (arith, d .first, tiles-length (c .before) 0 A (cuts .before)) in
+        let lr : length (layerStates (c .run)) ≡ length Y = omega (arith, d .middle, tiles-length (c .run) A E (cuts .run)) in
+        let all : All (Under u) (zip₂ pair (layerStates (c .before) ++ (layerStates (c .run) ++ layerStates (c .after))) (X ++ (Y ++ Z))) = rw (cuts .same, ← d .parts) a in
         let later = all-right (Under u) (zip₂ pair (layerStates (c .before)) X) _ (rw (zip-append pair (layerStates (c .before)) (layerStates (c .run) ++ layerStates (c .after)) X (Y ++ Z) lb) at all) in
         let two = all-left (Under u) (zip₂ pair (layerStates (c .run)) Y) _ (rw (zip-append pair (layerStates (c .run)) (layerStates (c .after)) Y Z lr) at later) in
-        learn-safe u (q .state) (sh .layers) E (c .run) (t .start) A X Y Z in₃ (cuts .run) (o .1) lx ly parts two
+        learn-safe u (q .state) (sh .layers) E (c .run) (t .start) A X Y Z in₃ (cuts .run) (o .1) (d .first) (d .middle) (d .parts) two
 
 pieces-safe : (u : ℕ) (sh : Extent) (q : Piece) (k : ℕ) (l : List Two) → PieceIn sh q → All (Ok sh) l → All (UnderAll u) l → learnAllAsserts (metBy u q) u (q .state) k (endsOf l) (startsOf l) ≡ true
 pieces-safe u sh q k [] i o a = refl
@@ -151,21 +200,12 @@ step-under u sh q k t i o a = by-test (λ (s : Two). Ok sh s × UnderAll u s) (i
   where
     met : Ok sh (updateOne u q t) × UnderAll u (updateOne u q t)
     met =
-        let A = q .selector .layers .start .0 in let n = q .selector .layers .end .0 - q .selector .layers .start .0 in
-        let X = take A (view t) in let Y = take n (drop A (view t)) in let Z = drop n (drop A (view t)) in
-        let in₂ = i .2 in let in₃ = i .3 in
-        let lv = full-length sh t o in
-        let parts : view t ≡ X ++ (Y ++ Z) = sym (rw (take-append-drop n (drop A (view t)), take-append-drop A (view t))) in
-        let lx : length X ≡ A = rw length-take (omega arith) in
-        let ly : length Y ≡ n = rw (length-take, length-drop) (omega arith) in
-        let m = update-one u sh q t X Y Z in₂ in₃ o lx ly parts in
-        let all : All (Under u) (X ++ (Y ++ Z)) = rw parts at a in
+        let in₂ = i .2 in let in₃ = i .3 in let lv = full-length sh t o in
+        let d = thirds (view t) (q .selector .layers .start .0) (q .selector .layers .end .0) (omega arith) (omega arith) in let X = d .before in let Y = d .run in let Z = d .after in
+        let m = update-one u sh q t X Y Z in₂ in₃ o (d .first) (d .middle) (d .parts) in
+        let all : All (Under u) (X ++ (Y ++ Z)) = rw (d .parts) at a in
         let yz = all-right (Under u) X (Y ++ Z) all in
-        (m .0, rw (m .1) (all-join (Under u) X _ (all-left (Under u) X (Y ++ Z) all) (all-join (Under u) (map (after u (q .state)) Y) Z (mapped Y (all-left (Under u) Y Z yz)) (all-right (Under u) Y Z yz))))
-      where
-        mapped : (y : List Pair) → All (Under u) y → All (Under u) (map (after u (q .state)) y)
-        mapped [] p = tt
-        mapped (c ∷ y) p = (after-under u (q .state) c (p .0), mapped y (p .1))
+        (m .0, rw (m .1) (all-join (Under u) X _ (all-left (Under u) X (Y ++ Z) all) (all-join (Under u) (map (after u (q .state)) Y) Z (all-map (Under u) (Under u) (after u (q .state)) (after-under u (q .state)) Y (all-left (Under u) Y Z yz)) (all-right (Under u) Y Z yz))))
 
 steps-under : (u : ℕ) (sh : Extent) (q : Piece) (k : ℕ) (l : List Two) → PieceIn sh q → All (Ok sh) l → All (UnderAll u) l → All (Ok sh) (mapAt (stepTwo u q) k l) × All (UnderAll u) (mapAt (stepTwo u q) k l)
 steps-under u sh q k [] i o a = (tt, tt)
@@ -200,30 +240,22 @@ none-met u sh q k s i t a = by-test (λ (r : List Range). every (λ (x : Range).
     let c = isolate (q .selector .layers .start .0) (q .selector .layers .end .0) u s in
     let all : All (Known u) (layerStates (c .before) ++ (layerStates (c .run) ++ layerStates (c .after))) = rw (cuts .same) a in
     let run = all-left (Known u) (layerStates (c .run)) (layerStates (c .after)) (all-right (Known u) (layerStates (c .before)) _ all) in
-    every-of (λ (x : Range). Known u (x .state)) (λ (x : Range). not (eqb (x .state) u)) (λ x h. known-not u (x .state) h) (c .run) (ranges-of (Known u) (c .run) (q .selector .layers .start .0) (q .selector .layers .end .0) (cuts .run) run))
+    all-every (λ (x : Range). Known u (x .state)) (λ (x : Range). not (eqb (x .state) u)) (λ x h. known-not u (x .state) h) (c .run) (ranges-of (Known u) (c .run) (q .selector .layers .start .0) (q .selector .layers .end .0) (cuts .run) run))
     (λ b. refl)
 
 none-safe : (u : ℕ) (sh : Extent) (q : Piece) (k : ℕ) (ss : List (List Range)) → PieceIn sh q → Tiled sh ss → KnownAll u (map layerStates ss) → noneUnknown u q k ss ≡ true
 none-safe u sh q k [] i t a = refl
 none-safe u sh q k (s ∷ ss) i t a = rw (none-met u sh q k s i (t .0) (a .0), none-safe u sh q (suc k) ss i (t .1) (a .1))
 
-all-same : (u new n : ℕ) → Known u new → All (Known u) (replicate n new)
-all-same u new zero k = tt
-all-same u new (suc n) k = (k, all-same u new n k)
-
 painted-known : (u : ℕ) (sh : Extent) (q : Piece) (s : List Range) → PieceIn sh q → Known u (q .state) → Tiles 0 s (sh .layers) → All (Known u) (layerStates s)
     → Tiles 0 (coalesce (paint u (q .selector .layers .start .0) (q .selector .layers .end .0) (q .state) s)) (sh .layers) × All (Known u) (layerStates (coalesce (paint u (q .selector .layers .start .0) (q .selector .layers .end .0) (q .state) s)))
 painted-known u sh q s i k t a =
-    let A = q .selector .layers .start .0 in let n = q .selector .layers .end .0 - q .selector .layers .start .0 in
-    let X = take A (layerStates s) in let Y = take n (drop A (layerStates s)) in let Z = drop n (drop A (layerStates s)) in
-    let in₂ = i .2 in let in₃ = i .3 in
+    let A = q .selector .layers .start .0 in let n = q .selector .layers .end .0 - q .selector .layers .start .0 in let in₂ = i .2 in let in₃ = i .3 in
     let ls = tiles-length s 0 (sh .layers) t in
-    let parts : layerStates s ≡ X ++ (Y ++ Z) = sym (rw (take-append-drop n (drop A (layerStates s)), take-append-drop A (layerStates s))) in
-    let lx : length X ≡ A = rw length-take (omega arith) in
-    let ly : length Y ≡ n = rw (length-take, length-drop) (omega arith) in
-    let m = painted-states u A (q .selector .layers .end .0) (q .state) (sh .layers) s X Y Z in₂ in₃ t lx ly parts in
-    let all : All (Known u) (X ++ (Y ++ Z)) = rw parts at a in
-    (m .0, rw (m .1) (all-join (Known u) X _ (all-left (Known u) X (Y ++ Z) all) (all-join (Known u) (replicate n (q .state)) Z (all-same u (q .state) n k) (all-right (Known u) Y Z (all-right (Known u) X (Y ++ Z) all)))))
+    let d = thirds (layerStates s) A (q .selector .layers .end .0) (omega arith) (omega arith) in let X = d .before in let Y = d .run in let Z = d .after in
+    let m = painted-states u A (q .selector .layers .end .0) (q .state) (sh .layers) s X Y Z in₂ in₃ t (d .first) (d .middle) (d .parts) in
+    let all : All (Known u) (X ++ (Y ++ Z)) = rw (d .parts) at a in
+    (m .0, rw (m .1) (all-join (Known u) X _ (all-left (Known u) X (Y ++ Z) all) (all-join (Known u) (replicate n (q .state)) Z (all-replicate (Known u) (q .state) n k) (all-right (Known u) Y Z (all-right (Known u) X (Y ++ Z) all)))))
 
 mips-known : (u : ℕ) (sh : Extent) (q : Piece) (k : ℕ) (ss : List (List Range)) → PieceIn sh q → Known u (q .state) → Tiled sh ss → KnownAll u (map layerStates ss)
     → (let r = onMips (q .selector) (λ s. coalesce (paint u (q .selector .layers .start .0) (q .selector .layers .end .0) (q .state) s)) k ss in Tiled sh r × KnownAll u (map layerStates r))

@@ -1,29 +1,86 @@
--- Call by call, from any well-formed sets: they stay well formed, ranged and grid share what demand 3 lists, and both refuse alike.
+-- Texture by texture, and call by call from any well-formed sets: ranged and grid share what demand 3 lists, what is well formed stays so, and both refuse alike.
 use mathlib.Core.Bool.{true, and-eq-true-iff}
 use mathlib.Core.List.{List, [], _∷_}
 use mathlib.Core.Logic.{_↔_}
-use mathlib.Core.Path.{_≡_, sym, ap, _∙_}
-use Prim.Native.Nat.{ℕ}
+use mathlib.Core.Option.{Option, none, some}
+use mathlib.Core.Path.{_≡_, refl, sym, ap, _∙_}
+use Prim.Native.Nat.{_<_, ℕ}
 use native.Mathlib.Omega.{arith}
+use borrow.Author.Tests.{not-true}
+use Rattle.model.specs.declared.Extent.{Extent}
 use Rattle.model.specs.declared.InvalidUse.{InvalidUse}
 use Rattle.model.specs.declared.Refusal.{Refusal}
-use Rattle.model.specs.Base.{every}
+use Rattle.model.specs.declared.Selector.{Selector}
+use Rattle.model.specs.declared.UsageFlags.{UsageFlags}
+use Rattle.model.specs.Flags.{flagsFit}
 use Rattle.model.specs.Representation.{Ends}
-use Rattle.model.specs.Sets.{Slot, Set, Tracker, Opening}
+use Rattle.model.specs.Refusals.{selectorChecks}
+use Rattle.model.specs.Texture.{Held, insert, merge, update, ranged}
+use Rattle.model.specs.WellFormed.{singleFits, heldFits, endsFit, scopeFits, trackerFits}
+use Rattle.model.specs.CheckLaws.{Passed}
+use Rattle.model.specs.Base.{every}
+use Rattle.model.specs.Sets.{Tracker, Opening}
 use Rattle.model.specs.Calls.{Answer, done, refused, inConflict, Call, Sets, step, newly}
-use Rattle.model.specs.Texture.{Held, ranged}
-use Rattle.model.specs.WellFormed.{scopeFits, trackerFits}
+use Rattle.model.specs.ListLaws.{All, every-all, all-every, all-weak}
 use Rattle.agreement.specs.Grid.{SubresourceConflict, grid}
-use Rattle.agreement.specs.Shared.{toGrids, seenAnswer, Shares, Agree, Demand3, afterCalls}
-use Rattle.agreement.specs.WellFormedSets.{All, wellFormed, GivenWord}
-use Rattle.agreement.specs.BoolLaws.{every-all, all-every}
-use Rattle.agreement.specs.ListLaws.{all-weak}
-use Rattle.agreement.specs.TrackerLaws.{FitEnds, UnknownNonzero}
-use Rattle.agreement.specs.Agree.{FitS, GoodSets, one-step, shares, from-here, opened-grids}
+use Rattle.agreement.specs.Shared.{Use, ofSelector, ofTexture, rangedUse, gridUse, selectorFits, useFits, TextureShares, toGrids, seenAnswer, Shares, Agree, Demand3, afterCalls}
+use Rattle.agreement.specs.WellFormedSets.{wellFormed, GivenWord}
+use Rattle.agreement.specs.TextureLaws.{Measured}
+use Rattle.agreement.specs.TrackerLaws.{FitEnds}
 use Rattle.agreement.specs.Fits.{HeldFits, EndsFit, SetFits, SetsFit}
-use Rattle.agreement.specs.WellStates.{FlagFacts}
-use Rattle.agreement.specs.WellLaws.{FitW, FitEW, WellSets, known-flags, well-good, call-keeps-well-formed, opened-well-formed}
-use Rattle.agreement.specs.Decides.{scope-to, scope-from, tracker-to, tracker-from}
+use Rattle.agreement.specs.SlotLaws.{fits-weak}
+use Rattle.agreement.specs.Agree.{clear-use, twice, FitS, GoodSets, one-step, shares, from-here, opened-grids, use-gives}
+use Rattle.agreement.specs.WellStates.{FlagFacts, sure-flags, use-fits}
+use Rattle.agreement.specs.WellLaws.{FitW, FitEW, GivesW, PairsW, known-flags, scopes-well, trackers-well, held-in, fit-out, ends-in, ends-out, WellScope, WellTracker, WellSets, well-good, call-keeps-well-formed, opened-well-formed}
+use Rattle.agreement.specs.Decides.{single-to, held-to, held-from, ends-to, ends-from, scope-to, scope-from, tracker-to, tracker-from}
+
+selector-passed : (sh : Extent) (sel : Option Selector) → selectorFits sh sel ≡ true → Passed (selectorChecks sh sel)
+selector-passed sh none e = tt
+selector-passed sh (some q) e = let a = and-eq-true-iff _ _ .0 e in (not-true _ (a .0), (not-true _ (a .1), tt))
+
+module _ (p : UsageFlags) (sh : Extent) (flags : flagsFit p ≡ true) (some-mips : 0 < sh .mips) (some-layers : 0 < sh .layers) where
+  sure : FlagFacts p
+  sure = sure-flags p flags
+
+  measured : Measured sh
+  measured = (some-mips, some-layers)
+
+  gives : (u : Use) → useFits p sh u ≡ true → GivesW p sh (rangedUse sh u) (gridUse sh u)
+  gives (ofSelector sel st) e =
+      let a = and-eq-true-iff (selectorFits sh sel) (singleFits p st) .0 e in let f = single-to p st (a .1) in record {
+        sure = sure;
+        base = record { sure = known-flags p sure; measured = measured; gives = use-gives sh sel st (selector-passed sh sel (a .0)); clear = clear-use p sh sel st (f .known) };
+        states = use-fits p sh sel st (f .state);
+      }
+  gives (ofTexture h) e = scopes-well .passed-on p sh h (held-in p sh h sure measured (held-to p sh h e))
+
+  pairs : (u : Use) → useFits p sh u ≡ true → PairsW p sh (rangedUse sh u) (gridUse sh u) (rangedUse sh u) (gridUse sh u)
+  pairs u e = let g = gives u e in record { sure = sure; base = twice p sh (rangedUse sh u) (gridUse sh u) (g .base); from = g .states; to = g .states; alike = refl }
+
+  held : (h : Held) → heldFits p sh h ≡ true → FitW p sh h
+  held h f = held-in p sh h sure measured (held-to p sh h f)
+
+  ends : (x : Ends Held) → endsFit p sh x ≡ true → FitEW p sh x
+  ends x f = ends-in p sh x sure measured (ends-to p sh x f)
+
+  held-back : (h : Held) → FitW p sh h → heldFits p sh h ≡ true
+  held-back h f = held-from p sh h (fit-out p sh h measured f)
+
+  ends-back : (x : Ends Held) → FitEW p sh x → endsFit p sh x ≡ true
+  ends-back x f = ends-from p sh x (ends-out p sh x measured f)
+
+  pub texture-shares : (u : Use) → useFits p sh u ≡ true → TextureShares p sh u
+  texture-shares u e =
+      let g = rangedUse sh u in let n = gridUse sh u in let i = scopes-well .inserted p sh g n (gives u e) in record {
+        inserted = i .1;
+        inserted-fits = held-back (insert p sh g) (i .0);
+        merged = λ h f. scopes-well .merged p sh h g n (gives u e) (held h f) .1 .0;
+        conflict = λ h f. scopes-well .merged p sh h g n (gives u e) (held h f) .1 .1;
+        merged-fits = λ h f. held-back (merge p sh h g .value) (scopes-well .merged p sh h g n (gives u e) (held h f) .0);
+        logged = λ mask x f m l. trackers-well .logged p mask sh x g n g n (pairs u e) (ends x f) m l .0;
+        updated = λ x f. trackers-well .updated p sh x g n g n (pairs u e) (ends x f) .1;
+        updated-fits = λ x f. ends-back (update p sh x g) (trackers-well .updated p sh x g n g n (pairs u e) (ends x f) .0);
+      }
 
 -- ---- the test and the records
 pub sets-to : (k : Sets ranged) → wellFormed k ≡ true → SetsFit k
@@ -53,39 +110,18 @@ pub always-fit : (scopes trackers : List Opening) (calls : List Call) → All Gi
 always-fit os ts cs w = calls-keep cs (newly ranged os ts) w (opened-fits os ts)
 
 -- ---- what is shared
-abbrev ScopeW : Set Held → Type 0
-ScopeW s = FlagFacts (s .flags) × All (λ (x : Slot Held). x .owned ≡ true → FitW (s .flags) (x .extent) (x .held)) (s .slots)
-
-abbrev ScopeK : Set Held → Type 0
-ScopeK s = UnknownNonzero (s .flags) × All (λ (x : Slot Held). x .owned ≡ true → FitS (s .flags) (x .extent) (x .held)) (s .slots)
-
-scope-weak : (s : Set Held) → ScopeW s → ScopeK s
-scope-weak s f = (
-  known-flags (s .flags) (f .0),
-  all-weak (λ (x : Slot Held). x .owned ≡ true → FitW (s .flags) (x .extent) (x .held)) (λ (x : Slot Held). x .owned ≡ true → FitS (s .flags) (x .extent) (x .held)) (λ x h o. h o .base) (s .slots) (f .1),
-)
-
-abbrev TrackerW : Tracker Held → Type 0
-TrackerW t = FlagFacts (t .set .flags) × All (λ (x : Slot (Ends Held)). x .owned ≡ true → FitEW (t .set .flags) (x .extent) (x .held)) (t .set .slots)
-
-abbrev TrackerK : Tracker Held → Type 0
-TrackerK t = UnknownNonzero (t .set .flags) × All (λ (x : Slot (Ends Held)). x .owned ≡ true → FitEnds (t .set .flags) (x .extent) (x .held)) (t .set .slots)
-
-tracker-weak : (t : Tracker Held) → TrackerW t → TrackerK t
-tracker-weak t f = (
-  known-flags (t .set .flags) (f .0),
-  all-weak (λ (x : Slot (Ends Held)). x .owned ≡ true → FitEW (t .set .flags) (x .extent) (x .held)) (λ (x : Slot (Ends Held)). x .owned ≡ true → FitEnds (t .set .flags) (x .extent) (x .held)) (λ x h o. h o .base) (t .set .slots) (f .1),
-)
-
 good-weak : (k : Sets ranged) → WellSets k → GoodSets k
-good-weak k g = (all-weak ScopeW ScopeK scope-weak (k .scopes) (g .0), all-weak TrackerW TrackerK tracker-weak (k .trackers) (g .1))
+good-weak k g = (
+  all-weak WellScope (SetFits FitS) (λ s f. fits-weak FitW FitS s f (λ sh h x w. w .base)) (k .scopes) (g .0),
+  all-weak WellTracker (λ (t : Tracker Held). SetFits FitEnds (t .set)) (λ t f. fits-weak FitEW FitEnds (t .set) f (λ sh e x w. w .base)) (k .trackers) (g .1),
+)
 
 pub call-shares : (c : Call) (k : Sets ranged) → wellFormed k ≡ true → Shares (step ranged c k) (step grid c (toGrids k))
-call-shares c k e = shares (step ranged c k) (step grid c (toGrids k)) (one-step c k (good-weak k (well-good k (sets-to k e) .0)))
+call-shares c k e = shares (step ranged c k) (step grid c (toGrids k)) (one-step c k (good-weak k (well-good k (sets-to k e))))
 
 -- for every list of calls
 pub agrees-from : (k : Sets ranged) → wellFormed k ≡ true → (calls : List Call) → Agree k (toGrids k) calls
-agrees-from k e cs = from-here cs k (good-weak k (well-good k (sets-to k e) .0))
+agrees-from k e cs = from-here cs k (good-weak k (well-good k (sets-to k e)))
 
 pub agrees : Demand3
 agrees os ts cs = rw (← opened-grids os ts) (agrees-from (newly ranged os ts) (opened-fits os ts) cs)

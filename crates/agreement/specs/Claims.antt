@@ -1,7 +1,7 @@
 -- What is proved, in one place: each claim is a statement with the name of its proof. To trust it, read crate `model`, and here Grid (01's grid), Shared
 -- (what the two representations share), WellFormedSets, LogBound, Layers, Asserts and WebGpu; the other modules hold proofs alone.
 use mathlib.Core.Bool.{true, false, _||_}
-use mathlib.Core.List.{List, map}
+use mathlib.Core.List.{List, map, [], _∷_}
 use mathlib.Core.Logic.{_↔_}
 use mathlib.Core.Option.{Option, none, some}
 use mathlib.Core.Path.{_≡_}
@@ -24,23 +24,22 @@ use Rattle.model.specs.RangeCalls.{ascends}
 use Rattle.model.specs.Texture.{Held, Entry, ranged}
 use Rattle.model.specs.WellFormed.{scopeFits, trackerFits}
 use Rattle.model.specs.Log.{Log, pending, headCheck, logging}
+use Rattle.model.specs.ListLaws.{All}
+use Rattle.model.specs.RangeLaws.{isolate-few}
 use Rattle.agreement.specs.Grid.{grid}
 use Rattle.agreement.specs.Shared.{toGrids, Use, useFits, TextureShares, Shares, Agree, Demand3, afterCalls}
-use Rattle.agreement.specs.WellFormedSets.{All, wellFormed, Word, GivenWord}
-use Rattle.agreement.specs.LogBound.{entries, namedStates, capacityOf, ownedOf}
+use Rattle.agreement.specs.WellFormedSets.{wellFormed, Word, GivenWord}
+use Rattle.agreement.specs.LogBound.{entries, namedStates, capacityOf, ownedOf, listed}
 use Rattle.agreement.specs.Layers.{covered, lengths, AddUp}
 use Rattle.agreement.specs.Asserts.{callAsserts}
 use Rattle.agreement.specs.WebGpu.{Usage, isAttachment, compatibleList, usesFit, Renders, benchFlags, benchBit, wgpuFlags, Storing, Attaching, wgpuBit, Histories, histories, InConflict, Unfit, GivenUsage, NotCompatible}
-use Rattle.agreement.specs.RangeCount.{ranges-few, isolated-few, ascending-few, covered-lengths, scope-adds-up, tracker-adds-up}
-use Rattle.agreement.specs.TexturesAgree.{texture-shares}
-use Rattle.agreement.specs.CallsAgree.{sets-to, opened-fits, call-keeps, call-shares, agrees-from, agrees, refused-alike, always-fit}
+use Rattle.agreement.specs.RangeCount.{ranges-few, ascending-few, covered-lengths, scope-adds-up, tracker-adds-up}
+use Rattle.agreement.specs.CallsAgree.{sets-to, opened-fits, call-keeps, call-shares, agrees-from, agrees, refused-alike, always-fit, texture-shares}
 use Rattle.agreement.specs.OwnRefusals.{own-refusals}
-use Rattle.agreement.specs.LogFew.{few-entries}
-use Rattle.agreement.specs.LogRoom.{entries-written, never-full, owned-few, owned-most, never-full-owned, capacity-few, never-full-capacity, never-15}
+use Rattle.agreement.specs.LogRoom.{entries-written, never-full, owned-few, owned-most, never-full-owned, capacity-few, never-full-capacity, never-15, few-entries}
 use Rattle.agreement.specs.AssertCalls.{calls-assert}
 use Rattle.agreement.specs.FitLaws.{flags-rule}
-use Rattle.agreement.specs.Judged.{uses-judged}
-use Rattle.agreement.specs.UsagesJudged.{bench-renders, wgpu-renders, usages-judged}
+use Rattle.agreement.specs.UsagesJudged.{bench-renders, wgpu-renders, usages-judged, uses-judged}
 
 -- ---- Demand 3 of the definitions: ranged and grid share what it lists after each call of every list, on however many sets
 -- "given to both newly opened" (crate `track` has `demand3`, of the code's contracts)
@@ -76,8 +75,8 @@ by-call = call-shares
 pub refusals : (c : Call) (k : Sets ranged) → wellFormed k ≡ true → (r : Refusal) → (step ranged c k .answer ≡ refused r) ↔ (step grid c (toGrids k) .answer ≡ refused r)
 refusals = refused-alike
 
--- "4, 5 and 15 cannot arise in these calls": a call's own refusals are 6 to 13
-pub own : (c : Call) (k : Sets ranged) (r : Refusal) → step ranged c k .answer ≡ refused r → (6 ≤ numberOf r) × (numberOf r ≤ 13)
+-- "4, 5 and 15 cannot arise in these calls": a call's own refusals are none of 1 to 5, 14 and 15
+pub own : (c : Call) (k : Sets ranged) (r : Refusal) → step ranged c k .answer ≡ refused r → listed (numberOf r) (1 ∷ 2 ∷ 3 ∷ 4 ∷ 5 ∷ 14 ∷ 15 ∷ []) ≡ false
 own = own-refusals ranged
 
 -- ---- Ranges
@@ -104,7 +103,7 @@ ranges = ranges-few
 
 -- of an isolated list
 pub isolated : (s : List Range) (a e d w : ℕ) → a < e → e ≤ w → Tiles 0 s w → length (listOf (isolate a e d s)) ≤ w
-isolated = isolated-few
+isolated = isolate-few
 
 -- ---- The log
 -- as many entries are written as are counted
@@ -113,7 +112,7 @@ counted = entries-written
 
 -- a call adds no more entries than it names subresources
 pub few : (c : Call) (k : Sets ranged) → GivenWord c → wellFormed k ≡ true → entries (step ranged c k .log) ≤ namedStates c k
-few c k w e = few-entries c k w (sets-to k e)
+few c k w e = few-entries c k w (sets-to k e) .0
 
 -- nor than the textures have that its tracker owns before it: an index without an owner has no transition
 pub within-owned : (c : Call) (k : Sets ranged) → GivenWord c → wellFormed k ≡ true → entries (step ranged c k .log) ≤ ownedOf c k

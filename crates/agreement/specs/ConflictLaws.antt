@@ -4,36 +4,36 @@ use mathlib.Core.List.{List, [], _∷_, _++_, map}
 use mathlib.Core.Option.{Option, none, some, Option·map}
 use mathlib.Core.Path.{_≡_, refl, sym, ap, _∙_}
 use Prim.Native.Nat.{ℕ, zero, suc, _≤_, _<_}
-use native.Mathlib.Decide.{decLt}
 use native.Mathlib.Omega.{arith}
 use lib.Bits.{bitOr, or-zero-r}
 use lib.Dec.{leb, ltb, eqb}
-use lib.ListN.{replicate, length-replicate, getD, getD-replicate, List·getD-map, List·getD-eq-default}
-use borrow.Author.Tests.{not-false, leb-true, ltb-true, ltb-false, le-leb, lt-ltb}
+use lib.ListN.{replicate, getD, getD-replicate, List·getD-map}
+use borrow.Author.Tests.{not-false, leb-true, ltb-true, ltb-false, le-leb, lt-ltb, not-true}
 use Rattle.model.specs.declared.Extent.{Extent}
 use Rattle.model.specs.declared.Selector.{Selector}
 use Rattle.model.specs.declared.UsageFlags.{UsageFlags}
-use Rattle.model.specs.Base.{if_then_else_, Stop, fine, ruled, orKeep, onward, walk₂}
+use Rattle.model.specs.Base.{if_then_else_, Stop, ruled, orKeep, onward, walk₂}
 use Rattle.model.specs.Flags.{incompatible}
-use Rattle.model.specs.Representation.{inMips, holds}
-use Rattle.model.specs.Sets.{Slot, Set, headOf, emptySlot, slotAt}
+use Rattle.model.specs.Representation.{inMips, holds, full}
+use Rattle.model.specs.Sets.{Slot, Set, headOf, slotAt}
 use Rattle.model.specs.Refusals.{textureChecks, selectorChecks, stateChecks, singleRefusal}
-use Rattle.model.specs.Calls.{owning, Indexed, answer, mergeSingle}
-use Rattle.model.specs.Subresources.{everywhere}
+use Rattle.model.specs.Calls.{Indexed, answer, mergeSingle}
+use Rattle.model.specs.ListLaws.{All, all-left, all-right, all-join, all-getD, all-both, AllO}
+use Rattle.model.specs.BoolLaws.{neither, by-test}
+use Rattle.model.specs.CheckLaws.{passed, Passed}
 use Rattle.agreement.specs.Grid.{SubresourceConflict, without, singleUnion, manyUnion, namedUse}
-use Rattle.agreement.specs.WellFormedSets.{All, Word}
+use Rattle.agreement.specs.WellFormedSets.{Word}
 use Rattle.agreement.specs.LogBound.{oneIf}
 use Rattle.agreement.specs.WebGpu.{History, Histories, usesFit, oneUse, handUse, takeState, takeStates, historyMerge, histories, noHistory, Names, InConflict, Unfit}
-use Rattle.agreement.specs.BoolLaws.{neither}
-use Rattle.agreement.specs.ListLaws.{all-left, all-right, all-join, all-getD, all-both, AllO}
 use Rattle.usage.specs.BitLaws.{and-or}
-use Rattle.agreement.specs.LiftScope.{passed}
-use Rattle.agreement.specs.ScopeLaws.{Passed}
-use Rattle.agreement.specs.WellStates.{GridAll, use-all}
-use Rattle.agreement.specs.LogCount.{isNamed}
-use Rattle.agreement.specs.LogFew.{use-named, namedAt}
+use Rattle.agreement.specs.WellStates.{use-all}
 use Rattle.agreement.specs.FitLaws.{UseFits, unionOf, fits-union}
 use Rattle.agreement.specs.HistoryLaws.{Tied, Clear, TiedHeld, joined-union, without-clear, use-state, one-use, hand-all}
+use Rattle.agreement.specs.Fits.{SetFits}
+use Rattle.agreement.specs.SlotLaws.{slot-fits}
+use Rattle.agreement.specs.GridLaws.{GridAll, all-of}
+use Rattle.agreement.specs.BarrierLaws.{everywhere-at}
+use Rattle.agreement.specs.LogRoom.{use-named, namedAt, isNamed}
 
 abbrev has : {C : Type 0} → Option C → Bool
 has none = false
@@ -162,7 +162,11 @@ grid-both P Q (r ∷ g) x y = (all-both P Q r (x .0) (y .0), grid-both P Q g (x 
 
 merge-unfit : (p : UsageFlags) (sh : Extent) (sel : Option Selector) (st : ℕ) (h : Histories) → TiedHeld p sh h → UseFits p st → has (historyMerge p sh h (handUse sh sel st) .conflict) ≡ anyUnfit p (h .states) (handUse sh sel st .states)
 unfolding historyMerge
-merge-unfit p sh sel st h f u = go (h .single) refl
+merge-unfit p sh sel st h f u =
+    by-test (λ (w : Stop SubresourceConflict Histories). has (w .conflict) ≡ anyUnfit p (h .states) G) (h .single)
+    (λ e. kept (takeStates (singleUnion p) (h .states) G .conflict) _
+    ∙ single-any p (h .states) G (grid-both (Tied p) (Clear p) (h .states) (f .states) (f .clear e)) (hand-all (UseFits p) (TiedClear p) (λ x w. (one-use p x w, w .known)) (namedUse sh sel st .states) all))
+    (λ e. many-any p (h .states) G (f .states) (hand-all (UseFits p) (Tied p) (one-use p) (namedUse sh sel st .states) all))
   where
     G : List (List (Option History))
     G = handUse sh sel st .states
@@ -174,30 +178,17 @@ merge-unfit p sh sel st h f u = go (h .single) refl
     kept none x = refl
     kept (some c) x = refl
 
-    go : (b : Bool) → h .single ≡ b
-        → has ((if b then orKeep (takeStates (singleUnion p) (h .states) G .conflict) h (record { single = handUse sh sel st .single; states = takeStates (singleUnion p) (h .states) G .value })
-        else record { value = record { single = false; states = takeStates (manyUnion p) (h .states) G .value }; conflict = takeStates (manyUnion p) (h .states) G .conflict }) .conflict) ≡ anyUnfit p (h .states) G
-    go true e =
-        kept (takeStates (singleUnion p) (h .states) G .conflict) _
-        ∙ single-any p (h .states) G (grid-both (Tied p) (Clear p) (h .states) (f .states) (f .clear e)) (hand-all (UseFits p) (TiedClear p) (λ x w. (one-use p x w, w .known)) (namedUse sh sel st .states) all)
-    go false e = many-any p (h .states) G (f .states) (hand-all (UseFits p) (Tied p) (one-use p) (namedUse sh sel st .states) all)
-
 -- ---- the subresources that a use names
-none-elsewhere : (sh : Extent) (st m l : ℕ) → isNamed (getD (getD (everywhere sh (some st)) m []) l none) ≡ true → (m < sh .mips) × (l < sh .layers)
-none-elsewhere sh st m l e = go (decLt m (sh .mips)) (decLt l (sh .layers))
-  where
-    row : List (Option ℕ)
-    row = replicate (sh .layers) (some st)
+holds-parts : (q : Selector) (m l : ℕ) → holds q m l ≡ true → (q .mips .start .0 ≤ m) × (m < q .mips .end .0) × (q .layers .start .0 ≤ l) × (l < q .layers .end .0)
+holds-parts q m l h =
+    let a = and-eq-true-iff (inMips q m && leb (q .layers .start .0) l) (ltb l (q .layers .end .0)) .0 h in
+    let b = and-eq-true-iff (inMips q m) (leb (q .layers .start .0) l) .0 (a .0) in
+    let c = and-eq-true-iff (leb (q .mips .start .0) m) (ltb m (q .mips .end .0)) .0 (b .0) in
+    (leb-true _ _ (c .0), ltb-true _ _ (c .1), leb-true _ _ (b .1), ltb-true _ _ (a .1))
 
-    go : Dec (m < sh .mips) → Dec (l < sh .layers) → (m < sh .mips) × (l < sh .layers)
-    go (yes a) (yes b) = (a, b)
-    go (yes a) (no b) =
-        let h : getD (getD (everywhere sh (some st)) m []) l none ≡ none = rw (getD-replicate (sh .mips) m row [] a) (List·getD-eq-default row none {n = l} (rw (length-replicate (sh .layers) (some st)) (omega arith))) in
-        absurd (false≢true (sym (ap isNamed h) ∙ e))
-    go (no a) b =
-        let h : getD (everywhere sh (some st)) m [] ≡ [] = List·getD-eq-default (everywhere sh (some st)) [] {n = m} (rw (length-replicate (sh .mips) row) (omega arith)) in
-        let k : getD (getD (everywhere sh (some st)) m []) l none ≡ none = rw h in
-        absurd (false≢true (sym (ap isNamed k) ∙ e))
+if-named : (b : Bool) (st : ℕ) → isNamed (if b then some st else none) ≡ true → b ≡ true
+if-named true st e = refl
+if-named false st e = e
 
 one-true : (a b : Bool) → oneIf a ≡ oneIf b → a ≡ true → b ≡ true
 one-true true true e f = refl
@@ -214,14 +205,9 @@ inner sh q t =
     (ltb-true _ _ (a .1), ltb-false _ _ (b .0))
 
 named-names : (sh : Extent) (sel : Option Selector) (st m l : ℕ) → Good-selector sh sel → isNamed (getD (getD (namedUse sh sel st .states) m []) l none) ≡ true → Names sh sel m l
-named-names sh none st m l t e = none-elsewhere sh st m l e
+named-names sh none st m l t e = let h = holds-parts (full sh) m l (if-named (holds (full sh) m l) st (rw (everywhere-at sh st m l) at e)) in (h .1, h .3)
 named-names sh (some q) st m l t e =
-    let n = inner sh q t in
-    let h = one-true (namedAt (namedUse sh (some q) st) m l) (holds q m l) (use-named sh q st m l (n .0) (n .1)) e in
-    let a = and-eq-true-iff (inMips q m && leb (q .layers .start .0) l) (ltb l (q .layers .end .0)) .0 h in
-    let b = and-eq-true-iff (inMips q m) (leb (q .layers .start .0) l) .0 (a .0) in
-    let c = and-eq-true-iff (leb (q .mips .start .0) m) (ltb m (q .mips .end .0)) .0 (b .0) in
-    (leb-true _ _ (c .0), ltb-true _ _ (c .1), leb-true _ _ (b .1), ltb-true _ _ (a .1))
+    let n = inner sh q t in holds-parts q m l (one-true (namedAt (namedUse sh (some q) st) m l) (holds q m l) (use-named sh q st m l (n .0) (n .1)) e)
 
 names-named : (sh : Extent) (sel : Option Selector) (st m l : ℕ) → Good-selector sh sel → Names sh sel m l → isNamed (getD (getD (namedUse sh sel st .states) m []) l none) ≡ true
 names-named sh none st m l t e = rw (getD-replicate (sh .mips) m (replicate (sh .layers) (some st)) [] (e .0), getD-replicate (sh .layers) l (some st) none (e .1))
@@ -249,10 +235,6 @@ record UnfitIn (p : UsageFlags) (g : List (List History)) (sh : Extent) (sel : O
   names : Names sh sel mip layer
   unfit : usesFit p (usesIn g mip layer ++ (st ∷ [])) ≡ false
 
-not-true′ : (b : Bool) → not b ≡ true → b ≡ false
-not-true′ true e = absurd (false≢true e)
-not-true′ false e = refl
-
 any-unfit : (p : UsageFlags) (g : List (List History)) (sh : Extent) (sel : Option Selector) (st : ℕ) → Good-selector sh sel → anyUnfit p g (handUse sh sel st .states) ≡ true → UnfitIn p g sh sel st
 any-unfit p g sh sel st t e =
     let a = any-at (any₂ (unfit p)) [] [] g (handUse sh sel st .states) e in
@@ -262,11 +244,11 @@ any-unfit p g sh sel st t e =
     go : (m l : ℕ) (o : Option ℕ) → getD (getD (namedUse sh sel st .states) m []) l none ≡ o → AllO (λ (x : ℕ). x ≡ st) o
         → unfit p (getD (getD g m []) l noHistory) (Option·map oneUse o) ≡ true → UnfitIn p g sh sel st
     go m l none q v e = absurd (false≢true e)
-    go m l (some x) q v e = record { mip = m; layer = l; names = named-names sh sel st m l t (ap isNamed q); unfit = not-true′ _ (rw v at e) }
+    go m l (some x) q v e = record { mip = m; layer = l; names = named-names sh sel st m l t (ap isNamed q); unfit = not-true _ (rw v at e) }
 
 unfit-any : (p : UsageFlags) (g : List (List History)) (sh : Extent) (sel : Option Selector) (st : ℕ) → Good-selector sh sel → usesFit p (st ∷ []) ≡ true → UnfitIn p g sh sel st → anyUnfit p g (handUse sh sel st .states) ≡ true
 unfit-any p g sh sel st t ok u =
-    any-of (any₂ (unfit p)) [] [] (λ (r : List (Option History)). Unit {0}) (λ b q. refl) no-right g (handUse sh sel st .states) (u .mip) (free (handUse sh sel st .states))
+    any-of (any₂ (unfit p)) [] [] (λ (r : List (Option History)). Unit {0}) (λ b q. refl) no-right g (handUse sh sel st .states) (u .mip) (all-of _ (λ r. tt) (handUse sh sel st .states))
     (any-of (unfit p) noHistory none Q (λ b q. lone b q) (λ a. refl) (getD g (u .mip) []) (getD (handUse sh sel st .states) (u .mip) []) (u .layer)
     (all-getD (All Q) (handUse sh sel st .states) (u .mip) [] tt (hand-all (λ (x : ℕ). x ≡ st) (λ (c : History). usesFit p (c .uses) ≡ true) (λ x e. rw e ok) (namedUse sh sel st .states) (use-all (λ (x : ℕ). x ≡ st) sh sel st refl)))
     (rw (handed-at (namedUse sh sel st .states) (u .mip) (u .layer))
@@ -283,10 +265,6 @@ unfit-any p g sh sel st t ok u =
     no-right [] = refl
     no-right (c ∷ r) = refl
 
-    free : (n : List (List (Option History))) → All (λ (r : List (Option History)). Unit {0}) n
-    free [] = tt
-    free (r ∷ n) = (tt, free n)
-
     go : (o : Option ℕ) → AllO (λ (x : ℕ). x ≡ st) o → isNamed o ≡ true → unfit p (getD (getD g (u .mip) []) (u .layer) noHistory) (Option·map oneUse o) ≡ true
     go none v e = absurd (false≢true e)
     go (some x) v e = rw (v, u .unfit)
@@ -300,10 +278,12 @@ has-conflicted : {C : Type 0} (i : ℕ) (o : Option C) → has o ≡ true → In
 has-conflicted i none e = absurd (false≢true e)
 has-conflicted i (some c) e = tt
 
-pub conflict-unfit : (s : Set Histories) (i : ℕ) (sh : Extent) (sel : Option Selector) (st : ℕ) → All (λ (x : Slot Histories). x .owned ≡ true → TiedHeld (s .flags) (x .extent) (x .held)) (s .slots) → Word st
+pub conflict-unfit : (s : Set Histories) (i : ℕ) (sh : Extent) (sel : Option Selector) (st : ℕ) → SetFits TiedHeld s → Word st
     → singleRefusal (headOf s) i sh sel st ≡ none
     → (InConflict (mergeSingle histories s i sh sel st .answer) → Unfit s i sh sel st) × (Unfit s i sh sel st → InConflict (mergeSingle histories s i sh sel st .answer))
-conflict-unfit s i sh sel st w word e = rw e (go (slot .owned) refl)
+conflict-unfit s i sh sel st w word e =
+    rw e (by-test (λ (o : Stop (Indexed SubresourceConflict) (Slot Histories)). (InConflict (answer (o .conflict)) → Unfit s i sh sel st) × (Unfit s i sh sel st → InConflict (answer (o .conflict)))) (slot .owned) taken
+    (λ o. (λ c. absurd c, λ x. absurd (let z : usesFit p (st ∷ []) ≡ false = rw o at (x .unfit) in false≢true (sym z ∙ alone)))))
   where
     p : UsageFlags
     p = s .flags
@@ -325,25 +305,18 @@ conflict-unfit s i sh sel st w word e = rw e (go (slot .owned) refl)
     C : Option SubresourceConflict
     C = historyMerge p sh (slot .held) (handUse sh sel st) .conflict
 
-    out : Bool → Stop (Indexed SubresourceConflict) (Slot Histories)
-    out b = if b then record { value = owning sh (historyMerge p sh (slot .held) (handUse sh sel st) .value); conflict = Option·map (λ (c : SubresourceConflict). record { index = i; what = c }) C }
-        else fine (owning sh (histories .insert p sh (handUse sh sel st)))
-
     unfit-of : slot .owned ≡ true → UnfitIn p (slot .held .states) sh sel st → Unfit s i sh sel st
     unfit-of o x = record { mip = x .mip; layer = x .layer; names = x .names; unfit = rw o (x .unfit) }
 
     of-unfit : slot .owned ≡ true → Unfit s i sh sel st → UnfitIn p (slot .held .states) sh sel st
     of-unfit o x = record { mip = x .mip; layer = x .layer; names = x .names; unfit = rw o at (x .unfit) }
 
-    go : (b : Bool) → slot .owned ≡ b → (InConflict (answer (out b .conflict)) → Unfit s i sh sel st) × (Unfit s i sh sel st → InConflict (answer (out b .conflict)))
-    go true o =
-        let t = all-getD (λ (x : Slot Histories). x .owned ≡ true → TiedHeld p (x .extent) (x .held)) (s .slots) i (emptySlot (histories .fresh 0)) (λ (z : false ≡ true). absurd (false≢true z)) w o in
+    taken : slot .owned ≡ true → (InConflict (answer (Option·map (λ (c : SubresourceConflict). record { index = i; what = c }) C)) → Unfit s i sh sel st)
+        × (Unfit s i sh sel st → InConflict (answer (Option·map (λ (c : SubresourceConflict). record { index = i; what = c }) C)))
+    taken o =
+        let t = slot-fits TiedHeld s (histories .fresh 0) i w .held o in
         let tied : TiedHeld p sh (slot .held) = record { sure = t .sure; states = t .states; clear = t .clear } in
         let h = merge-unfit p sh sel st (slot .held) tied u in (
           λ c. unfit-of o (any-unfit p (slot .held .states) sh sel st checks (sym h ∙ conflicted-has i C c)),
           λ x. has-conflicted i C (h ∙ unfit-any p (slot .held .states) sh sel st checks alone (of-unfit o x)),
         )
-    go false o = (
-      λ c. absurd c,
-      λ x. absurd (let z : usesFit p (st ∷ []) ≡ false = rw o at (x .unfit) in false≢true (sym z ∙ alone)),
-    )

@@ -11,9 +11,9 @@ use Rattle.model.specs.Refusals.{trackerIndex}
 use Rattle.model.specs.Calls.{callMergeSingle, callMergeUsageScope, callSetSingle, callSetFromUsageScope, callSetFromTracker, callSetAndRemoveSparse, mergeSingle, mergeUsageScope, setSingle, setFromUsageScope, setFromTracker, setAndRemoveSparse, Sets, step}
 use Rattle.model.specs.Texture.{Held, ranged}
 use Rattle.model.specs.WellFormed.{scopeFits, trackerFits}
+use Rattle.model.specs.BoolLaws.{and-left, and-right}
 use Rattle.agreement.specs.WellFormedSets.{Word}
 use Rattle.agreement.specs.LogBound.{entries, ownedStates}
-use Rattle.agreement.specs.BoolLaws.{and-left, and-right}
 use Rattle.agreement.specs.CallsAgree.{call-keeps}
 use Rattle.agreement.specs.LogRoom.{owned-few, capacity-few}
 

@@ -12,7 +12,7 @@ use borrow.Author.Tests.{le-leb, lt-ltb, lt-leb, le-ltb, ltb-true, ltb-false}
 use Rattle.model.specs.declared.Range.{Range}
 use Rattle.model.specs.Base.{if_then_else_, each}
 use Rattle.model.specs.RangedStates.{iterFilter, layerStates, Tiles}
-use Rattle.agreement.specs.BoolLaws.{by-test}
+use Rattle.model.specs.BoolLaws.{by-test}
 
 -- what f makes of the ranges that hold layer l
 abbrev pub held : {A : Type 0} → (ℕ → List A) → ℕ → List Range → List A

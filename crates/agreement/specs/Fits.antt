@@ -15,8 +15,8 @@ use Rattle.model.specs.Sets.{Numbers, Slot, Set, Tracker, numbersFit}
 use Rattle.model.specs.Calls.{Sets}
 use Rattle.model.specs.RangedStates.{Tiles}
 use Rattle.model.specs.Texture.{Held, single, many, ranged}
+use Rattle.model.specs.ListLaws.{All}
 use Rattle.agreement.specs.Shared.{gridOf}
-use Rattle.agreement.specs.WellFormedSets.{All}
 
 -- "states nonzero, compatible, without COMPLEX", of sixteen bits
 pub record StateFits (p : UsageFlags) (s : ℕ) : Type 0 where

@@ -14,25 +14,28 @@ use Rattle.model.specs.declared.Extent.{Extent}
 use Rattle.model.specs.declared.Selector.{Selector}
 use Rattle.model.specs.declared.UsageFlags.{UsageFlags}
 use Rattle.model.specs.Base.{if_then_else_, Stop, ruled, orKeep, onward, walk₂}
-use Rattle.model.specs.Flags.{meets, incompatible}
+use Rattle.model.specs.Flags.{meets, incompatible, flagsFit}
 use Rattle.model.specs.Representation.{Ends}
 use Rattle.model.specs.Sets.{Head}
 use Rattle.model.specs.Refusals.{textureChecks, selectorChecks, stateChecks, singleRefusal}
 use Rattle.model.specs.StateRules.{less}
+use Rattle.model.specs.ListLaws.{All, all-right, all-join, AllO}
+use Rattle.model.specs.BoolLaws.{neither, by-test₂}
+use Rattle.model.specs.CheckLaws.{passed}
 use Rattle.agreement.specs.Grid.{Grid, Named, SubresourceConflict, without, singleUnion, manyUnion, uniteState, uniteStates, namedOr, namedUse, namedAll, gridInsert, gridMerge, gridBarrier, gridUpdate, grid}
 use Rattle.agreement.specs.Shared.{gridAt}
-use Rattle.agreement.specs.WellFormedSets.{All, Word}
+use Rattle.agreement.specs.WellFormedSets.{Word}
 use Rattle.agreement.specs.WebGpu.{History, Histories, HandedIn, oneUse, handUse, handAll, historyInsert, takeState, takeStates, historyMerge, statesOf, named, bare, histories}
-use Rattle.agreement.specs.BoolLaws.{neither}
-use Rattle.agreement.specs.ListLaws.{all-right, all-join, all-map, all-replicate, AllO, at-most-one}
 use Rattle.usage.specs.BitLaws.{and-or, or-zero, or-half, or-odd}
 use Rattle.agreement.specs.WalkLaws.{Sim}
 use Rattle.agreement.specs.RulesAgree.{less-without}
-use Rattle.agreement.specs.LiftScope.{passed, Textures}
+use Rattle.agreement.specs.LiftScope.{Textures}
 use Rattle.agreement.specs.LiftTracker.{Tracks}
-use Rattle.agreement.specs.ScopeLaws.{full-grid}
-use Rattle.agreement.specs.WellStates.{FlagFacts, GridAll, walk₂-all, use-all}
+use Rattle.agreement.specs.WellStates.{FlagFacts, walk₂-all, use-all, sure-flags}
 use Rattle.agreement.specs.FitLaws.{UseFits, unionOf, union-append}
+use Rattle.agreement.specs.BarrierLaws.{at-most-one}
+use Rattle.agreement.specs.GridLaws.{GridAll, grid-map, grid-everywhere, grid-square, grid-back}
+use Rattle.agreement.specs.Agree.{full-grid}
 
 -- ---- less UNKNOWN
 less-half : (u s : ℕ) → less u s / 2 ≡ less (u / 2) (s / 2)
@@ -207,7 +210,17 @@ pub record TiedGiven (p : UsageFlags) (sh : Extent) (g : HandedIn) (n : Named) :
 history-merged : (p : UsageFlags) (sh : Extent) (h : Histories) (g : HandedIn) (n : Named) → TiedGiven p sh g n → TiedHeld p sh h
     → TiedHeld p sh (historyMerge p sh h g .value) × Sim statesOf (λ (c : SubresourceConflict). c) (historyMerge p sh h g) (gridMerge p sh (statesOf h) n)
 unfolding historyMerge gridMerge
-history-merged p sh h g n r f = rw (← r .same) (go (h .single) refl)
+history-merged p sh h g n r f =
+    rw (← r .same) (by-test₂ (λ (w : Stop SubresourceConflict Histories) (v : Stop SubresourceConflict Grid). TiedHeld p sh (w .value) × Sim statesOf (λ (c : SubresourceConflict). c) w v) (h .single)
+    (λ e. both e (W .conflict) (V₀ .conflict) (states-map (singleUnion p) (h .states) (g .states) .1))
+    (λ e. let m = states-map (manyUnion p) (h .states) (g .states) in (
+      record {
+        sure = f .sure;
+        states = takes-keep (Tied p) (manyUnion p) (many-tied p) (h .states) (g .states) (f .states) (r .states);
+        clear = λ (z : false ≡ true). absurd (false≢true z);
+      },
+      (ap (λ (x : List (List ℕ)). record { single = false; states = x }) (m .0), idle (takeStates (manyUnion p) (h .states) (g .states) .conflict) ∙ m .1),
+    )))
   where
     idle : (o : Option SubresourceConflict) → Option·map (λ (c : SubresourceConflict). c) o ≡ o
     idle none = refl
@@ -218,12 +231,6 @@ history-merged p sh h g n r f = rw (← r .same) (go (h .single) refl)
 
     V₀ : Stop SubresourceConflict (List (List ℕ))
     V₀ = uniteStates (singleUnion p) (map (map stateOf) (h .states)) (map (map statesO) (g .states))
-
-    P : Stop SubresourceConflict (List (List History))
-    P = takeStates (manyUnion p) (h .states) (g .states)
-
-    Q : Stop SubresourceConflict (List (List ℕ))
-    Q = uniteStates (manyUnion p) (map (map stateOf) (h .states)) (map (map statesO) (g .states))
 
     both : h .single ≡ true → (o o′ : Option SubresourceConflict) → o ≡ o′
         → TiedHeld p sh (orKeep o h (record { single = g .single; states = W .value }) .value)
@@ -238,30 +245,13 @@ history-merged p sh h g n r f = rw (← r .same) (go (h .single) refl)
     )
     both e (some c) o′ q = rw (← q) (f, (refl, refl))
 
-    go : (b : Bool) → h .single ≡ b
-        → (let w = if b then orKeep (W .conflict) h (record { single = g .single; states = W .value }) else record { value = record { single = false; states = P .value }; conflict = P .conflict } in
-        let v = if b then orKeep (V₀ .conflict) (statesOf h) (record { single = g .single; states = V₀ .value }) else record { value = record { single = false; states = Q .value }; conflict = Q .conflict } in
-        TiedHeld p sh (w .value) × Sim statesOf (λ (c : SubresourceConflict). c) w v)
-    go true e = both e (W .conflict) (V₀ .conflict) (states-map (singleUnion p) (h .states) (g .states) .1)
-    go false e =
-        let m = states-map (manyUnion p) (h .states) (g .states) in (
-          record {
-            sure = f .sure;
-            states = takes-keep (Tied p) (manyUnion p) (many-tied p) (h .states) (g .states) (f .states) (r .states);
-            clear = λ (z : false ≡ true). absurd (false≢true z);
-          },
-          (ap (λ (x : List (List ℕ)). record { single = false; states = x }) (m .0), idle (P .conflict) ∙ m .1),
-        )
-
 -- ---- what is handed in
-row-states : (r : List (Option ℕ)) → map statesO (map (Option·map oneUse) r) ≡ r
-row-states [] = refl
-row-states (none ∷ r) = rw (row-states r)
-row-states (some x ∷ r) = rw (row-states r)
-
 grid-states : (g : List (List (Option ℕ))) → map (map statesO) (map (map (Option·map oneUse)) g) ≡ g
-grid-states [] = refl
-grid-states (r ∷ g) = rw (row-states r, grid-states g)
+grid-states = grid-back (Option·map oneUse) statesO one
+  where
+    one : (o : Option ℕ) → statesO (Option·map oneUse o) ≡ o
+    one none = refl
+    one (some x) = refl
 
 -- check 12, and the sixteen bits
 pub use-state : (h : Head) (i : ℕ) (sh : Extent) (sel : Option Selector) (st : ℕ) → Word st → singleRefusal h i sh sel st ≡ none → UseFits (h .flags) st
@@ -272,50 +262,45 @@ use-state h i sh sel st w e =
     record { nonzero = eqb-false st 0 (u .0); word = w; known = eqb-true (bitAnd st (h .flags .unknown)) 0 (not-false _ (u .1)) }
 
 pub hand-all : (P : ℕ → Type 0) (Q : History → Type 0) → ((x : ℕ) → P x → Q (oneUse x)) → (g : List (List (Option ℕ))) → GridAll (AllO P) g → GridAll (AllO Q) (map (map (Option·map oneUse)) g)
-hand-all P Q h g t = all-map (All (AllO P)) (All (AllO Q)) (map (Option·map oneUse)) (λ r. all-map (AllO P) (AllO Q) (Option·map oneUse) one r) g t
+hand-all P Q h g t = grid-map (AllO P) (AllO Q) (Option·map oneUse) one g t
   where
     one : (o : Option ℕ) → AllO P o → AllO Q (Option·map oneUse o)
     one none t = tt
     one (some x) t = h x t
 
-abbrev pub There : {A : Type 0} → Option A → Type 0
+abbrev There : {A : Type 0} → Option A → Type 0
 There o = o ≡ none → ⊥
 
 some-there : {A : Type 0} (x : A) → There (some x)
 some-there x e = let h : _≡_ {A = ℕ} 0 1 = cc in omega arith
 
 hand-there : (g : List (List (Option ℕ))) → GridAll There g → GridAll There (map (map (Option·map oneUse)) g)
-hand-there g t = all-map (All There) (All There) (map (Option·map oneUse)) (λ r. all-map There There (Option·map oneUse) one r) g t
+hand-there g t = grid-map There There (Option·map oneUse) one g t
   where
     one : (o : Option ℕ) → There o → There (Option·map oneUse o)
     one none t = absurd (t refl)
     one (some x) t = some-there (oneUse x)
 
 use-there : (sh : Extent) (sel : Option Selector) (st : ℕ) → namedUse sh sel st .single ≡ true → GridAll There (namedUse sh sel st .states)
-use-there sh none st e = all-replicate (All There) _ (sh .mips) (all-replicate There (some st) (sh .layers) (some-there st))
-use-there sh (some q) st e = rw (full-grid sh q st e) (all-replicate (All There) _ (sh .mips) (all-replicate There (some st) (sh .layers) (some-there st)))
+use-there sh none st e = grid-everywhere There sh (some st) (some-there st)
+use-there sh (some q) st e = rw (full-grid sh q st e) (grid-everywhere There sh (some st) (some-there st))
 
-history-used : (h : Head) (i : ℕ) (sh : Extent) (sel : Option Selector) (st : ℕ) → FlagFacts (h .flags) → Word st → singleRefusal h i sh sel st ≡ none
+history-used : (h : Head) (i : ℕ) (sh : Extent) (sel : Option Selector) (st : ℕ) → flagsFit (h .flags) ≡ true → Word st → singleRefusal h i sh sel st ≡ none
     → TiedGiven (h .flags) sh (handUse sh sel st) (namedUse sh sel st)
 history-used h i sh sel st s w e =
     let u = use-state h i sh sel st w e in let all = use-all (UseFits (h .flags)) sh sel st u in record {
-      sure = s;
+      sure = sure-flags (h .flags) s;
       same = λ i. record { single = namedUse sh sel st .single; states = grid-states (namedUse sh sel st .states) i };
       states = hand-all (UseFits (h .flags)) (Tied (h .flags)) (one-use (h .flags)) (namedUse sh sel st .states) all;
       clear = λ m. hand-all (UseFits (h .flags)) (Clear (h .flags)) (λ x f. f .known) (namedUse sh sel st .states) all;
       single = λ m. hand-there (namedUse sh sel st .states) (use-there sh sel st m);
     }
 
-row-pass : (r : List History) → map statesO (map some r) ≡ map some (map stateOf r)
-row-pass [] = refl
-row-pass (c ∷ r) = rw (row-pass r)
-
 grid-pass : (g : List (List History)) → map (map statesO) (map (map some) g) ≡ map (map some) (map (map stateOf) g)
-grid-pass [] = refl
-grid-pass (r ∷ g) = rw (row-pass r, grid-pass g)
+grid-pass = grid-square some statesO stateOf some (λ c. refl)
 
 pub pass-all : (P : History → Type 0) (Q : Option History → Type 0) → ((c : History) → P c → Q (some c)) → (g : List (List History)) → GridAll P g → GridAll Q (map (map some) g)
-pass-all P Q h g t = all-map (All P) (All Q) (map some) (λ r. all-map P Q some h r) g t
+pass-all P Q h g t = grid-map P Q some h g t
 
 history-passed : (p : UsageFlags) (sh : Extent) (h : Histories) → TiedHeld p sh h → TiedGiven p sh (handAll h) (namedAll (statesOf h))
 history-passed p sh h f = record {
@@ -330,14 +315,12 @@ history-passed p sh h f = record {
 abbrev pub blankOf : UsageFlags → History
 blankOf p = record { state = p .unknown; uses = [] }
 
-row-insert : (p : UsageFlags) (r : List (Option History)) → map stateOf (map (namedOr (blankOf p)) r) ≡ map (namedOr (p .unknown)) (map statesO r)
-row-insert p [] = refl
-row-insert p (none ∷ r) = rw (row-insert p r)
-row-insert p (some c ∷ r) = rw (row-insert p r)
-
 grid-insert : (p : UsageFlags) (g : List (List (Option History))) → map (map stateOf) (map (map (namedOr (blankOf p))) g) ≡ map (map (namedOr (p .unknown))) (map (map statesO) g)
-grid-insert p [] = refl
-grid-insert p (r ∷ g) = rw (row-insert p r, grid-insert p g)
+grid-insert p = grid-square (namedOr (blankOf p)) stateOf statesO (namedOr (p .unknown)) one
+  where
+    one : (o : Option History) → stateOf (namedOr (blankOf p) o) ≡ namedOr (p .unknown) (statesO o)
+    one none = refl
+    one (some c) = refl
 
 row-clear : (p : UsageFlags) (r : List (Option History)) → All (AllO (Clear p)) r → All There r → All (Clear p) (map (namedOr (blankOf p)) r)
 row-clear p [] a b = tt
@@ -359,7 +342,7 @@ history-inserted : (p : UsageFlags) (sh : Extent) (g : HandedIn) (n : Named) →
 history-inserted p sh g n r = (
   record {
     sure = r .sure;
-    states = all-map (All (AllO (Tied p))) (All (Tied p)) (map (namedOr (blankOf p))) (λ q. all-map (AllO (Tied p)) (Tied p) (namedOr (blankOf p)) (or-else-tied p) q) (g .states) (r .states);
+    states = grid-map (AllO (Tied p)) (Tied p) (namedOr (blankOf p)) (or-else-tied p) (g .states) (r .states);
     clear = λ m. grid-clear p (g .states) (r .clear m) (r .single m);
   },
   insert-states p sh g n (r .same),
@@ -368,7 +351,7 @@ history-inserted p sh g n r = (
 abbrev pub plainView : Extent → Histories → Grid
 plainView sh h = statesOf h
 
-pub history-scopes : Textures histories grid plainView (λ (c : SubresourceConflict). c) FlagFacts Word TiedHeld TiedGiven
+pub history-scopes : Textures histories grid plainView (λ (c : SubresourceConflict). c) Word TiedHeld TiedGiven
 history-scopes = record {
   fresh = λ n. refl;
   used = history-used;
@@ -384,21 +367,13 @@ AnyEnds p sh e = Unit {0}
 abbrev pub SameHanded : UsageFlags → Extent → HandedIn → Named → HandedIn → Named → Type 0
 SameHanded p sh a b c d = (named a ≡ b) × (named c ≡ d)
 
-row-bare : (r : List ℕ) → map stateOf (map (λ (c : ℕ). record { state = c; uses = [] }) r) ≡ r
-row-bare [] = refl
-row-bare (c ∷ r) = rw (row-bare r)
-
-grid-bare : (g : List (List ℕ)) → map (map stateOf) (map (map (λ (c : ℕ). record { state = c; uses = [] })) g) ≡ g
-grid-bare [] = refl
-grid-bare (r ∷ g) = rw (row-bare r, grid-bare g)
-
 states-bare : (s : Grid) → statesOf (bare s) ≡ s
-states-bare s = λ i. record { single = s .single; states = grid-bare (s .states) i }
+states-bare s = λ i. record { single = s .single; states = grid-back (λ (c : ℕ). record { state = c; uses = [] }) stateOf (λ c. refl) (s .states) i }
 
 pass-same : (h : Histories) → named (handAll h) ≡ namedAll (statesOf h)
 pass-same h = λ i. record { single = h .single; states = grid-pass (h .states) i }
 
-pub history-trackers : Tracks histories grid plainView FlagFacts Word TiedHeld AnyEnds SameHanded gridAt gridAt
+pub history-trackers : Tracks histories grid plainView Word TiedHeld AnyEnds SameHanded gridAt gridAt
 history-trackers = record {
   fresh = λ n. refl;
   used = λ h i sh sel st s w e. let r : named (handUse sh sel st) ≡ namedUse sh sel st = λ i. record { single = namedUse sh sel st .single; states = grid-states (namedUse sh sel st .states) i } in (r, r);

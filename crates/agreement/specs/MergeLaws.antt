@@ -1,11 +1,11 @@
 -- One use merged into a Many texture: the ranges and the grid's subresources go the same way.
 use mathlib.Core.Bool.{Bool, true, false}
-use mathlib.Core.List.{List, [], _∷_, _++_, append-assoc}
+use mathlib.Core.List.{List, [], _∷_, _++_}
 use mathlib.Core.Option.{Option, none, some, Option·map}
 use mathlib.Core.Path.{_≡_, refl, _∙_}
 use Prim.Native.Nat.{ℕ, zero, suc, _-_, _+_, _≤_, _<_}
 use native.Mathlib.Omega.{arith}
-use lib.ListN.{replicate, length, length-replicate, length-append, replicate-append-replicate}
+use lib.ListN.{replicate, length, length-replicate, replicate-append-replicate}
 use Rattle.model.specs.declared.Extent.{Extent}
 use Rattle.model.specs.declared.InvalidUse.{InvalidUse}
 use Rattle.model.specs.declared.Range.{Range}
@@ -15,27 +15,11 @@ use Rattle.model.specs.Representation.{select, inMips}
 use Rattle.model.specs.StateRules.{uniteKnown}
 use Rattle.model.specs.RangedStates.{Cut, isolate, inState, layerStates, Tiles}
 use Rattle.model.specs.Texture.{Piece, invalidUse, mergeRange, mergeMip, settled}
+use Rattle.model.specs.ListLaws.{All}
+use Rattle.model.specs.RangeLaws.{Same, coalesce-same, Cuts, isolate-cuts, tiles-le, states-append, tiles-append, tiles-length}
 use Rattle.agreement.specs.Grid.{SubresourceConflict, uniteState, band, namedRow}
 use Rattle.agreement.specs.Shared.{firstOf}
-use Rattle.agreement.specs.WellFormedSets.{All}
 use Rattle.agreement.specs.WalkLaws.{joinStop, walk-append, RunsOf, row-parts-of, unnamed-of}
-use Rattle.agreement.specs.RangeLaws.{Same, coalesce-same, Cuts, isolate-cuts, tiles-le}
-
-pub states-append : (x y : List Range) → layerStates (x ++ y) ≡ layerStates x ++ layerStates y
-unfolding layerStates
-states-append [] y = refl
-states-append (r ∷ x) y = rw (states-append x y, append-assoc)
-
-pub tiles-append : (x y : List Range) (a b c : ℕ) → Tiles a x b → Tiles b y c → Tiles a (x ++ y) c
-tiles-append [] y a b c t u = rw t u
-tiles-append (r ∷ x) y a b c t u = (t .0, t .1, tiles-append x y (r .end) b c (t .2) u)
-
-pub tiles-length : (s : List Range) (a e : ℕ) → Tiles a s e → length (layerStates s) ≡ e - a
-unfolding layerStates
-tiles-length [] a e t = omega arith
-tiles-length (r ∷ s) a e t =
-    let h = tiles-length s (r .end) e (t .2) in let g = tiles-le s (r .end) e (t .2) in
-    rw (length-append, length-replicate, h) (omega arith)
 
 -- ---- equal subresources that are given one state
 module _ (f : ℕ → ℕ → Option ℕ) (k : ℕ) where
@@ -62,7 +46,7 @@ module _ (p : UsageFlags) (k new : ℕ) where
   abbrev pub overRanges : ℕ → List Range → Stop InvalidUse (List Range)
   overRanges i s = walk (λ j. mergeRange p k new) i s
 
-  abbrev pub overStates : ℕ → List ℕ → ℕ → Stop SubresourceConflict (List ℕ)
+  abbrev overStates : ℕ → List ℕ → ℕ → Stop SubresourceConflict (List ℕ)
   overStates l s n = walk₂ (uniteState (uniteKnown p) k) l s (replicate n (some new))
 
   row-split : (l b e st : ℕ) (s : List ℕ) → l < b → b ≤ e

@@ -1,11 +1,12 @@
--- Each of the six calls refuses with 6 to 13 alone: 4, 5 and 15 are of what it is handed, and 14 is of the calls on ranges.
+-- None of the six calls refuses with 1 to 5, 14 or 15: 1 to 3 are of an opening, 4, 5 and 15 of what a call is handed, and 14 is of the calls on ranges.
 use mathlib.Core.List.{List, [], _∷_, _++_}
 use mathlib.Core.Option.{Option, none, some}
-use mathlib.Core.Path.{_≡_, subst}
-use Prim.Native.Nat.{ℕ, suc, _≤_}
-use native.Mathlib.Omega.{arith}
+use mathlib.Core.Path.{_≡_, refl, subst}
+use Prim.Native.Nat.{ℕ, suc}
 use lib.Dec.{eqb}
 use lib.ListN.{getElem?, getD}
+use mathlib.Core.Bool.{false}
+use Rattle.agreement.specs.LogBound.{listed}
 use Rattle.model.specs.declared.Extent.{Extent}
 use Rattle.model.specs.declared.Refusal.{Refusal}
 use Rattle.model.specs.declared.Selector.{Selector}
@@ -15,12 +16,11 @@ use Rattle.model.specs.Representation.{Representation, Ends}
 use Rattle.model.specs.Sets.{Set, Tracker, Head, headOf, slotAt}
 use Rattle.model.specs.Refusals.{Check, firstFailing, numberOf, textureChecks, selectorChecks, stateChecks, ownedChecks, sparseChecks, singleRefusal, setRefusal, sparseRefusal}
 use Rattle.model.specs.Calls.{Indexed, Answer, done, refused, inConflict, answer, CallResult, unless, Result, Sets, into, with₁, with₂, Call, callMergeSingle, callMergeUsageScope, callSetSingle, callSetFromUsageScope, callSetFromTracker, callSetAndRemoveSparse, mergeSlot, mergeGiven, setFrom, sparseAll, step}
-use Rattle.agreement.specs.WellFormedSets.{All}
-use Rattle.agreement.specs.BoolLaws.{by-test}
-use Rattle.agreement.specs.ListLaws.{all-join}
+use Rattle.model.specs.ListLaws.{All, all-join}
+use Rattle.model.specs.BoolLaws.{by-test}
 
 abbrev Own : Refusal → Type 0
-Own r = (6 ≤ numberOf r) × (numberOf r ≤ 13)
+Own r = listed (numberOf r) (1 ∷ 2 ∷ 3 ∷ 4 ∷ 5 ∷ 14 ∷ 15 ∷ []) ≡ false
 
 abbrev OwnOption : Option Refusal → Type 0
 OwnOption none = Unit {0}
@@ -44,14 +44,14 @@ first-own [] t = tt
 first-own (c ∷ cs) t = by-test OwnOption (c .fails) (λ e. t .0) (λ e. first-own cs (t .1))
 
 texture-own : (h : Head) (i : ℕ) (sh : Extent) → OwnChecks (textureChecks h i sh)
-texture-own h i sh = (omega arith, (omega arith, (omega arith, tt)))
+texture-own h i sh = (refl, (refl, (refl, tt)))
 
 selector-own : (sh : Extent) (sel : Option Selector) → OwnChecks (selectorChecks sh sel)
 selector-own sh none = tt
-selector-own sh (some q) = (omega arith, (omega arith, tt))
+selector-own sh (some q) = (refl, (refl, tt))
 
 state-own : (p : UsageFlags) (st : ℕ) → OwnChecks (stateChecks p st)
-state-own p st = (omega arith, (omega arith, tt))
+state-own p st = (refl, (refl, tt))
 
 owned-own : (h : Head) (i : ℕ) (o : Option Extent) → OwnChecks (ownedChecks h i o)
 owned-own h i none = tt
@@ -63,18 +63,18 @@ single-own h i sh sel st =
     (all-join OwnCheck (textureChecks h i sh) (selectorChecks sh sel) (texture-own h i sh) (selector-own sh sel)) (state-own (h .flags) st))
 
 set-own : (into given : Head) → OwnOption (setRefusal into given)
-set-own into given = first-own _ (omega arith, go 0 (given .extents))
+set-own into given = first-own _ (refl, go 0 (given .extents))
   where
     go : (k : ℕ) (l : List (Option Extent)) → OwnChecks (eachAt (ownedChecks into) k l)
     go k [] = tt
     go k (o ∷ l) = all-join OwnCheck (ownedChecks into k o) (eachAt (ownedChecks into) (suc k) l) (owned-own into k o) (go (suc k) l)
 
 sparse-own : (into given : Head) (is : List ℕ) → OwnOption (sparseRefusal into given is)
-sparse-own into given is = first-own _ (omega arith, go is)
+sparse-own into given is = first-own _ (refl, go is)
   where
     go : (is : List ℕ) → OwnChecks (each (sparseChecks into given) is)
     go [] = tt
-    go (i ∷ is) = all-join OwnCheck (sparseChecks into given i) (each (sparseChecks into given) is) (omega arith, owned-own into i (getD (given .extents) i none)) (go is)
+    go (i ∷ is) = all-join OwnCheck (sparseChecks into given i) (each (sparseChecks into given) is) (refl, owned-own into i (getD (given .extents) i none)) (go is)
 
 -- ---- the calls
 unless-own : {C L X : Type 0} (o : Option Refusal) (was : X) (out : CallResult C L X) → OwnOption o → OwnAnswer (out .answer) → OwnAnswer (unless o was out .answer)
@@ -124,5 +124,5 @@ module _ (K : Representation) where
       with-two k (getElem? (k .trackers) n) (getElem? (k .scopes) m) _
       (λ t s. unless-own (sparseRefusal (headOf (t .set)) (headOf s) is) (t, s) _ (sparse-own (headOf (t .set)) (headOf s) is) (sparse-done is (t, s)))
 
-  pub own-refusals : (c : Call) (k : Sets K) (r : Refusal) → step K c k .answer ≡ refused r → (6 ≤ numberOf r) × (numberOf r ≤ 13)
+  pub own-refusals : (c : Call) (k : Sets K) (r : Refusal) → step K c k .answer ≡ refused r → listed (numberOf r) (1 ∷ 2 ∷ 3 ∷ 4 ∷ 5 ∷ 14 ∷ 15 ∷ []) ≡ false
   own-refusals c k r e = subst OwnAnswer e (step-own c k)

@@ -6,7 +6,7 @@ use mathlib.Core.Path.{_≡_, refl, sym, ap, _∙_}
 use Prim.Native.Nat.{ℕ, zero, suc, _-_, _+_, _≤_, _<_}
 use native.Mathlib.Omega.{arith}
 use lib.Dec.{leb, ltb}
-use lib.ListN.{replicate, length, length-replicate, length-append, take, drop, take-append-drop, length-take, length-drop}
+use lib.ListN.{replicate, length, length-replicate, length-append, take, drop, take-append-drop, length-take}
 use borrow.Author.Tests.{le-leb, lt-ltb, le-ltb, leb-true}
 use Rattle.model.specs.declared.Extent.{Extent}
 use Rattle.model.specs.declared.Range.{Range}
@@ -14,12 +14,12 @@ use Rattle.model.specs.Base.{if_then_else_, eachAt, Stop, fine, andThen, passes
 use Rattle.model.specs.Representation.{select, inMips}
 use Rattle.model.specs.RangedStates.{layerStates, Tiles}
 use Rattle.model.specs.Texture.{Piece, piecesOf}
+use Rattle.model.specs.ListLaws.{All, all-left, all-right, all-join, all-both}
+use Rattle.model.specs.RangeLaws.{tiles-le}
 use Rattle.agreement.specs.Grid.{band, tab, namedRow}
-use Rattle.agreement.specs.WellFormedSets.{All}
-use Rattle.agreement.specs.ListLaws.{all-left, all-right, all-join}
 use Rattle.agreement.specs.WalkLaws.{joinStop, walk-append, walk-length, walk-none, Sim, lockstep, unnamed-of, row-parts-of, RunsOf, GridsOf}
-use Rattle.agreement.specs.RangeLaws.{tiles-le}
 use Rattle.agreement.specs.MergeLaws.{Tiled, one-pass}
+use Rattle.agreement.specs.GridLaws.{thirds}
 
 abbrev pub pieceAt : ℕ → Range → Piece
 pieceAt k r = record { selector = select k (suc k) (r .start) (r .end); state = r .state }
@@ -174,38 +174,24 @@ module _ {S C K D : Type 0} (view : S → List C) (Ok : S → Type 0) (cl : K �
         → GridsOf view Ok cl [] (passes (λ (q : Piece). walk (pass q) 0) (q ∷ []) l) (walk₂ (λ m. walk₂ (U m) 0) 0 (map view l) (tab (namedRow sh (q .selector) (q .state)) 0 (sh .mips)))
     place-pass q l hl tl o h g =
         let r = lockstep view cl Okay Ok (λ s t. t .0) (pass q) (λ m. walk₂ (U m) 0)
-        (namedRow sh (q .selector) (q .state)) one 0 l (both l tl o) in
+        (namedRow sh (q .selector) (q .state)) one 0 l (all-both Ok (λ (s : S). All Q (view s)) l tl o) in
         rw (one-pass (walk (pass q) 0 l)) record { tiled = r .0; same = rw hl at (r .1 .0); conflict = rw hl at (r .1 .1) }
       where
         Okay : S → Type 0
         Okay s = Ok s × All Q (view s)
 
-        both : (l : List S) → All Ok l → All (λ (s : S). All Q (view s)) l → All Okay l
-        both [] t o = tt
-        both (s ∷ l) t o = ((t .0, o .0), both l (t .1) (o .1))
-
         one : (k : ℕ) (s : S) → Okay s → Ok (pass q k s .value)
             × Sim view cl (pass q k s) (walk₂ (U k) 0 (view s) (namedRow sh (q .selector) (q .state) k))
         one k s t = go (inMips (q .selector) k) refl
           where
-            a : ℕ
-            a = q .selector .layers .start .0
-
-            n : ℕ
-            n = q .selector .layers .end .0 - q .selector .layers .start .0
-
-            parts : view s ≡ take a (view s) ++ (take n (drop a (view s)) ++ drop n (drop a (view s)))
-            parts = sym (rw (take-append-drop n (drop a (view s)), take-append-drop a (view s)))
-
             go : (b : Bool) → inMips (q .selector) k ≡ b → Ok (pass q k s .value)
                 × Sim view cl (pass q k s) (walk₂ (U k) 0 (view s)
                 (if b then band (q .selector .layers .start .0) (q .selector .layers .end .0) (sh .layers) (some (q .state)) none else replicate (sh .layers) none))
             go true b =
-                let lx : length (take a (view s)) ≡ a = rw length-take (omega (arith, full-length s (t .0))) in
-                let ly : length (take n (drop a (view s))) ≡ n = rw (length-take, length-drop) (omega (arith, full-length s (t .0))) in
-                let all = all-right Q (take a (view s)) _ (rw parts at (t .1)) in
-                let m = R .names q k s (take a (view s)) (take n (drop a (view s))) (drop n (drop a (view s))) b h g (t .0) lx ly parts (all-left Q (take n (drop a (view s))) _ all) in
-                let v = row-parts-of (U k) (blank k) (q .state) a (q .selector .layers .end .0) (sh .layers) (take a (view s)) (take n (drop a (view s))) (drop n (drop a (view s))) lx ly (omega arith) g in
-                let u = rw (← parts) at v in
+                let a = q .selector .layers .start .0 in let e = q .selector .layers .end .0 in
+                let d = thirds (view s) a e (omega arith) (omega (arith, full-length s (t .0))) in
+                let all = all-right Q (d .before) _ (rw (d .parts) at (t .1)) in
+                let m = R .names q k s (d .before) (d .run) (d .after) b h g (t .0) (d .first) (d .middle) (d .parts) (all-left Q (d .run) _ all) in
+                let u = rw (← d .parts) at (row-parts-of (U k) (blank k) (q .state) a e (sh .layers) (d .before) (d .run) (d .after) (d .first) (d .middle) (omega arith) g) in
                 (m .ok, (m .same ∙ ap (λ (x : Stop D (List C)). x .value) (sym u), m .conflict ∙ ap (λ (x : Stop D (List C)). x .conflict) (sym u)))
             go false b = rw (R .skips q k s b, unnamed-of (U k) (blank k)) (t .0, (refl, refl))

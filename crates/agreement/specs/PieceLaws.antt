@@ -11,11 +11,12 @@ use Rattle.model.specs.declared.Range.{Range}
 use Rattle.model.specs.Base.{Stop, passes, walk}
 use Rattle.model.specs.RangedStates.{layerStates, Tiles}
 use Rattle.model.specs.Texture.{Piece, piecesOf}
+use Rattle.model.specs.ListLaws.{All}
+use Rattle.model.specs.RangeLaws.{tiles-length}
 use Rattle.agreement.specs.Grid.{SubresourceConflict, uniteState, uniteStates, tab, namedRow}
 use Rattle.agreement.specs.Shared.{firstOf}
-use Rattle.agreement.specs.WellFormedSets.{All}
 use Rattle.agreement.specs.WalkLaws.{GridsOf}
-use Rattle.agreement.specs.MergeLaws.{Tiled, tiles-length}
+use Rattle.agreement.specs.MergeLaws.{Tiled}
 use Rattle.agreement.specs.Passes
 
 abbrev pub Tiling : Extent → List Range → Type 0

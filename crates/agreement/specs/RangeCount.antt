@@ -1,6 +1,6 @@
 -- "A strip's ranges never outnumber the layers it covers", also between `isolate` and `coalesce`.
 use mathlib.Core.Bool.{true, false, _&&_}
-use mathlib.Core.List.{List, [], _∷_, _++_}
+use mathlib.Core.List.{List, [], _∷_}
 use mathlib.Core.Path.{_≡_, refl, _∙_}
 use Prim.Native.Nat.{ℕ, zero, suc, _+_, _-_, _≤_, _<_}
 use native.Mathlib.Omega.{arith}
@@ -12,32 +12,20 @@ use Rattle.model.specs.declared.Range.{Range}
 use Rattle.model.specs.declared.UsageFlags.{UsageFlags}
 use Rattle.model.specs.Representation.{Ends}
 use Rattle.model.specs.Sets.{Slot, Set, Tracker}
-use Rattle.model.specs.RangedStates.{listOf, isolate, Tiles}
+use Rattle.model.specs.RangedStates.{Tiles}
 use Rattle.model.specs.RangeCalls.{ascends}
 use Rattle.model.specs.Texture.{Held, single, many}
 use Rattle.model.specs.WellFormed.{scopeFits, trackerFits}
-use Rattle.agreement.specs.WellFormedSets.{All}
+use Rattle.model.specs.ListLaws.{All, all-weak}
+use Rattle.model.specs.BoolLaws.{and-left, and-right}
+use Rattle.model.specs.RangeLaws.{tiles-count}
 use Rattle.agreement.specs.LogBound.{sumFrom, oneIf}
 use Rattle.agreement.specs.Layers.{covers, covered, lengths, AddUp}
-use Rattle.agreement.specs.BoolLaws.{and-left, and-right}
-use Rattle.agreement.specs.ListLaws.{all-weak}
-use Rattle.agreement.specs.RangeLaws.{isolate-cuts}
-use Rattle.agreement.specs.MergeLaws.{tiles-append}
 use Rattle.agreement.specs.Fits.{HeldFits, EndsFit, MipFits, SlotFits}
 use Rattle.agreement.specs.Decides.{scope-to, tracker-to}
 
-tiles-few : (s : List Range) (a e : ℕ) → Tiles a s e → length s + a ≤ e
-tiles-few [] a e t = omega arith
-tiles-few (r ∷ s) a e t = let h = tiles-few s (r .end) e (t .2) in omega arith
-
-pub isolated-few : (s : List Range) (a e d w : ℕ) → a < e → e ≤ w → Tiles 0 s w → length (listOf (isolate a e d s)) ≤ w
-isolated-few s a e d w h g t =
-    let c = isolate-cuts s 0 a e d w (omega arith) h g t in let k = isolate a e d s in
-    let all = tiles-append (k .before) (k .run ++ k .after) 0 a w (c .before) (tiles-append (k .run) (k .after) a e w (c .run) (c .after)) in
-    omega (arith, tiles-few (listOf k) 0 w all)
-
 pub ranges-few : (s : List Range) (w : ℕ) → Tiles 0 s w → length s ≤ w
-ranges-few s w t = omega (arith, tiles-few s 0 w t)
+ranges-few s w t = omega (arith, tiles-count s 0 w t)
 
 -- ---- any ascending list, with gaps: as many layers as its lengths add up to, and no fewer than its ranges
 module _ (a : ℕ) (r : Range) (s : List Range) (t : ascends a (r ∷ s) ≡ true) where

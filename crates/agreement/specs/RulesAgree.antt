@@ -100,7 +100,7 @@ abbrev pub ruleStart : UsageFlags → ℕ → ℕ → Option ℕ → ℕ
 ruleStart p start c none = start
 ruleStart p start c (some new) = startAfter (p .unknown) start c new
 
-abbrev pub ruleUpdate : UsageFlags → Extent → Ends Grid → Named → Ends Grid
+abbrev ruleUpdate : UsageFlags → Extent → Ends Grid → Named → Ends Grid
 ruleUpdate p sh e g = record {
   start = record { single = e .start .single; states = zip₃ (zip₃ (ruleStart p)) (e .start .states) (e .end .states) (g .states) };
   end = record { single = g .single; states = zip₂ (zip₂ (ruleEnd p)) (e .end .states) (g .states) };

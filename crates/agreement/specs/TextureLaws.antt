@@ -13,23 +13,24 @@ use Rattle.model.specs.declared.InvalidUse.{InvalidUse}
 use Rattle.model.specs.declared.Range.{Range}
 use Rattle.model.specs.declared.Selector.{Selector}
 use Rattle.model.specs.declared.UsageFlags.{UsageFlags}
-use Rattle.model.specs.Base.{if_then_else_, eachAt, Stop, fine, stopped, ruled, orKeep, andThen, passes, onward, walk, walk₂}
+use Rattle.model.specs.Base.{if_then_else_, eachAt, Stop, fine, stopped, ruled, orKeep, andThen, passes, onward, walk, walk₂, zip₂}
 use Rattle.model.specs.Representation.{select, full, inMips}
 use Rattle.model.specs.StateRules.{unite, uniteKnown}
 use Rattle.model.specs.RangedStates.{range, coalesce, paint, layerStates, Tiles}
 use Rattle.model.specs.Texture.{Held, single, many, Given, givenSingle, givenMany, Piece, invalidUse, piecesOf, onMips, freshMips, paintAll, insert, mergeMip, mergeEvery, spreadPiece, merge}
 use Rattle.model.specs.Subresources.{everywhere}
+use Rattle.model.specs.ListLaws.{All, all-join, all-replicate, map-replicate}
+use Rattle.model.specs.BoolLaws.{by-test, by-test₂}
+use Rattle.model.specs.RangeLaws.{tiles-length}
 use Rattle.agreement.specs.Grid.{Named, SubresourceConflict, uniteState, uniteStates, tab, namedRow, namedOr, gridInsert, gridMerge}
 use Rattle.agreement.specs.Shared.{firstOf, gridOf}
-use Rattle.agreement.specs.WellFormedSets.{All}
-use Rattle.agreement.specs.BoolLaws.{by-test, by-test₂}
-use Rattle.agreement.specs.ListLaws.{all-join}
 use Rattle.agreement.specs.WalkLaws.{Sim, lockstep, walk-length}
 use Rattle.agreement.specs.PaintLaws.{paint-states, painted-states}
 use Rattle.agreement.specs.RulesAgree.{ruleMerge, merge-rule}
-use Rattle.agreement.specs.MergeLaws.{Runs, Tiled, ranges-sim, run-sim, overRanges, row-parts, row-united, row-conflict, settled-same, tiles-length}
+use Rattle.agreement.specs.MergeLaws.{Runs, Tiled, ranges-sim, run-sim, overRanges, row-parts, row-united, row-conflict, settled-same}
 use Rattle.agreement.specs.Passes.{pieceAt}
 use Rattle.agreement.specs.PieceLaws.{Pass, GridsAll, set-passes, place-pass}
+use Rattle.agreement.specs.GridLaws.{all-of, map-everywhere, grid-walks}
 
 abbrev pub Measured : Extent → Type 0
 Measured sh = (0 < sh .mips) × (0 < sh .layers)
@@ -70,13 +71,8 @@ merge-pass p sh = record {
       rw (b, e, row-parts (uniteKnown p) k (q .state) (q .selector .layers .start .0) (q .selector .layers .end .0) (sh .layers) x y z hx hy (omega arith) g) at r;
 }
 
-any-states : (s : List ℕ) → All (λ c. Unit {0}) s
-any-states [] = tt
-any-states (c ∷ s) = (tt, any-states s)
-
 any-ranges : (ss : List (List Range)) → All (λ (s : List Range). All (λ c. Unit {0}) (layerStates s)) ss
-any-ranges [] = tt
-any-ranges (s ∷ ss) = (any-states (layerStates s), any-ranges ss)
+any-ranges = all-of _ (λ s. all-of _ (λ c. tt) (layerStates s))
 
 abbrev pub Merges : UsageFlags → Extent → Held → Given → Named → Type 0
 Merges p sh h g n = Fit sh (merge p sh h g .value) × Sim (gridOf sh) firstOf (merge p sh h g) (ruleMerge p sh (gridOf sh h) n)
@@ -180,18 +176,10 @@ passes-fine u (q ∷ qs) ss = rw (walk-fine (q .selector) (paint u (q .selector 
 -- a new texture's mips
 pub mips-states : (sh : Extent) (st : ℕ) → map layerStates (freshMips sh st) ≡ everywhere sh st
 unfolding layerStates
-mips-states sh st = go (sh .mips)
-  where
-    go : (n : ℕ) → map layerStates (replicate n (range 0 (sh .layers) st ∷ [])) ≡ replicate n (replicate (sh .layers) st)
-    go zero = refl
-    go (suc n) = let z : sh .layers - 0 ≡ sh .layers = omega arith in rw (go n, append-nil, z)
+mips-states sh st = let z : sh .layers - 0 ≡ sh .layers = omega arith in map-replicate layerStates (sh .mips) (range 0 (sh .layers) st ∷ []) ∙ rw (append-nil, z)
 
 pub mips-tiled : (sh : Extent) (st : ℕ) → 0 < sh .layers → Tiled sh (freshMips sh st)
-mips-tiled sh st h = go (sh .mips)
-  where
-    go : (n : ℕ) → Tiled sh (replicate n (range 0 (sh .layers) st ∷ []))
-    go zero = tt
-    go (suc n) = ((refl, h, refl), go n)
+mips-tiled sh st h = all-replicate (λ (s : List Range). Tiles 0 s (sh .layers)) (range 0 (sh .layers) st ∷ []) (sh .mips) (refl, h, refl)
 
 -- the named subresources fill the extent
 abbrev pub Fills : Extent → List (List (Option ℕ)) → Type 0
@@ -200,10 +188,6 @@ Fills sh n = (length n ≡ sh .mips) × All (λ (r : List (Option ℕ)). length 
 length-tab : {A : Type 0} (f : ℕ → A) (k n : ℕ) → length (tab f k n) ≡ n
 length-tab f k zero = refl
 length-tab f k (suc n) = ap suc (length-tab f (suc k) n)
-
-length-some : (s : List ℕ) → length (map {A = ℕ} {B = Option ℕ} some s) ≡ length s
-length-some [] = refl
-length-some (c ∷ s) = ap suc (length-some s)
 
 fills-place : (sh : Extent) (q : Selector) (st k n : ℕ) → q .layers .start .0 < q .layers .end .0 → q .layers .end .0 ≤ sh .layers
     → All (λ (r : List (Option ℕ)). length r ≡ sh .layers) (tab (namedRow sh q st) k n)
@@ -217,46 +201,36 @@ fills-place sh q st k (suc n) h g = (
 
 fills-set : (sh : Extent) (ss : List (List Range)) → Tiled sh ss → All (λ (r : List (Option ℕ)). length r ≡ sh .layers) (map (map some) (map layerStates ss))
 fills-set sh [] t = tt
-fills-set sh (s ∷ ss) t = (length-some (layerStates s) ∙ tiles-length s 0 (sh .layers) (t .0) ∙ omega arith, fills-set sh ss (t .1))
-
-length-some-grid : (l : List (List ℕ)) → length (map {A = List ℕ} {B = List (Option ℕ)} (map some) l) ≡ length l
-length-some-grid [] = refl
-length-some-grid (c ∷ s) = ap suc (length-some-grid s)
+fills-set sh (s ∷ ss) t = (length-map (layerStates s) some ∙ tiles-length s 0 (sh .layers) (t .0) ∙ omega arith, fills-set sh ss (t .1))
 
 pub fills : (sh : Extent) (qs : List Piece) (n : Named) → Gives sh (givenMany qs) n → Fills sh (n .states)
 fills sh qs n (gives-place {q} a b c d) = (length-tab (namedRow sh (q .selector) (q .state)) 0 (sh .mips), fills-place sh (q .selector) (q .state) 0 (sh .mips) a b)
-fills sh qs n (gives-set g hg tg) = (length-some-grid (map layerStates g) ∙ length-map g layerStates ∙ hg, fills-set sh g tg)
+fills sh qs n (gives-set g hg tg) = (length-map (map layerStates g) (map some) ∙ length-map g layerStates ∙ hg, fills-set sh g tg)
 
-row-overlay : (u k l : ℕ) (n : List (Option ℕ)) (w : ℕ) → length n ≡ w
-    → walk₂ (uniteState (λ c new. some new) k) l (replicate w u) n ≡ fine (map (namedOr u) n)
-row-overlay u k l [] zero h = refl
-row-overlay u k l [] (suc w) h = absurd (omega arith)
-row-overlay u k l (c ∷ n) zero h = absurd (omega arith)
-row-overlay u k l (none ∷ n) (suc w) h = rw (row-overlay u k (suc l) n w (omega arith))
-row-overlay u k l (some st ∷ n) (suc w) h = rw (row-overlay u k (suc l) n w (omega arith))
+over-fine : (m l c : ℕ) (o : Option ℕ) → uniteState (λ c new. some new) m l c o ≡ fine (namedOr c o)
+over-fine m l c none = refl
+over-fine m l c (some st) = refl
 
-grid-overlay : (u w k : ℕ) (n : List (List (Option ℕ))) (m : ℕ) → length n ≡ m → All (λ (r : List (Option ℕ)). length r ≡ w) n
-    → walk₂ (λ j. walk₂ (uniteState (λ c new. some new) j) 0) k (replicate m (replicate w u)) n ≡ fine (map (map (namedOr u)) n)
-grid-overlay u w k [] zero h t = refl
-grid-overlay u w k [] (suc m) h t = absurd (omega arith)
-grid-overlay u w k (r ∷ n) zero h t = absurd (omega arith)
-grid-overlay u w k (r ∷ n) (suc m) h t = rw (row-overlay u k 0 r w (t .0), grid-overlay u w (suc k) n m (omega arith) (t .1))
+zip-replicate : {A B D : Type 0} (f : A → B → D) (x : A) (t : List B) (n : ℕ) → length t ≡ n → zip₂ f (replicate n x) t ≡ map (f x) t
+zip-replicate f x [] zero h = refl
+zip-replicate f x [] (suc n) h = absurd (omega arith)
+zip-replicate f x (y ∷ t) zero h = absurd (omega arith)
+zip-replicate f x (y ∷ t) (suc n) h = rw (zip-replicate f x t n (omega arith))
 
-map-everywhere : (u st : ℕ) (sh : Extent) → map (map (namedOr u)) (everywhere sh (some st)) ≡ everywhere sh st
-map-everywhere u st sh = go (sh .mips)
-  where
-    row : (n : ℕ) → map (namedOr u) (replicate n (some st)) ≡ replicate n st
-    row zero = refl
-    row (suc n) = rw (row n)
+zip-rows : (u w : ℕ) (n : List (List (Option ℕ))) → All (λ (r : List (Option ℕ)). length r ≡ w) n → map (zip₂ namedOr (replicate w u)) n ≡ map (map (namedOr u)) n
+zip-rows u w [] t = refl
+zip-rows u w (r ∷ n) t = rw (zip-replicate namedOr u r w (t .0), zip-rows u w n (t .1))
 
-    go : (n : ℕ) → map (map (namedOr u)) (replicate n (replicate (sh .layers) (some st))) ≡ replicate n (replicate (sh .layers) st)
-    go zero = refl
-    go (suc n) = rw (go n, row (sh .layers))
+over-everywhere : (u : ℕ) (sh : Extent) (n : List (List (Option ℕ))) → Fills sh n → uniteStates (λ c new. some new) (everywhere sh u) n ≡ fine (map (map (namedOr u)) n)
+over-everywhere u sh n f =
+    let row = length-replicate (sh .layers) u in
+    grid-walks namedOr (uniteState (λ c new. some new)) over-fine 0 (sh .layers) (everywhere sh u) n (length-replicate (sh .mips) _ ∙ sym (f .0)) (all-replicate (λ (r : List ℕ). length r ≡ sh .layers) _ (sh .mips) row) (f .1)
+    ∙ rw (zip-replicate (zip₂ namedOr) (replicate (sh .layers) u) n (sh .mips) (f .0), zip-rows u (sh .layers) n (f .1))
 
 pub inserted : (p : UsageFlags) (sh : Extent) (g : Given) (n : Named) → Measured sh → Gives sh g n
     → Fit sh (insert p sh g) × (gridOf sh (insert p sh g) ≡ gridInsert p sh n)
 unfolding insert gridOf
-inserted p sh (givenSingle st) n e gives-one = (e, rw map-everywhere)
+inserted p sh (givenSingle st) n e gives-one = (e, rw (map-everywhere (namedOr (p .unknown)) sh (some st)))
 inserted p sh (givenMany qs) n e g = (
   (e, grids-length sh (λ c new. some new) (fine (paintAll (p .unknown) qs (freshMips sh (p .unknown)))) (freshMips sh (p .unknown)) (n .states) G ∙ long, G .tiled),
   λ i. record { single = sym (m .single) i; states = same i },
@@ -274,7 +248,7 @@ inserted p sh (givenMany qs) n e g = (
 
     same : map layerStates (paintAll (p .unknown) qs (freshMips sh (p .unknown))) ≡ map (map (namedOr (p .unknown))) (n .states)
     same = let f = fills sh qs n g in
-        G .same ∙ rw (mips-states, grid-overlay (p .unknown) (sh .layers) 0 (n .states) (sh .mips) (f .0) (f .1))
+        G .same ∙ rw (mips-states, over-everywhere (p .unknown) sh (n .states) f)
 
 -- ---- a Single texture with pieces
 pub all-same : (cur : ℕ) (y : List ℕ) → All (λ (c : ℕ). c ≡ cur) y → y ≡ replicate (length y) cur
@@ -381,15 +355,7 @@ in-mips sh qs n (gives-set g hg tg) = go 0 g (omega arith)
 
 pub all-cur : (sh : Extent) (cur : ℕ) → All (λ (s : List Range). All (λ (c : ℕ). c ≡ cur) (layerStates s)) (freshMips sh cur)
 unfolding layerStates
-all-cur sh cur = go (sh .mips)
-  where
-    row : (n : ℕ) → All (λ (c : ℕ). c ≡ cur) (replicate n cur)
-    row zero = tt
-    row (suc n) = (refl, row n)
-
-    go : (n : ℕ) → All (λ (s : List Range). All (λ (c : ℕ). c ≡ cur) (layerStates s)) (replicate n (range 0 (sh .layers) cur ∷ []))
-    go zero = tt
-    go (suc n) = (rw append-nil (row (sh .layers - 0)), go n)
+all-cur sh cur = all-replicate (λ (s : List Range). All (λ (c : ℕ). c ≡ cur) (layerStates s)) (range 0 (sh .layers) cur ∷ []) (sh .mips) (rw append-nil (all-replicate (λ (c : ℕ). c ≡ cur) cur (sh .layers - 0) refl))
 
 kept-sim : (sh : Extent) (cur : ℕ) (ss : List (List Range)) (o : Option InvalidUse) (y : List (List ℕ)) (o′ : Option SubresourceConflict) (mk : Bool)
     → Measured sh → length ss ≡ sh .mips → Tiled sh ss → map layerStates ss ≡ y → Option·map firstOf o ≡ o′ → mk ≡ false

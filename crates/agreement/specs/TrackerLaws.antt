@@ -13,24 +13,24 @@ use Rattle.model.specs.declared.Extent.{Extent}
 use Rattle.model.specs.declared.InvalidUse.{InvalidUse}
 use Rattle.model.specs.declared.Range.{Range}
 use Rattle.model.specs.declared.UsageFlags.{UsageFlags}
-use Rattle.model.specs.Base.{if_then_else_, zip₂, zip₃, Stop, fine, passes, walk, walk₂}
+use Rattle.model.specs.Base.{if_then_else_, zip₂, zip₃, Stop, fine, passes, walk}
 use Rattle.model.specs.Representation.{inMips, Ends}
 use Rattle.model.specs.StateRules.{endAfter}
-use Rattle.model.specs.RangedStates.{range, coalesce, paint, layerStates}
+use Rattle.model.specs.RangedStates.{range, coalesce, paint, layerStates, Tiles}
 use Rattle.model.specs.Texture.{Held, single, many, Given, givenSingle, givenMany, Piece, freshMips, spreadEnd, learnAll, updateAll, update, insert}
 use Rattle.model.specs.Subresources.{everywhere}
+use Rattle.model.specs.ListLaws.{All, all-replicate, all-map}
+use Rattle.model.specs.BoolLaws.{by-test}
+use Rattle.model.specs.RangeLaws.{tiles-length}
 use Rattle.agreement.specs.Grid.{Named, uniteState, namedOr, gridInsert}
 use Rattle.agreement.specs.Shared.{gridOf}
-use Rattle.agreement.specs.WellFormedSets.{All}
-use Rattle.agreement.specs.BoolLaws.{by-test}
-use Rattle.agreement.specs.PaintLaws.{painted-states}
-use Rattle.agreement.specs.LearnLaws.{learned, learn-states}
+use Rattle.agreement.specs.PaintLaws.{painted-states, learned, learn-states}
 use Rattle.agreement.specs.RulesAgree.{ruleEnd, ruleStart}
-use Rattle.agreement.specs.MergeLaws.{Tiled, tiles-length, row-united}
+use Rattle.agreement.specs.MergeLaws.{Tiled, row-united}
 use Rattle.agreement.specs.PieceLaws.{Pass}
 use Rattle.agreement.specs.TextureLaws.{Measured, Fit, Gives, gives-one, gives-place, gives-set, many-pass, fills, all-same, all-cur, mips-states, mips-tiled, walk-fine, grids-length, inserted}
-use Rattle.agreement.specs.PairLaws.{Two, Ok}
-use Rattle.agreement.specs.UpdateLaws.{Dims, updated-pairs, update-many, update-single, twos, twos-ends, twos-starts, endsOf, startsOf, runAll}
+use Rattle.agreement.specs.UpdateLaws.{Dims, updated-pairs, update-many, update-single, twos, twos-ends, twos-starts, endsOf, startsOf, runAll, Two, Ok}
+use Rattle.agreement.specs.GridLaws.{all-of, grid-map, grid-everywhere, grid-zip, grid-walks}
 
 -- ---- what holds
 abbrev pub Known : ℕ → ℕ → Type 0
@@ -71,12 +71,8 @@ pub clear-known : (p : UsageFlags) (st : ℕ) → UnknownNonzero p → Clear p s
 clear-known p st s c e = s (sym (and-self (p .unknown)) ∙ ap (λ (x : ℕ). bitAnd x (p .unknown)) (sym e) ∙ c)
 
 -- ---- grids of the extent
-pub dims-everywhere : {A : Type 0} (sh : Extent) (x : A) → Dims sh (everywhere sh x)
-dims-everywhere {A} sh x = (length-replicate (sh .mips) _, go (sh .mips))
-  where
-    go : (n : ℕ) → All (λ (r : List A). length r ≡ sh .layers) (replicate n (replicate (sh .layers) x))
-    go zero = tt
-    go (suc n) = (length-replicate (sh .layers) x, go n)
+dims-everywhere : {A : Type 0} (sh : Extent) (x : A) → Dims sh (everywhere sh x)
+dims-everywhere {A} sh x = (length-replicate (sh .mips) _, all-replicate (λ (r : List A). length r ≡ sh .layers) (replicate (sh .layers) x) (sh .mips) (length-replicate (sh .layers) x))
 
 dims-states : (sh : Extent) (ss : List (List Range)) → length ss ≡ sh .mips → Tiled sh ss → Dims sh (map layerStates ss)
 dims-states sh ss h t = (length-map ss layerStates ∙ h, go ss t)
@@ -85,21 +81,13 @@ dims-states sh ss h t = (length-map ss layerStates ∙ h, go ss t)
     go [] t = tt
     go (s ∷ ss) t = (tiles-length s 0 (sh .layers) (t .0) ∙ omega arith, go ss (t .1))
 
-pub dims-held : (sh : Extent) (h : Held) → Fit sh h → Dims sh (gridOf sh h .states)
+dims-held : (sh : Extent) (h : Held) → Fit sh h → Dims sh (gridOf sh h .states)
 unfolding gridOf
 dims-held sh (single st) f = dims-everywhere sh st
 dims-held sh (many ss) f = dims-states sh ss (f .1) (f .2)
 
 known-everywhere : (u st : ℕ) (sh : Extent) → Known u st → KnownAll u (everywhere sh st)
-known-everywhere u st sh k = go (sh .mips)
-  where
-    row : (n : ℕ) → All (Known u) (replicate n st)
-    row zero = tt
-    row (suc n) = (k, row n)
-
-    go : (n : ℕ) → KnownAll u (replicate n (replicate (sh .layers) st))
-    go zero = tt
-    go (suc n) = (row (sh .layers), go n)
+known-everywhere u st sh k = grid-everywhere (Known u) sh st k
 
 -- ---- the end of a use of one state
 row-end-one : (p : UsageFlags) (new : ℕ) → eqb new (p .unknown) ≡ false → (r : List ℕ) (w : ℕ) → length r ≡ w → zip₂ (ruleEnd p) r (replicate w (some new)) ≡ replicate w new
@@ -147,29 +135,13 @@ state-end-known : (p : UsageFlags) (c : ℕ) (n : Option ℕ) → Known (p .unkn
 state-end-known p c none k = k
 state-end-known p c (some new) k = by-test (Known (p .unknown)) (eqb new (p .unknown)) (λ b. k) (λ b. eqb-false new (p .unknown) b)
 
-row-end-known : (p : UsageFlags) (e : List ℕ) (n : List (Option ℕ)) → All (Known (p .unknown)) e → All (Known (p .unknown)) (zip₂ (ruleEnd p) e n)
-row-end-known p [] n k = tt
-row-end-known p (c ∷ e) [] k = tt
-row-end-known p (c ∷ e) (x ∷ n) k = (state-end-known p c x (k .0), row-end-known p e n (k .1))
-
 end-known : (p : UsageFlags) (e : List (List ℕ)) (n : List (List (Option ℕ))) → KnownAll (p .unknown) e → KnownAll (p .unknown) (zip₂ (zip₂ (ruleEnd p)) e n)
-end-known p [] n k = tt
-end-known p (c ∷ e) [] k = tt
-end-known p (c ∷ e) (x ∷ n) k = (row-end-known p c x (k .0), end-known p e n (k .1))
+end-known p e n k = grid-zip (Known (p .unknown)) (λ o. Unit {0}) (Known (p .unknown)) (ruleEnd p) (λ c o x t. state-end-known p c o x) e n k (all-of _ (λ r. all-of _ (λ o. tt) r) n)
 
 -- ---- a Single end that is given pieces
-row-end-zip : (p : UsageFlags) (k l : ℕ) (r : List ℕ) (n : List (Option ℕ)) → length r ≡ length n
-    → walk₂ (uniteState (λ c new. some (endAfter (p .unknown) c new)) k) l r n ≡ fine (zip₂ (ruleEnd p) r n)
-row-end-zip p k l [] n h = refl
-row-end-zip p k l (c ∷ r) [] h = absurd (omega arith)
-row-end-zip p k l (c ∷ r) (none ∷ n) h = rw (row-end-zip p k (suc l) r n (omega arith))
-row-end-zip p k l (c ∷ r) (some x ∷ n) h = rw (row-end-zip p k (suc l) r n (omega arith))
-
-grid-end-zip : (p : UsageFlags) (k w : ℕ) (g : List (List ℕ)) (n : List (List (Option ℕ))) → length g ≡ length n → All (λ (r : List ℕ). length r ≡ w) g → All (λ (r : List (Option ℕ)). length r ≡ w) n
-    → walk₂ (λ m. walk₂ (uniteState (λ c new. some (endAfter (p .unknown) c new)) m) 0) k g n ≡ fine (zip₂ (zip₂ (ruleEnd p)) g n)
-grid-end-zip p k w [] n h a b = refl
-grid-end-zip p k w (r ∷ g) [] h a b = absurd (omega arith)
-grid-end-zip p k w (r ∷ g) (s ∷ n) h a b = rw (row-end-zip p k 0 r s (a .0 ∙ sym (b .0)), grid-end-zip p (suc k) w g n (omega arith) (a .1) (b .1))
+end-fine : (p : UsageFlags) (m l c : ℕ) (o : Option ℕ) → uniteState (λ c new. some (endAfter (p .unknown) c new)) m l c o ≡ fine (ruleEnd p c o)
+end-fine p m l c none = refl
+end-fine p m l c (some new) = refl
 
 abbrev endPass : ℕ → ℕ → Piece → ℕ → List Range → Stop InvalidUse (List Range)
 endPass u cur q k s = fine (if inMips (q .selector) k then coalesce (paint u (q .selector .layers .start .0) (q .selector .layers .end .0) (endAfter u cur (q .state)) s) else s)
@@ -199,7 +171,7 @@ single-spread p sh cur qs n e g =
     let m = many-pass sh (λ c new. some (endAfter (p .unknown) c new)) (λ (c : ℕ). c ≡ cur) (endPass (p .unknown) cur) (end-pass p sh cur) (freshMips sh cur) long (mips-tiled sh cur (e .1)) (all-cur sh cur) qs n g in
     let r = rw (end-passes (p .unknown) cur qs (freshMips sh cur)) at (m .grids) in
     let d = fills sh qs n g in let ev = dims-everywhere sh cur in
-    let z = grid-end-zip p 0 (sh .layers) (everywhere sh cur) (n .states) (ev .0 ∙ sym (d .0)) (ev .1) (d .1) in (
+    let z = grid-walks (ruleEnd p) (uniteState (λ c new. some (endAfter (p .unknown) c new))) (end-fine p) 0 (sh .layers) (everywhere sh cur) (n .states) (ev .0 ∙ sym (d .0)) (ev .1) (d .1) in (
       grids-length sh (λ c new. some (endAfter (p .unknown) c new)) (fine (spreadEnd (p .unknown) cur qs (freshMips sh cur))) (freshMips sh cur) (n .states) r ∙ long,
       r .tiled,
       r .same ∙ rw (mips-states sh cur, z),
@@ -253,6 +225,10 @@ stays : (p : UsageFlags) (sh : Extent) (s : Held) (e : List (List ℕ)) (n : Lis
     → gridOf sh s ≡ record { single = gridOf sh s .single; states = zip₃ (zip₃ (ruleStart p)) (gridOf sh s .states) e n }
 stays p sh s e n f de dn k = let x = sym (start-known p sh (gridOf sh s .states) e n (dims-held sh s f) de dn k) in λ i. record { single = gridOf sh s .single; states = x i }
 
+-- what holds of a texture whose start or end is another
+fit-ends : (p : UsageFlags) (sh : Extent) (e : Ends Held) (s d : Held) → FitEnds p sh e → Fit sh s → ClearHeld p s → Fit sh d → ClearHeld p d → KnownEnd p s (gridOf sh d .states) → FitEnds p sh (ends-of s d)
+fit-ends p sh e s d f a b c g k = record { sure = f .sure; measured = f .measured; start = a; start-clear = b; end = c; end-clear = g; known = k }
+
 keeps-single-one : (p : UsageFlags) (sh : Extent) (s : Held) (cur new : ℕ) → FitEnds p sh (ends-of s (single cur)) → Clear p new
     → Keeps p sh s (single cur) (givenSingle new) (record { single = true; states = everywhere sh (some new) })
 unfolding update gridOf
@@ -260,7 +236,7 @@ keeps-single-one p sh s cur new f c =
     let k = clear-known p new (f .sure) c in
     let ev = dims-everywhere sh cur in
     record {
-      fit = record { sure = f .sure; measured = f .measured; start = f .start; start-clear = f .start-clear; end = f .measured; end-clear = c; known = known-of p s _ (known-everywhere (p .unknown) new sh k) };
+      fit = fit-ends p sh _ s (single new) f (f .start) (f .start-clear) (f .measured) c (known-of p s _ (known-everywhere (p .unknown) new sh k));
       start = stays p sh s (everywhere sh cur) (everywhere sh (some new)) (f .start) ev (dims-everywhere sh (some new)) (known-everywhere (p .unknown) cur sh (clear-known p cur (f .sure) (f .end-clear)));
       end = rw (grid-end-one p new (sh .layers) (ne-eqb new (p .unknown) k) (everywhere sh cur) (sh .mips) (ev .0) (ev .1));
     }
@@ -273,15 +249,8 @@ keeps-single-many p sh s cur qs n f g =
     let k = known-everywhere (p .unknown) cur sh (clear-known p cur (f .sure) (f .end-clear)) in
     let mk = many-flag sh qs n g in
     record {
-      fit = record {
-        sure = f .sure;
-        measured = f .measured;
-        start = f .start;
-        start-clear = f .start-clear;
-        end = (f .measured, w .0, w .1);
-        end-clear = tt;
-        known = rw (w .2) (known-zip p s (everywhere sh cur) (n .states) (known-of p s (everywhere sh cur) k));
-      };
+      fit = fit-ends p sh _ s (many (spreadEnd (p .unknown) cur qs (freshMips sh cur))) f (f .start) (f .start-clear) (f .measured, w .0, w .1) tt
+          (rw (w .2) (known-zip p s (everywhere sh cur) (n .states) (known-of p s (everywhere sh cur) k)));
       start = stays p sh s (everywhere sh cur) (n .states) (f .start) (dims-everywhere sh cur) (fills sh qs n g) k;
       end = λ i. record { single = sym mk i; states = w .2 i };
     }
@@ -317,12 +286,10 @@ unfolding update gridOf
 rw-keeps p sh s ss qs n r u f a b = record { fit = rw u f; start = rw u a; end = rw u b }
 
 ends-tiled : (sh : Extent) (l : List Two) → All (Ok sh) l → Tiled sh (endsOf l)
-ends-tiled sh [] o = tt
-ends-tiled sh (t ∷ l) o = (o .0 .0, ends-tiled sh l (o .1))
+ends-tiled sh = all-map (Ok sh) (λ (s : List Range). Tiles 0 s (sh .layers)) (λ (t : Two). t .end) (λ t o. o .0)
 
 starts-tiled : (sh : Extent) (l : List Two) → All (Ok sh) l → Tiled sh (startsOf l)
-starts-tiled sh [] o = tt
-starts-tiled sh (t ∷ l) o = (o .0 .1, starts-tiled sh l (o .1))
+starts-tiled sh = all-map (Ok sh) (λ (s : List Range). Tiles 0 s (sh .layers)) (λ (t : Two). t .start) (λ t o. o .1)
 
 keeps-many-many : (p : UsageFlags) (sh : Extent) (s : Held) (ss : List (List Range)) (qs : List Piece) (n : Named) → FitEnds p sh (ends-of s (many ss)) → Gives sh (givenMany qs) n
     → Keeps p sh s (many ss) (givenMany qs) n
@@ -336,15 +303,8 @@ keeps-many-many p sh (single st) ss qs n f g =
     let mk = many-flag sh qs n g in
     let d = dims-states sh ss (f .end .1) (f .end .2) in
     rw-keeps p sh (single st) ss qs n (record { start = single st; end = many (endsOf r) }) u
-    (record {
-      sure = f .sure;
-      measured = f .measured;
-      start = f .start;
-      start-clear = f .start-clear;
-      end = (f .measured, length-map r (λ (t : Two). t .end) ∙ m .count, ends-tiled sh r (m .ok));
-      end-clear = tt;
-      known = rw (m .end) (end-known p (map layerStates ss) (n .states) (f .known));
-    })
+    (fit-ends p sh _ (single st) (many (endsOf r)) f (f .start) (f .start-clear) (f .measured, length-map r (λ (t : Two). t .end) ∙ m .count, ends-tiled sh r (m .ok)) tt
+    (rw (m .end) (end-known p (map layerStates ss) (n .states) (f .known))))
     (stays p sh (single st) (map layerStates ss) (n .states) (f .start) d (fills sh qs n g) (f .known))
     (λ i. record { single = sym mk i; states = m .end i })
 keeps-many-many p sh (many ts) ss qs n f g =
@@ -354,15 +314,8 @@ keeps-many-many p sh (many ts) ss qs n f g =
     let u = rw (twos-ends ss ts same, twos-starts ss ts same) at (update-many (p .unknown) qs (twos ss ts)) in
     let mk = many-flag sh qs n g in
     rw-keeps p sh (many ts) ss qs n (record { start = many (startsOf r); end = many (endsOf r) }) u
-    (record {
-      sure = f .sure;
-      measured = f .measured;
-      start = (f .measured, length-map r (λ (t : Two). t .start) ∙ m .count, starts-tiled sh r (m .ok));
-      start-clear = tt;
-      end = (f .measured, length-map r (λ (t : Two). t .end) ∙ m .count, ends-tiled sh r (m .ok));
-      end-clear = tt;
-      known = tt;
-    })
+    (fit-ends p sh _ (many (startsOf r)) (many (endsOf r)) f (f .measured, length-map r (λ (t : Two). t .start) ∙ m .count, starts-tiled sh r (m .ok)) tt
+    (f .measured, length-map r (λ (t : Two). t .end) ∙ m .count, ends-tiled sh r (m .ok)) tt tt)
     (λ i. record { single = false; states = m .start i })
     (λ i. record { single = sym mk i; states = m .end i })
 
@@ -382,14 +335,12 @@ abbrev pub KnownGiven : UsageFlags → Given → Named → Type 0
 KnownGiven p (givenSingle st) n = All (All (KnownO (p .unknown))) (n .states)
 KnownGiven p (givenMany qs) n = Unit {0}
 
-row-insert-known : (u : ℕ) (r : List (Option ℕ)) → All (KnownO u) r → All (Known u) (map (namedOr u) r)
-row-insert-known u [] k = tt
-row-insert-known u (none ∷ r) k = absurd (k .0)
-row-insert-known u (some c ∷ r) k = (k .0, row-insert-known u r (k .1))
-
 insert-known : (u : ℕ) (g : List (List (Option ℕ))) → All (All (KnownO u)) g → KnownAll u (map (map (namedOr u)) g)
-insert-known u [] k = tt
-insert-known u (r ∷ g) k = (row-insert-known u r (k .0), insert-known u g (k .1))
+insert-known u = grid-map (KnownO u) (Known u) (namedOr u) one
+  where
+    one : (o : Option ℕ) → KnownO u o → Known u (namedOr u o)
+    one none k = absurd k
+    one (some c) k = k
 
 pub insert-clear : (p : UsageFlags) (sh : Extent) (g : Given) → ClearGiven p g → ClearHeld p (insert p sh g)
 unfolding insert

@@ -1,31 +1,214 @@
--- WebGPU's rule in its own usages: where every given state is the bits of a usage, a single merge conflicts just where some named subresource's usages are neither a
--- compatible list nor all attachments. And usage flags that render the usages: 01's bench palette and wgpu's.
-use mathlib.Core.Bool.{Bool, true, false, _||_, false≢true}
+-- The WebGPU rule after every list of calls: single merges conflict just where the uses of some named subresource do not fit, and the same in the specification's own usages.
+use mathlib.Core.Bool.{true, _||_, false≢true}
 use mathlib.Core.List.{List, [], _∷_, _++_, map}
 use mathlib.Core.Logic.{_↔_}
-use mathlib.Core.Option.{Option, none, some}
-use mathlib.Core.Path.{_≡_, refl, sym, ap, _∙_}
-use Prim.Native.Nat.{ℕ}
+use mathlib.Core.Option.{Option, none, some, Option·map}
+use mathlib.Core.Path.{_≡_, refl, sym, ap, _∙_, subst}
+use Prim.Native.Nat.{ℕ, zero, suc}
 use native.Mathlib.Omega.{arith}
 use lib.Bits.{bitAnd}
 use lib.Count.{onesIn}
-use lib.ListN.{getD, getElem?}
+use lib.ListN.{getElem?, getD}
 use Rattle.model.specs.declared.Extent.{Extent}
 use Rattle.model.specs.declared.Selector.{Selector}
 use Rattle.model.specs.declared.UsageFlags.{UsageFlags}
-use Rattle.model.specs.Base.{if_then_else_, every}
-use Rattle.model.specs.Flags.{meets, oneBit}
-use Rattle.model.specs.Sets.{Slot, Set, Head, headOf, emptySlot, slotAt, Opening}
+use Rattle.model.specs.Sets.{Set, Head, headOf, Opening, slotAt}
 use Rattle.model.specs.Refusals.{trackerIndex, singleRefusal}
-use Rattle.model.specs.Calls.{Call, callMergeSingle, step, newly}
-use Rattle.model.specs.Texture.{Held, ranged}
-use Rattle.agreement.specs.Shared.{afterCalls}
-use Rattle.agreement.specs.WellFormedSets.{All, Word, GivenWord}
-use Rattle.agreement.specs.WebGpu.{Usage, input, constant, storage, storageRead, attachment, attachmentRead, reads, isAttachment, compatibleList, usesFit, Renders, benchFlags, benchBit, wgpuFlags, Storing, writeOnly, readWrite, atomic, storingBit, Attaching, colorTarget, depthStencilWrite, attachingBit, wgpuBit, Histories, histories, noHistory, usesAt, InConflict, Unfit, Rendered, GivenUsage, NotCompatible}
-use Rattle.agreement.specs.ListLaws.{AllO, all-elem, all-getD}
+use Rattle.model.specs.Calls.{Answer, done, refused, inConflict, Call, callMergeSingle, Sets, step, newly, mergeSingle, callMergeUsageScope, callSetSingle, callSetFromUsageScope, callSetFromTracker, callSetAndRemoveSparse}
+use Rattle.model.specs.Texture.{ranged, Held}
+use Rattle.model.specs.ListLaws.{All, elem-map, all-weak, all-join, AllO, all-elem, all-getD}
+use Rattle.model.specs.Base.{Stop, orKeep, every}
+use Rattle.model.specs.BoolLaws.{by-test}
+use Rattle.model.specs.Flags.{meets, oneBit}
+use Rattle.agreement.specs.Grid.{grid, Grid, SubresourceConflict, namedOr, namedUse, singleUnion, manyUnion, gridBarrier}
+use Rattle.agreement.specs.Shared.{gridScope, toGrids, gridOf, firstOf, entriesAt, gridAt, afterCalls, itself}
+use Rattle.agreement.specs.WellFormedSets.{Word, GivenWord}
+use Rattle.agreement.specs.WebGpu.{Histories, histories, InConflict, Unfit, History, HandedIn, named, statesOf, handUse, historyInsert, takeStates, historyMerge, MergeGiven, Usage, input, constant, storage, storageRead, attachment, attachmentRead, reads, isAttachment, compatibleList, usesFit, Renders, benchFlags, benchBit, wgpuFlags, Storing, writeOnly, readWrite, atomic, storingBit, Attaching, colorTarget, depthStencilWrite, attachingBit, wgpuBit, noHistory, usesAt, Rendered, GivenUsage, NotCompatible}
+use Rattle.agreement.specs.GridLaws.{GridAll, grid-map}
+use Rattle.agreement.specs.TrackerLaws.{FitEnds}
+use Rattle.agreement.specs.BarrierLaws.{at-most-one}
+use Rattle.agreement.specs.Fits.{SetFits}
+use Rattle.agreement.specs.SlotLaws.{imageSet, head-image, slot-fits}
+use Rattle.agreement.specs.LiftScope.{mapAnswer, Textures}
+use Rattle.agreement.specs.LiftTracker.{Tracks}
+use Rattle.agreement.specs.LiftCalls.{Words, Good, imageSets, stepped, ran}
+use Rattle.agreement.specs.Agree.{FitS, GivesC, Pairs, scope-facts, tracker-facts, one-step, no-word, WordP}
+use Rattle.agreement.specs.WellStates.{use-all}
+use Rattle.agreement.specs.WellLaws.{all-words}
 use Rattle.agreement.specs.FitLaws.{flags-rule}
-use Rattle.agreement.specs.Judged.{uses-judged}
-use Rattle.agreement.specs.UsesKept.{UsesAll, HeldAll, uses-kept}
+use Rattle.agreement.specs.HistoryLaws.{TiedHeld, TiedGiven, AnyEnds, SameHanded, plainView, history-scopes, history-trackers, blankOf, takes-keep, hand-all, pass-all}
+use Rattle.agreement.specs.ConflictLaws.{conflict-unfit}
+
+abbrev same : SubresourceConflict → SubresourceConflict
+same c = c
+
+all-free : (cs : List Call) → All (Words WordP WordP) cs
+all-free [] = tt
+all-free (c ∷ cs) = (no-word c, all-free cs)
+
+-- two answers of which one is the other's image conflict alike
+image-conflict : {C D : Type 0} (f : C → D) (a : Answer C) → InConflict (mapAnswer f a) ≡ InConflict a
+image-conflict f done = refl
+image-conflict f (refused r) = refl
+image-conflict f (inConflict c) = refl
+
+module _ (os ts : List Opening) (cs : List Call) (w : All GivenWord cs) where
+  abbrev KR : Sets ranged
+  KR = afterCalls ranged cs (newly ranged os ts)
+
+  abbrev KT : Sets histories
+  KT = afterCalls histories cs (newly histories os ts)
+
+  abbrev KS : Sets grid
+  KS = afterCalls grid cs (newly grid os ts)
+
+  run-ranges : Good ranged grid gridOf firstOf WordP WordP FitS FitEnds GivesC Pairs entriesAt gridAt KR × (toGrids KR ≡ KS)
+  run-ranges = ran ranged grid gridOf firstOf WordP WordP FitS FitEnds GivesC Pairs entriesAt gridAt scope-facts tracker-facts os ts cs (all-free cs)
+
+  abbrev viewT : Sets histories → Sets grid
+  viewT = imageSets histories grid plainView same Word Word TiedHeld AnyEnds TiedGiven SameHanded gridAt gridAt
+
+  run-histories : Good histories grid plainView same Word Word TiedHeld AnyEnds TiedGiven SameHanded gridAt gridAt KT × (viewT KT ≡ KS)
+  run-histories = ran histories grid plainView same Word Word TiedHeld AnyEnds TiedGiven SameHanded gridAt gridAt history-scopes history-trackers os ts cs (all-words cs w)
+
+  -- the three representations answer alike
+  ranges-answer : (c : Call) → mapAnswer firstOf (step ranged c KR .answer) ≡ step grid c KS .answer
+  ranges-answer c = one-step c KR (run-ranges .0) .answer ∙ ap (λ (k : Sets grid). step grid c k .answer) (run-ranges .1)
+
+  histories-answer : (c : Call) → Words Word Word c → mapAnswer same (step histories c KT .answer) ≡ step grid c KS .answer
+  histories-answer c word =
+      stepped histories grid plainView same Word Word TiedHeld AnyEnds TiedGiven SameHanded gridAt gridAt history-scopes history-trackers c KT word (run-histories .0) .answer
+      ∙ ap (λ (k : Sets grid). step grid c k .answer) (run-histories .1)
+
+  -- so they conflict alike
+  conflicts : (c : Call) → Words Word Word c → InConflict (step ranged c KR .answer) ≡ InConflict (step histories c KT .answer)
+  conflicts c word =
+      sym (image-conflict firstOf (step ranged c KR .answer)) ∙ ap InConflict (ranges-answer c ∙ sym (histories-answer c word)) ∙ image-conflict same (step histories c KT .answer)
+
+  elem-good : {A : Type 0} (P : A → Type 0) (l : List A) (n : ℕ) (x : A) → All P l → getElem? l n ≡ some x → P x
+  elem-good P [] n x t e = absurd (let z : _≡_ {A = ℕ} 0 1 = cc in native.Mathlib.Nat.not-suc-le-zero (native.Mathlib.Nat.le-of-eq (sym z)))
+  elem-good P (y ∷ l) zero x t e = let h : y ≡ x = cc in subst P h (t .0)
+  elem-good P (y ∷ l) (suc n) x t e = elem-good P l n x (t .1) e
+
+  one-merge : (n i : ℕ) (sh : Extent) (sel : Option Selector) (st : ℕ) (s : Set Histories) → getElem? (KT .scopes) n ≡ some s → step histories (callMergeSingle n (trackerIndex i) sh sel st) KT .answer ≡ mergeSingle histories s i sh sel st .answer
+  unfolding step
+  one-merge n i sh sel st s e = rw e
+
+  -- "WebGPU judges each subresource by the uses made of it": for a single merge that passes its checks, after any list of calls, on any scope
+  webgpu-judges : (n i : ℕ) (sh : Extent) (sel : Option Selector) (st : ℕ) → Word st → (s : Set Histories) → getElem? (KT .scopes) n ≡ some s → singleRefusal (headOf s) i sh sel st ≡ none
+      → (InConflict (step ranged (callMergeSingle n (trackerIndex i) sh sel st) KR .answer) → Unfit s i sh sel st) × (Unfit s i sh sel st → InConflict (step ranged (callMergeSingle n (trackerIndex i) sh sel st) KR .answer))
+  webgpu-judges n i sh sel st word s e r =
+      let good = elem-good _ (KT .scopes) n s (run-histories .0 .0) e in
+      let m = conflict-unfit s i sh sel st good word r in
+      let one = conflicts (callMergeSingle n (trackerIndex i) sh sel st) word ∙ ap InConflict (one-merge n i sh sel st s e) in
+      (λ t. m .0 (coe 0 1 (k. one k) t), λ u. coe 1 0 (k. one k) (m .1 u))
+
+  beside : (n : ℕ) (r : Set Held) → getElem? (KR .scopes) n ≡ some r → (s : Set Histories) × (getElem? (KT .scopes) n ≡ some s) × (headOf s ≡ headOf r)
+  beside n r e = go (getElem? (KT .scopes) n) refl
+    where
+      both : Option·map (imageSet plainView) (getElem? (KT .scopes) n) ≡ some (gridScope r)
+      both =
+          sym (elem-map (imageSet plainView) (KT .scopes) n) ∙ ap (λ (k : Sets grid). getElem? (k .scopes) n) (run-histories .1 ∙ sym (run-ranges .1))
+          ∙ elem-map gridScope (KR .scopes) n ∙ ap (Option·map gridScope) e
+
+      go : (o : Option (Set Histories)) → getElem? (KT .scopes) n ≡ o → (s : Set Histories) × (getElem? (KT .scopes) n ≡ some s) × (headOf s ≡ headOf r)
+      go none q = absurd (let z : none ≡ some (gridScope r) = rw q at both in unlike (gridScope r) z)
+        where
+          unlike : (x : Set Grid) → none ≡ some x → ⊥
+          unlike x e = let h : _≡_ {A = ℕ} 0 1 = cc in omega arith
+      go (some s) q =
+          let z : some (imageSet plainView s) ≡ some (gridScope r) = rw q at both in
+          let y : imageSet plainView s ≡ gridScope r = cc in
+          (s, q, sym (head-image plainView s) ∙ ap headOf y ∙ head-image gridOf r)
+
+  pub uses-judged : (n i : ℕ) (sh : Extent) (sel : Option Selector) (st : ℕ) → Word st → (r : Set Held) → getElem? (KR .scopes) n ≡ some r → singleRefusal (headOf r) i sh sel st ≡ none
+      → (s : Set Histories) × (getElem? (KT .scopes) n ≡ some s) × (headOf s ≡ headOf r)
+      × (InConflict (step ranged (callMergeSingle n (trackerIndex i) sh sel st) KR .answer) → Unfit s i sh sel st) × (Unfit s i sh sel st → InConflict (step ranged (callMergeSingle n (trackerIndex i) sh sel st) KR .answer))
+  uses-judged n i sh sel st word r e c =
+      let b = beside n r e in let j = webgpu-judges n i sh sel st word (b .0) (b .1) (subst (λ (h : Head). singleRefusal h i sh sel st ≡ none) (sym (b .2)) c) in (b .0, b .1, b .2, j .0, j .1)
+
+-- ---- what holds of every use that single merges are given holds of every use that a scope has taken
+-- a conflict seen as it is
+same-option : {C : Type 0} (o : Option C) → Option·map (λ (c : C). c) o ≡ o
+same-option none = refl
+same-option (some c) = refl
+
+module _ (W : ℕ → Type 0) where
+  abbrev UsesAll : History → Type 0
+  UsesAll c = All W (c .uses)
+
+  abbrev HeldAll : Histories → Type 0
+  HeldAll h = GridAll UsesAll (h .states)
+
+  abbrev HandedAll : HandedIn → Type 0
+  HandedAll g = GridAll (AllO UsesAll) (g .states)
+
+  used-all : (sh : Extent) (sel : Option Selector) (st : ℕ) → W st → HandedAll (handUse sh sel st)
+  used-all sh sel st w = hand-all W UsesAll (λ x h. (h, tt)) (namedUse sh sel st .states) (use-all W sh sel st w)
+
+  or-blank : (p : UsageFlags) (o : Option History) → AllO UsesAll o → UsesAll (namedOr (blankOf p) o)
+  or-blank p none t = tt
+  or-blank p (some c) t = t
+
+  inserted-all : (p : UsageFlags) (sh : Extent) (g : HandedIn) → HandedAll g → HeldAll (historyInsert p sh g)
+  inserted-all p sh g t = grid-map (AllO UsesAll) UsesAll (namedOr (blankOf p)) (or-blank p) (g .states) t
+
+  takes-all : (f : ℕ → ℕ → Option ℕ) (g : List (List History)) (n : List (List (Option History))) → GridAll UsesAll g → GridAll (AllO UsesAll) n → GridAll UsesAll (takeStates f g n .value)
+  takes-all f = takes-keep UsesAll f (λ c g u x y e. all-join W (c .uses) (g .uses) x y)
+
+  merged-all : (p : UsageFlags) (sh : Extent) (h : Histories) (g : HandedIn) → HeldAll h → HandedAll g → HeldAll (historyMerge p sh h g .value)
+  unfolding historyMerge
+  merged-all p sh h g x y =
+      by-test (λ (w : Stop SubresourceConflict Histories). HeldAll (w .value)) (h .single) (λ e. kept (takeStates (singleUnion p) (h .states) (g .states) .conflict)) (λ e. takes-all (manyUnion p) (h .states) (g .states) x y)
+    where
+      kept : (o : Option SubresourceConflict) → HeldAll (orKeep o h (record { single = g .single; states = takeStates (singleUnion p) (h .states) (g .states) .value }) .value)
+      kept none = takes-all (singleUnion p) (h .states) (g .states) x y
+      kept (some c) = x
+
+  -- ---- the lifting, of histories beside themselves
+  abbrev FitU : UsageFlags → Extent → Histories → Type 0
+  FitU p sh h = HeldAll h
+
+  abbrev GivesU : UsageFlags → Extent → HandedIn → HandedIn → Type 0
+  GivesU p sh g n = HandedAll g × (g ≡ n)
+
+  abbrev Alike : UsageFlags → Extent → HandedIn → HandedIn → HandedIn → HandedIn → Type 0
+  Alike p sh a b c d = (a ≡ b) × (c ≡ d)
+
+  kept-scopes : Textures histories histories itself (λ (c : SubresourceConflict). c) W FitU GivesU
+  kept-scopes = record {
+    fresh = λ n. refl;
+    used = λ h i sh sel st s w e. (used-all sh sel st w, refl);
+    passed-on = λ p sh h f. (pass-all UsesAll (AllO UsesAll) (λ c x. x) (h .states) f, refl);
+    inserted = λ p sh g n r. (inserted-all p sh g (r .0), ap (historyInsert p sh) (r .1));
+    merged = λ p sh h g n r f. (merged-all p sh h g f (r .0), rw (← r .1) (refl, same-option (historyMerge p sh h g .conflict)));
+  }
+
+  kept-trackers : Tracks histories histories itself WordP FitU AnyEnds Alike gridAt gridAt
+  kept-trackers = record {
+    fresh = λ n. refl;
+    used = λ h i sh sel st s w e. (refl, refl);
+    passed-on = λ p sh h f. (refl, refl);
+    joined = λ p sh e f. (refl, refl);
+    inserted = λ p sh a b c d r. (tt, ap (historyInsert p sh) (r .0), ap (historyInsert p sh) (r .1));
+    updated = λ p sh e a b c d r f. (tt, ap (histories .update p sh e) (r .1));
+    logged = λ p mask sh e a b c d r f m l. (
+      ap (λ (n : HandedIn). gridAt m l (histories .log p mask sh (e .end) n)) (r .0),
+      at-most-one (getD (getD (gridBarrier p mask sh (statesOf (e .end)) (named a)) m []) l none),
+    );
+  }
+
+  words : (c : Call) → MergeGiven W c → Words W WordP c
+  words (callMergeSingle n i sh sel st) w = w
+  words (callMergeUsageScope n m) w = w
+  words (callSetSingle n i sh sel st) w = tt
+  words (callSetFromUsageScope n m) w = w
+  words (callSetFromTracker n m) w = w
+  words (callSetAndRemoveSparse n m is) w = w
+
+  pub uses-kept : (os ts : List Opening) (cs : List Call) → All (MergeGiven W) cs → All (SetFits FitU) (afterCalls histories cs (newly histories os ts) .scopes)
+  uses-kept os ts cs w =
+      ran histories histories itself (λ (c : SubresourceConflict). c) W WordP FitU AnyEnds GivesU Alike gridAt gridAt kept-scopes kept-trackers os ts cs (all-weak (MergeGiven W) (Words W WordP) words cs w) .0 .0
 
 -- ---- renderings
 pub bench-renders : Renders benchFlags benchBit
@@ -88,23 +271,19 @@ module _ (bit : Usage → ℕ) where
   usages-of [] t = ([], refl)
   usages-of (st ∷ us) t = let r = usages-of us (t .1) in (t .0 .0 ∷ r .0, rw (← t .0 .1, ← r .1))
 
-  taken-usages : (s : Set Histories) (i m l : ℕ) → All (λ (x : Slot Histories). HeldAll (Rendered bit) (x .held)) (s .slots) → All (Rendered bit) (usesAt s i m l)
+  taken-usages : (s : Set Histories) (i m l : ℕ) → SetFits (FitU (Rendered bit)) s → All (Rendered bit) (usesAt s i m l)
   taken-usages s i m l t =
-      go (slotAt (histories .fresh 0) s i .owned) (all-getD (λ (x : Slot Histories). HeldAll (Rendered bit) (x .held)) (s .slots) i (emptySlot (histories .fresh 0)) tt t)
-    where
-      x : Slot Histories
-      x = slotAt (histories .fresh 0) s i
-
-      go : (b : Bool) → HeldAll (Rendered bit) (x .held) → All (Rendered bit) (if b then getD (getD (x .held .states) m []) l noHistory .uses else [])
-      go true h = all-getD (UsesAll (Rendered bit)) (getD (x .held .states) m []) l noHistory tt (all-getD (All (UsesAll (Rendered bit))) (x .held .states) m [] tt h)
-      go false h = tt
+      let x = slotAt (histories .fresh 0) s i in
+      by-test (All (Rendered bit)) (x .owned)
+      (λ o. all-getD (UsesAll (Rendered bit)) (getD (x .held .states) m []) l noHistory tt (all-getD (All (UsesAll (Rendered bit))) (x .held .states) m [] tt (slot-fits (FitU (Rendered bit)) s (histories .fresh 0) i t .held o)))
+      (λ o. tt)
 
   -- the rule, with the given usage last
   with-given : (p : UsageFlags) → Renders p bit → (vs : List Usage) (u : Usage) → usesFit p (map bit vs ++ (bit u ∷ [])) ≡ compatibleList (vs ++ (u ∷ [])) || every isAttachment (vs ++ (u ∷ []))
   with-given p r vs u = ap (usesFit p) (sym (map-append bit vs (u ∷ []))) ∙ flags-rule p bit r (vs ++ (u ∷ []))
 
   module _ (s : Set Histories) (r : Renders (s .flags) bit) (i : ℕ) (sh : Extent) (sel : Option Selector) (u : Usage) where
-    to-usages : All (λ (x : Slot Histories). HeldAll (Rendered bit) (x .held)) (s .slots) → Unfit s i sh sel (bit u) → NotCompatible bit s i sh sel u
+    to-usages : SetFits (FitU (Rendered bit)) s → Unfit s i sh sel (bit u) → NotCompatible bit s i sh sel u
     to-usages t f =
         let v = usages-of (usesAt s i (f .mip) (f .layer)) (taken-usages s i (f .mip) (f .layer) t) in
         record {
@@ -134,6 +313,5 @@ module _ (bit : Usage → ℕ) where
       let s = j .0 in
       let same : s .flags ≡ r .flags = ap (λ (h : Head). h .flags) (j .2) in
       let rs : Renders (s .flags) bit = rw same rr in
-      let kept : AllO (λ (x : Set Histories). All (λ (y : Slot Histories). HeldAll (Rendered bit) (y .held)) (x .slots)) (some s)
-      = rw (j .1) at (all-elem (λ (x : Set Histories). All (λ (y : Slot Histories). HeldAll (Rendered bit) (y .held)) (x .slots)) (afterCalls histories cs (newly histories os ts) .scopes) n (uses-kept (Rendered bit) os ts cs g)) in
+      let kept : AllO (SetFits (FitU (Rendered bit))) (some s) = rw (j .1) at (all-elem (SetFits (FitU (Rendered bit))) (afterCalls histories cs (newly histories os ts) .scopes) n (uses-kept (Rendered bit) os ts cs g)) in
       (s, j .1, (λ c. to-usages s rs i sh sel u kept (j .3 c), λ c. j .4 (from-usages s rs i sh sel u c)))

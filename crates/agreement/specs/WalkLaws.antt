@@ -7,9 +7,8 @@ use native.Mathlib.Nat.{add-suc, suc-add, add-zero}
 use native.Mathlib.Omega.{arith}
 use lib.ListN.{length, replicate, length-replicate}
 use Rattle.model.specs.Base.{Stop, fine, onward, walk, walk₂}
+use Rattle.model.specs.ListLaws.{All, all-weak}
 use Rattle.agreement.specs.Grid.{tab, band}
-use Rattle.agreement.specs.WellFormedSets.{All}
-use Rattle.agreement.specs.ListLaws.{all-weak}
 
 pub onward-all : {A C : Type 0} (P : A → Type 0) (x : A) (o : Option C) (was : List A) (w : Stop C (List A))
     → P x → All P was → All P (w .value) → All P (onward x o was w .value)

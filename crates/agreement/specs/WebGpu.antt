@@ -1,6 +1,6 @@
 -- The rule of the WebGPU specification (W3C) for the uses of one subresource within a usage scope, and the uses that each subresource of a scope has taken
 -- and keeps. The specification's words below are of its text of 2025, section 3.4, "Resource Usages" and "Synchronization" (usage scopes), written down
--- from memory: the document was not at hand.
+-- without the document at hand, and held against an implementation: tests/webgpu, docs/DIFFERENCES.md.
 use mathlib.Core.Bool.{Bool, true, false, _&&_, _||_, not}
 use mathlib.Core.List.{List, [], _∷_, _++_, map}
 use mathlib.Core.Option.{Option, none, some, Option·map}
@@ -94,7 +94,7 @@ benchBit storageRead = 32
 benchBit attachment = 16
 benchBit attachmentRead = 64
 
--- wgpu's `TextureUses`, written down from memory: EXCLUSIVE is PRESENT, COPY_DST, COLOR_TARGET, DEPTH_STENCIL_WRITE and the three storage uses that write
+-- wgpu's `TextureUses` (tests/constants compares them with wgpu-types' own): EXCLUSIVE is PRESENT, COPY_DST, COLOR_TARGET, DEPTH_STENCIL_WRITE and the three storage uses that write
 abbrev pub wgpuFlags : UsageFlags
 wgpuFlags = record { exclusive = 2 + 8 + 32 + 128 + 512 + 1024 + 2048; uninitialized = 1; complex = 8192; unknown = 16384 }
 

@@ -1,16 +1,10 @@
 -- Well-formed sets of the ranged model, by model's tests of a scope and of a tracker (01: sound), and calls whose given state has sixteen bits.
 use mathlib.Core.Bool.{Bool, _&&_}
-use mathlib.Core.List.{List, [], _∷_}
 use Prim.Native.Nat.{ℕ, _<_}
 use Rattle.model.specs.Base.{every}
 use Rattle.model.specs.Calls.{Sets, Call, callMergeSingle, callMergeUsageScope, callSetSingle, callSetFromUsageScope, callSetFromTracker, callSetAndRemoveSparse}
 use Rattle.model.specs.Texture.{ranged}
 use Rattle.model.specs.WellFormed.{scopeFits, trackerFits}
-
--- each element of a list has a property
-abbrev pub All : {A : Type 0} → (A → Type 0) → List A → Type 0
-All P [] = Unit {0}
-All P (x ∷ s) = P x × All P s
 
 -- every scope and every tracker is well formed
 abbrev pub wellFormed : Sets ranged → Bool

@@ -1,43 +1,43 @@
 -- Every call keeps every set well formed.
-use mathlib.Core.Bool.{true, false, _||_, false≢true}
+use mathlib.Core.Bool.{_||_}
 use mathlib.Core.List.{List, [], _∷_, _++_, map}
 use mathlib.Core.Option.{Option, none}
 use mathlib.Core.Path.{_≡_, refl, sym, ap, _∙_, subst}
-use Prim.Native.Nat.{ℕ, zero, suc, _-_}
+use Prim.Native.Nat.{ℕ, _-_}
 use native.Mathlib.Omega.{arith}
 use lib.Bits.{bitAnd}
 use lib.Dec.{eqb}
-use lib.ListN.{replicate, length-replicate}
+use lib.ListN.{replicate}
 use borrow.Author.Tests.{eqb-true, eqb-false, not-false, ne-eqb}
 use Rattle.model.specs.declared.Extent.{Extent}
 use Rattle.model.specs.declared.Range.{Range}
 use Rattle.model.specs.declared.Selector.{Selector}
 use Rattle.model.specs.declared.UsageFlags.{UsageFlags}
-use Rattle.model.specs.Base.{if_then_else_, each}
 use Rattle.model.specs.Flags.{meets}
 use Rattle.model.specs.Representation.{Ends}
-use Rattle.model.specs.Sets.{Numbers, Slot, Set, Tracker, Head, Opening, emptySlot, openSet, openTracker}
-use Rattle.model.specs.Refusals.{opens, textureChecks, selectorChecks, stateChecks, singleRefusal}
+use Rattle.model.specs.Sets.{Set, Tracker, Head, Opening}
+use Rattle.model.specs.Refusals.{textureChecks, selectorChecks, stateChecks, singleRefusal}
 use Rattle.model.specs.Calls.{Call, callMergeSingle, callMergeUsageScope, callSetSingle, callSetFromUsageScope, callSetFromTracker, callSetAndRemoveSparse, Sets, step, newly}
 use Rattle.model.specs.RangedStates.{layerStates, Tiles}
 use Rattle.model.specs.Texture.{Held, single, many, Given, ranged}
 use Rattle.model.specs.Subresources.{everywhere}
+use Rattle.model.specs.ListLaws.{all-weak, All, all-right, all-join, all-left, all-replicate, first-of, unlike-lists}
+use Rattle.model.specs.BoolLaws.{neither}
+use Rattle.model.specs.CheckLaws.{passed}
 use Rattle.agreement.specs.Grid.{Grid, Named, grid, namedOr}
 use Rattle.agreement.specs.Shared.{firstOf, gridOf, entriesAt, gridAt}
-use Rattle.agreement.specs.WellFormedSets.{All, Word, GivenWord}
-use Rattle.agreement.specs.BoolLaws.{by-test, neither}
-use Rattle.agreement.specs.ListLaws.{all-right, all-join, all-left, all-replicate, first-of, unlike-lists}
+use Rattle.agreement.specs.WellFormedSets.{Word, GivenWord}
 use Rattle.usage.specs.BitLaws.{bit-nonzero}
 use Rattle.agreement.specs.TextureLaws.{Measured, Fit}
 use Rattle.agreement.specs.TrackerLaws.{Known, KnownAll, KnownEnd, FitEnds, ClearHeld, clear-known, UnknownNonzero}
-use Rattle.agreement.specs.LiftScope.{passed, Textures}
-use Rattle.agreement.specs.LiftTracker.{Tracks, FitTracker, FitScope, Alike}
-use Rattle.agreement.specs.LiftCalls.{Words, Good, stepped}
-use Rattle.agreement.specs.OpeningLaws.{opened-numbers, opened-fits}
+use Rattle.agreement.specs.SlotLaws.{fits-weak}
+use Rattle.agreement.specs.LiftScope.{Textures}
+use Rattle.agreement.specs.LiftTracker.{Tracks, t₁, s₁, Taken}
+use Rattle.agreement.specs.LiftCalls.{Words, stepped, opened}
 use Rattle.agreement.specs.Agree.{FitS, GivesC, Pairs, scope-facts, tracker-facts}
-use Rattle.agreement.specs.Fits.{StateFits, MipFits, HeldFits, unknowns, EndsFit, ExtentFits, SlotFits, SetFits, SetsFit}
-use Rattle.agreement.specs.WellStates.{FlagFacts, sure-flags, StatesFit, NamedFit, GridAll, merge-fits, insert-fits, update-end-fits, update-start-fits, grid-alike, use-fits, pass-fits, insert-back}
-use Rattle.agreement.specs.Rooms.{Room, RoomT, Rooms, SlotExtent, step-rooms}
+use Rattle.agreement.specs.Fits.{StateFits, MipFits, HeldFits, unknowns, EndsFit, SetFits, SetsFit}
+use Rattle.agreement.specs.WellStates.{FlagFacts, sure-flags, StatesFit, NamedFit, merge-fits, insert-fits, update-end-fits, update-start-fits, grid-alike, use-fits, pass-fits, insert-back}
+use Rattle.agreement.specs.GridLaws.{GridAll, grid-everywhere}
 
 pub known-flags : (p : UsageFlags) → FlagFacts p → UnknownNonzero p
 known-flags p s = bit-nonzero 16 (p .unknown) (s .unknown-bit)
@@ -81,10 +81,10 @@ state-fits h i sh sel st w e =
       plain = eqb-true (bitAnd st (h .flags .complex)) 0 (not-false _ (o .1));
     }
 
-pub scopes-well : Textures ranged grid gridOf firstOf FlagFacts Word FitW GivesW
+pub scopes-well : Textures ranged grid gridOf firstOf Word FitW GivesW
 scopes-well = record {
   fresh = scope-facts .fresh;
-  used = λ h i sh sel st s w e. record { sure = s; base = scope-facts .used h i sh sel st (known-flags (h .flags) s) tt e; states = use-fits (h .flags) sh sel st (state-fits h i sh sel st w e) };
+  used = λ h i sh sel st s w e. record { sure = sure-flags (h .flags) s; base = scope-facts .used h i sh sel st s tt e; states = use-fits (h .flags) sh sel st (state-fits h i sh sel st w e) };
   passed-on = λ p sh h f. record { sure = f .sure; base = scope-facts .passed-on p sh h (f .base); states = pass-fits p (gridOf sh h) (f .states) };
   inserted = λ p sh g n r. let m = scope-facts .inserted p sh g n (r .base) in
       (record { sure = r .sure; base = m .0; states = subst (λ (s : Grid). StatesFit p (s .states)) (sym (m .1)) (insert-fits p sh n (r .sure) (r .states)) }, m .1);
@@ -92,12 +92,12 @@ scopes-well = record {
       (record { sure = r .sure; base = m .0; states = subst (λ (s : Grid). StatesFit p (s .states)) (sym (m .1 .0)) (merge-fits p sh (gridOf sh h) n (f .states) (r .states)) }, m .1);
 }
 
-pub trackers-well : Tracks ranged grid gridOf FlagFacts Word FitW FitEW PairsW entriesAt gridAt
+pub trackers-well : Tracks ranged grid gridOf Word FitW FitEW PairsW entriesAt gridAt
 trackers-well = record {
   fresh = tracker-facts .fresh;
   used = λ h i sh sel st s w e.
       let n = use-fits (h .flags) sh sel st (state-fits h i sh sel st w e) in
-      record { sure = s; base = tracker-facts .used h i sh sel st (known-flags (h .flags) s) tt e; from = n; to = n; alike = refl };
+      record { sure = sure-flags (h .flags) s; base = tracker-facts .used h i sh sel st s tt e; from = n; to = n; alike = refl };
   passed-on = λ p sh h f. let n = pass-fits p (gridOf sh h) (f .states) in
       record { sure = f .sure; base = tracker-facts .passed-on p sh h (f .base); from = n; to = n; alike = refl };
   joined = λ p sh e f. record {
@@ -159,7 +159,7 @@ unfolding gridOf
 held-in p sh (single st) s e f = record {
   sure = s;
   base = record { sure = known-flags p s; fit = e; clear = f .known };
-  states = all-replicate (All (StateFits p)) _ (sh .mips) (all-replicate (StateFits p) st (sh .layers) (f .state));
+  states = grid-everywhere (StateFits p) sh st (f .state);
 }
 held-in p sh (many ss) s e f = let t = mips-in p (sh .layers) ss (f .1) in record {
   sure = s;
@@ -192,7 +192,7 @@ known-grid u (x ∷ r) (y ∷ q) e t =
 known-end : (p : UsageFlags) (sh : Extent) (s : Held) (g : List (List ℕ)) → UnknownNonzero p → ClearHeld p s → unknowns (p .unknown) (gridOf sh s .states) ≡ unknowns (p .unknown) g → KnownEnd p s g
 unfolding gridOf
 known-end p sh (single st) g s c e = known-grid (p .unknown) (everywhere sh st) g e
-    (all-replicate (All (Known (p .unknown))) _ (sh .mips) (all-replicate (Known (p .unknown)) st (sh .layers) (clear-known p st s c)))
+    (grid-everywhere (Known (p .unknown)) sh st (clear-known p st s c))
 known-end p sh (many ss) g s c e = tt
 
 pub ends-in : (p : UsageFlags) (sh : Extent) (e : Ends Held) → FlagFacts p → Measured sh → EndsFit p sh e → FitEW p sh e
@@ -221,69 +221,32 @@ ends-out p sh e q f = record {
 }
 
 -- ---- sets
-measured : (n : Numbers) (sh : Extent) → ExtentFits n sh → Measured sh
-measured n sh f = (f .mip, f .layer)
-
-pub opened-flags : (o : Opening) → opens o ≡ true → FlagFacts (o .flags)
-opened-flags o e = sure-flags (o .flags) (opened-fits o e)
-
-module _ {H : Type 0} (P Q : UsageFlags → Extent → H → Type 0)
-    (inward : (p : UsageFlags) (sh : Extent) (h : H) → FlagFacts p → Measured sh → P p sh h → Q p sh h) (outward : (p : UsageFlags) (sh : Extent) (h : H) → Measured sh → Q p sh h → P p sh h) where
-  slots-in : (n : Numbers) (p : UsageFlags) (l : List (Slot H)) → FlagFacts p → All (SlotFits P n p) l → All (λ (x : Slot H). x .owned ≡ true → Q p (x .extent) (x .held)) l
-  slots-in n p [] s t = tt
-  slots-in n p (x ∷ l) s t = (λ o. inward p (x .extent) (x .held) s (measured n (x .extent) (t .0 .extent o)) (t .0 .held o), slots-in n p l s (t .1))
-
-  rooms-in : (n : Numbers) (p : UsageFlags) (l : List (Slot H)) → All (SlotFits P n p) l → All (SlotExtent n) l
-  rooms-in n p [] t = tt
-  rooms-in n p (x ∷ l) t = (t .0 .extent, rooms-in n p l (t .1))
-
-  slots-out : (n : Numbers) (p : UsageFlags) (l : List (Slot H)) → All (SlotExtent n) l → All (λ (x : Slot H). x .owned ≡ true → Q p (x .extent) (x .held)) l → All (SlotFits P n p) l
-  slots-out n p [] r t = tt
-  slots-out n p (x ∷ l) r t = (record { extent = r .0; held = λ o. outward p (x .extent) (x .held) (measured n (x .extent) (r .0 o)) (t .0 o) }, slots-out n p l (r .1) (t .1))
-
-  abbrev Fits : Set H → Type 0
-  Fits s = FlagFacts (s .flags) × All (λ (x : Slot H). x .owned ≡ true → Q (s .flags) (x .extent) (x .held)) (s .slots)
-
-  set-in : (s : Set H) → SetFits P s → Fits s × Room s
-  set-in s f =
-      let p = sure-flags (s .flags) (f .flags) in
-      ((p, slots-in (s .numbers) (s .flags) (s .slots) p (f .slots)), record { numbers = f .numbers; flags = f .flags; room = f .room; extents = rooms-in (s .numbers) (s .flags) (s .slots) (f .slots) })
-
-  set-back : (s : Set H) → Fits s → Room s → SetFits P s
-  set-back s f r = record { numbers = r .numbers; flags = r .flags; room = r .room; slots = slots-out (s .numbers) (s .flags) (s .slots) (r .extents) (f .1) }
-
 pub fit-out : (p : UsageFlags) (sh : Extent) (h : Held) → Measured sh → FitW p sh h → HeldFits p sh h
 fit-out p sh h q f = held-out p sh h q (f .base .fit) (f .base .clear) (f .states)
 
+abbrev pub WellScope : Set Held → Type 0
+WellScope = SetFits FitW
+
+abbrev pub WellTracker : Tracker Held → Type 0
+WellTracker t = SetFits FitEW (t .set)
+
 abbrev pub WellSets : Sets ranged → Type 0
-WellSets = Good ranged grid gridOf firstOf FlagFacts Word FitW FitEW GivesW PairsW entriesAt gridAt
+WellSets k = All WellScope (k .scopes) × All WellTracker (k .trackers)
 
-scopes-in : (l : List (Set Held)) → All (SetFits HeldFits) l → All (Fits HeldFits FitW held-in fit-out) l × All Room l
-scopes-in [] t = (tt, tt)
-scopes-in (s ∷ l) t = let a = set-in HeldFits FitW held-in fit-out s (t .0) in let b = scopes-in l (t .1) in ((a .0, b .0), (a .1, b .1))
+pub well-good : (k : Sets ranged) → SetsFit k → WellSets k
+well-good k w = (
+  all-weak (SetFits HeldFits) WellScope (λ s f. fits-weak HeldFits FitW s f (λ sh h x. held-in (s .flags) sh h (sure-flags (s .flags) (f .flags)) (x .mip, x .layer))) (k .scopes) (w .scopes),
+  all-weak (λ (t : Tracker Held). SetFits EndsFit (t .set)) WellTracker
+      (λ t f. fits-weak EndsFit FitEW (t .set) f (λ sh e x. ends-in (t .set .flags) sh e (sure-flags (t .set .flags) (f .flags)) (x .mip, x .layer))) (k .trackers) (w .trackers),
+)
 
-scopes-out : (l : List (Set Held)) → All (Fits HeldFits FitW held-in fit-out) l → All Room l → All (SetFits HeldFits) l
-scopes-out [] t r = tt
-scopes-out (s ∷ l) t r = (set-back HeldFits FitW held-in fit-out s (t .0) (r .0), scopes-out l (t .1) (r .1))
+good-well : (k : Sets ranged) → WellSets k → SetsFit k
+good-well k g = record {
+  scopes = all-weak WellScope (SetFits HeldFits) (λ s f. fits-weak FitW HeldFits s f (λ sh h x. fit-out (s .flags) sh h (x .mip, x .layer))) (k .scopes) (g .0);
+  trackers = all-weak WellTracker (λ (t : Tracker Held). SetFits EndsFit (t .set)) (λ t f. fits-weak FitEW EndsFit (t .set) f (λ sh e x. ends-out (t .set .flags) sh e (x .mip, x .layer))) (k .trackers) (g .1);
+}
 
-abbrev FitsT : Tracker Held → Type 0
-FitsT t = Fits EndsFit FitEW ends-in ends-out (t .set)
-
-trackers-in : (l : List (Tracker Held)) → All (λ (t : Tracker Held). SetFits EndsFit (t .set)) l → All FitsT l × All (RoomT ranged) l
-trackers-in [] t = (tt, tt)
-trackers-in (s ∷ l) t = let a = set-in EndsFit FitEW ends-in ends-out (s .set) (t .0) in let b = trackers-in l (t .1) in ((a .0, b .0), (a .1, b .1))
-
-trackers-out : (l : List (Tracker Held)) → All FitsT l → All (RoomT ranged) l → All (λ (t : Tracker Held). SetFits EndsFit (t .set)) l
-trackers-out [] t r = tt
-trackers-out (s ∷ l) t r = (set-back EndsFit FitEW ends-in ends-out (s .set) (t .0) (r .0), trackers-out l (t .1) (r .1))
-
-pub well-good : (k : Sets ranged) → SetsFit k → WellSets k × Rooms ranged k
-well-good k w = let a = scopes-in (k .scopes) (w .scopes) in let b = trackers-in (k .trackers) (w .trackers) in ((a .0, b .0), record { scopes = a .1; trackers = b .1 })
-
-good-well : (k : Sets ranged) → WellSets k → Rooms ranged k → SetsFit k
-good-well k g r = record { scopes = scopes-out (k .scopes) (g .0) (r .scopes); trackers = trackers-out (k .trackers) (g .1) (r .trackers) }
-
-pub words : (c : Call) → GivenWord c → Words Word c
+words : (c : Call) → GivenWord c → Words Word Word c
 words (callMergeSingle n i sh sel st) w = w
 words (callMergeUsageScope n m) w = w
 words (callSetSingle n i sh sel st) w = w
@@ -291,44 +254,23 @@ words (callSetFromUsageScope n m) w = w
 words (callSetFromTracker n m) w = w
 words (callSetAndRemoveSparse n m is) w = w
 
+pub all-words : (cs : List Call) → All GivenWord cs → All (Words Word Word) cs
+all-words = all-weak GivenWord (Words Word Word) words
+
 -- each of the six calls, on any well-formed sets
 pub call-keeps-well-formed : (c : Call) (k : Sets ranged) → GivenWord c → SetsFit k → SetsFit (step ranged c k .after)
 call-keeps-well-formed c k w f =
-    let g = well-good k f in
-    good-well (step ranged c k .after)
-    (stepped ranged grid gridOf firstOf FlagFacts Word FitW FitEW GivesW PairsW entriesAt gridAt scopes-well trackers-well opened-flags c k (words c w) (g .0) .good)
-    (step-rooms ranged c k (g .1))
-
--- ---- newly opened
-unowned-slots : {H : Type 0} (P : UsageFlags → Extent → H → Type 0) (n : Numbers) (p : UsageFlags) (h : H) (m : ℕ) → All (SlotFits P n p) (replicate m (emptySlot h))
-unowned-slots P n p h zero = tt
-unowned-slots P n p h (suc m) = (record { extent = λ (z : false ≡ true). absurd (false≢true z); held = λ (z : false ≡ true). absurd (false≢true z) }, unowned-slots P n p h m)
-
-new-scopes : (os : List Opening) → All (SetFits HeldFits) (each (λ o. if opens o then openSet (ranged .fresh) o ∷ [] else []) os)
-new-scopes [] = tt
-new-scopes (o ∷ os) =
-    let ih = new-scopes os in
-    by-test (λ (a : List (Set Held)). All (SetFits HeldFits) (a ++ each (λ o. if opens o then openSet (ranged .fresh) o ∷ [] else []) os)) (opens o)
-    (λ e. (record { numbers = opened-numbers o e; flags = opened-fits o e; room = length-replicate (o .numbers .textures) _; slots = unowned-slots HeldFits (o .numbers) (o .flags) _ (o .numbers .textures) }, ih))
-    (λ e. ih)
-
-new-trackers : (os : List Opening) → All (λ (t : Tracker Held). SetFits EndsFit (t .set)) (each (λ o. if opens o then openTracker (ranged .fresh) o ∷ [] else []) os)
-new-trackers [] = tt
-new-trackers (o ∷ os) =
-    let ih = new-trackers os in
-    by-test (λ (a : List (Tracker Held)). All (λ (t : Tracker Held). SetFits EndsFit (t .set)) (a ++ each (λ o. if opens o then openTracker (ranged .fresh) o ∷ [] else []) os)) (opens o)
-    (λ e. (record { numbers = opened-numbers o e; flags = opened-fits o e; room = length-replicate (o .numbers .textures) _; slots = unowned-slots EndsFit (o .numbers) (o .flags) _ (o .numbers .textures) }, ih))
-    (λ e. ih)
+    good-well (step ranged c k .after) (stepped ranged grid gridOf firstOf Word Word FitW FitEW GivesW PairsW entriesAt gridAt scopes-well trackers-well c k (words c w) (well-good k f) .good)
 
 pub opened-well-formed : (scopes trackers : List Opening) → SetsFit (newly ranged scopes trackers)
-unfolding newly
-opened-well-formed os ts = record { scopes = new-scopes os; trackers = new-trackers ts }
+opened-well-formed os ts = good-well (newly ranged os ts) (opened ranged grid gridOf firstOf Word Word FitW FitEW GivesW PairsW entriesAt gridAt scopes-well trackers-well os ts .0)
 
-abbrev pub WellTracker : Tracker Held → Type 0
-WellTracker = FitTracker ranged grid gridOf FlagFacts Word FitW FitEW PairsW entriesAt gridAt
+-- one index that the sparse call takes from the scope, and the sets after it
+abbrev pub TakenW : Tracker Held → Set Held → ℕ → Type 0
+TakenW = Taken ranged grid gridOf Word FitW FitEW PairsW entriesAt gridAt trackers-well
 
-abbrev pub WellScope : Set Held → Type 0
-WellScope = FitScope ranged grid gridOf FlagFacts Word FitW FitEW PairsW entriesAt gridAt trackers-well
+abbrev pub trackerAfter : Tracker Held → Set Held → ℕ → Tracker Held
+trackerAfter = t₁ ranged grid gridOf Word FitW FitEW PairsW entriesAt gridAt trackers-well
 
-abbrev pub AlikeSets : Tracker Held → Set Held → ℕ → Type 0
-AlikeSets = Alike ranged grid gridOf FlagFacts Word FitW FitEW PairsW entriesAt gridAt trackers-well
+abbrev pub scopeAfter : Tracker Held → Set Held → ℕ → Set Held
+scopeAfter = s₁ ranged grid gridOf Word FitW FitEW PairsW entriesAt gridAt trackers-well

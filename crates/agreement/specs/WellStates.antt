@@ -17,14 +17,14 @@ use Rattle.model.specs.Base.{if_then_else_, Stop, ruled, orKeep, walk₂, zip�
 use Rattle.model.specs.Flags.{incompatible, meets, oneBit, isBit, apart, flagsFit}
 use Rattle.model.specs.Representation.{inMips}
 use Rattle.model.specs.StateRules.{less}
+use Rattle.model.specs.ListLaws.{All, all-join, all-replicate, AllO, unlike-lists}
+use Rattle.model.specs.BoolLaws.{by-test}
 use Rattle.agreement.specs.Grid.{Grid, Named, SubresourceConflict, without, singleUnion, manyUnion, endState, startState, uniteState, uniteStates, namedEnd, namedStart, namedOr, gridMerge, gridInsert, tab, namedRow, namedUse, namedAll}
-use Rattle.agreement.specs.WellFormedSets.{All}
-use Rattle.agreement.specs.BoolLaws.{by-test}
-use Rattle.agreement.specs.ListLaws.{all-join, all-map, all-replicate, AllO, unlike-lists}
 use Rattle.usage.specs.BitLaws.{and-or, or-zero, split-bits, bit-nonzero, bits-apart}
 use Rattle.agreement.specs.WalkLaws.{onward-all}
 use Rattle.agreement.specs.RulesAgree.{less-without}
 use Rattle.agreement.specs.Fits.{StateFits, unknowns}
+use Rattle.agreement.specs.GridLaws.{GridAll, grid-map, grid-everywhere, grid-zip, grid-back}
 
 -- ---- usage flags that open
 pub record FlagFacts (p : UsageFlags) : Type 0 where
@@ -126,12 +126,6 @@ walk₂-all P Q f h k (x ∷ s) [] a b = a
 walk₂-all P Q f h k (x ∷ s) (y ∷ t) a b =
     onward-all P (f k x y .value) (f k x y .conflict) s (walk₂ f (suc k) s t) (h k x y (a .0) (b .0)) (a .1) (walk₂-all P Q f h (suc k) s t (a .1) (b .1))
 
-zip₂-all : {A B D : Type 0} (P : A → Type 0) (Q : B → Type 0) (R : D → Type 0) (f : A → B → D) → ((a : A) (b : B) → P a → Q b → R (f a b))
-    → (s : List A) (t : List B) → All P s → All Q t → All R (zip₂ f s t)
-zip₂-all P Q R f h [] t a b = tt
-zip₂-all P Q R f h (x ∷ s) [] a b = tt
-zip₂-all P Q R f h (x ∷ s) (y ∷ t) a b = (h x y (a .0) (b .0), zip₂-all P Q R f h s t (a .1) (b .1))
-
 zip₃-all : {A B D E : Type 0} (P : A → Type 0) (Q : B → Type 0) (R : D → Type 0) (S : E → Type 0) (f : A → B → D → E) → ((a : A) (b : B) (d : D) → P a → Q b → R d → S (f a b d))
     → (s : List A) (t : List B) (v : List D) → All P s → All Q t → All R v → All S (zip₃ f s t v)
 zip₃-all P Q R S f h [] t v a b d = tt
@@ -142,10 +136,6 @@ zip₃-all P Q R S f h (x ∷ s) (y ∷ t) (z ∷ v) a b d = (h x y z (a .0) (b 
 all-tab : {A : Type 0} (P : A → Type 0) (f : ℕ → A) (k n : ℕ) → ((j : ℕ) → P (f j)) → All P (tab f k n)
 all-tab P f k zero h = tt
 all-tab P f k (suc n) h = (h k, all-tab P f (suc k) n h)
-
--- what holds of every subresource of a grid
-abbrev pub GridAll : {A : Type 0} → (A → Type 0) → List (List A) → Type 0
-GridAll P g = All (All P) g
 
 module _ (S : ℕ → Type 0) (f : ℕ → ℕ → Option ℕ) (keeps : (c new u : ℕ) → S c → S new → f c new ≡ some u → S u) where
   state-keeps : (m l c : ℕ) (o : Option ℕ) → S c → AllO S o → S (uniteState f m l c o .value)
@@ -184,7 +174,7 @@ or-else-fits p s (some x) t = t
 
 pub insert-fits : (p : UsageFlags) (sh : Extent) (n : Named) → FlagFacts p → NamedFit p (n .states) → StatesFit p (gridInsert p sh n .states)
 insert-fits p sh n s t =
-    all-map (All (AllO (StateFits p))) (All (StateFits p)) (map (namedOr (p .unknown))) (λ r. all-map (AllO (StateFits p)) (StateFits p) (namedOr (p .unknown)) (or-else-fits p s) r) (n .states) t
+    grid-map (AllO (StateFits p)) (StateFits p) (namedOr (p .unknown)) (or-else-fits p s) (n .states) t
 
 end-fits : (p : UsageFlags) (c : ℕ) (o : Option ℕ) → StateFits p c → AllO (StateFits p) o → StateFits p (namedEnd p c o)
 unfolding endState
@@ -198,7 +188,7 @@ start-fits p s c (some new) w x y = by-test (StateFits p) (not (eqb new (p .unkn
 
 pub update-end-fits : (p : UsageFlags) (e : List (List ℕ)) (n : List (List (Option ℕ))) → StatesFit p e → NamedFit p n → StatesFit p (zip₂ (zip₂ (namedEnd p)) e n)
 update-end-fits p e n a b =
-    zip₂-all (All (StateFits p)) (All (AllO (StateFits p))) (All (StateFits p)) (zip₂ (namedEnd p)) (λ r q x y. zip₂-all (StateFits p) (AllO (StateFits p)) (StateFits p) (namedEnd p) (end-fits p) r q x y) e n a b
+    grid-zip (StateFits p) (AllO (StateFits p)) (StateFits p) (namedEnd p) (end-fits p) e n a b
 
 pub update-start-fits : (p : UsageFlags) (s e : List (List ℕ)) (n : List (List (Option ℕ))) → StatesFit p s → StatesFit p e → NamedFit p n → StatesFit p (zip₃ (zip₃ (namedStart p)) s e n)
 update-start-fits p s e n a b c =
@@ -241,7 +231,7 @@ grid-alike p (x ∷ s) (y ∷ e) (z ∷ n) h =
 
 -- ---- what is handed in
 pub use-all : (P : ℕ → Type 0) (sh : Extent) (sel : Option Selector) (st : ℕ) → P st → GridAll (AllO P) (namedUse sh sel st .states)
-use-all P sh none st h = all-replicate (All (AllO P)) _ (sh .mips) (all-replicate (AllO P) (some st) (sh .layers) h)
+use-all P sh none st h = grid-everywhere (AllO P) sh (some st) h
 use-all P sh (some q) st h = all-tab (All (AllO P)) (namedRow sh q st) 0 (sh .mips)
     (λ j. by-test (All (AllO P)) (inMips q j)
     (λ b. all-join _ (replicate (q .layers .start .0) none) _ (all-replicate _ none (q .layers .start .0) tt) (all-join _ (replicate (q .layers .end .0 - q .layers .start .0) (some st)) _ (all-replicate _ (some st) (q .layers .end .0 - q .layers .start .0) h) (all-replicate _ none (sh .layers - q .layers .end .0) tt)))
@@ -251,12 +241,7 @@ pub use-fits : (p : UsageFlags) (sh : Extent) (sel : Option Selector) (st : ℕ)
 use-fits p sh sel st h = use-all (StateFits p) sh sel st h
 
 pub pass-fits : (p : UsageFlags) (s : Grid) → StatesFit p (s .states) → NamedFit p (namedAll s .states)
-pass-fits p s t = all-map (All (StateFits p)) (All (AllO (StateFits p))) (map some) (λ r. all-map (StateFits p) (AllO (StateFits p)) some (λ c x. x) r) (s .states) t
-
-row-back : (u : ℕ) (r : List ℕ) → map (namedOr u) (map some r) ≡ r
-row-back u [] = refl
-row-back u (c ∷ r) = rw (row-back u r)
+pass-fits p s t = grid-map (StateFits p) (AllO (StateFits p)) some (λ c x. x) (s .states) t
 
 pub insert-back : (u : ℕ) (g : List (List ℕ)) → map (map (namedOr u)) (map (map some) g) ≡ g
-insert-back u [] = refl
-insert-back u (r ∷ g) = rw (row-back u r, insert-back u g)
+insert-back u = grid-back some (namedOr u) (λ c. refl)

@@ -9,12 +9,13 @@
 //   - no strict assertion of the Rust fires;
 //   - for single merges, the yes or no on uses is the WebGPU specification's rule, also in its own usages where the states are their bits.
 //
-// In the picture of README it is the arrow from the ranged model up to the grid and to the WebGPU rule; the crates of code are proved equal to the ranged
+// In the picture of docs/ARCHITECTURE.md it is the arrow from the ranged model up to the grid and to the WebGPU rule; the crates of code are proved equal to the ranged
 // model, and carry these claims over to it.
 //
 // Reading order, in specs/: Grid, Shared, WellFormedSets, LogBound, Layers, Asserts and WebGpu are definitions, and Claims is every statement with the name of its
-// proof. Below them are proofs alone, from the ground up, as Lib lists them: tests, lists and walks (BoolLaws to WalkLaws); the ranges of one mip
-// (RangeLaws to FilterLaws); one texture (RulesAgree to BarrierLaws); sets and calls, for any two representations, and demand 3 (LiftScope to Agree);
-// well-formed sets (Fits to OwnRefusals); the log (LogCount to EachCall); assertions (GivenFits to AssertCalls); WebGPU (FitLaws to UsagesJudged).
+// proof. Below them are proofs alone, from the ground up, as Lib lists them: walks and grids (WalkLaws, GridLaws); the ranges of one mip
+// (PaintLaws, FilterLaws); one texture (RulesAgree to BarrierLaws); sets and calls, for any two representations, and demand 3 (Fits to
+// Agree); well-formed sets (WellStates to OwnRefusals); the log (LogRoom, EachCall); assertions (AssertLaws, AssertCalls); WebGPU (FitLaws to
+// UsagesJudged). Laws of tests, lists, checks and ranges are crate `model`'s.
 //
 // must-fail/ holds wrong rules, one edit each, that the proofs refuse.

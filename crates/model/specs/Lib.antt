@@ -11,5 +11,9 @@ pub mod RangeCalls
 pub mod Subresources
 pub mod WellFormed
 pub mod Log
+pub mod BoolLaws
+pub mod ListLaws
+pub mod CheckLaws
+pub mod RangeLaws
 pub mod Samples
 pub mod Edges

@@ -1,5 +1,5 @@
 -- The log (01: the Rust's `temp`), and the calls whole: what is lent is checked first, and the room of the log last.
-use mathlib.Core.Bool.{Bool, not}
+use mathlib.Core.Bool.{Bool, true, false, not}
 use mathlib.Core.List.{List, [], _∷_, _++_, map}
 use mathlib.Core.Option.{Option, none, some}
 use Prim.Native.Nat.{ℕ, _+_, _-_}
@@ -23,6 +23,12 @@ abbrev pub outcomeOf : Answer InvalidUse → Outcome
 outcomeOf done = Done
 outcomeOf (refused r) = Refused r
 outcomeOf (inConflict c) = Conflict (record { index = trackerIndex (c .index); found = c .what })
+
+-- whether a call was refused
+abbrev pub isRefused : Outcome → Bool
+isRefused Done = false
+isRefused (Refused r) = true
+isRefused (Conflict c) = false
 
 -- what a call's checks answer
 abbrev pub verdict : Option Refusal → Outcome

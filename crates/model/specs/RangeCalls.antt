@@ -1,7 +1,7 @@
 -- 01, "Strips": the three calls on a lent run of range records, of which the first `told` are in use.
 use mathlib.Core.Bool.{Bool, true, _&&_, _||_, not}
 use mathlib.Core.List.{List, [], _∷_, _++_}
-use mathlib.Core.Option.{Option, none, some}
+use mathlib.Core.Option.{Option}
 use Prim.Native.Nat.{ℕ, _-_}
 use lib.Dec.{leb, ltb}
 use lib.ListN.{length, take, drop, replicate}
@@ -9,7 +9,7 @@ use Rattle.model.specs.declared.Range.{Range}
 use Rattle.model.specs.declared.Refusal.{Refusal}
 use Rattle.model.specs.declared.Refusal.the-variants.{SelectorEmpty, RangesOutOfOrder, NoFreeEntry}
 use Rattle.model.specs.Refusals.{Check, check, firstFailing}
-use Rattle.model.specs.RangedStates.{range, Cut, listOf, isolate, coalesce, iterFilter}
+use Rattle.model.specs.RangedStates.{range, listOf, isolate, coalesce, iterFilter}
 
 -- no range is empty, out of order or overlaps
 abbrev pub ascends : ℕ → List Range → Bool

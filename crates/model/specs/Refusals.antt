@@ -11,6 +11,8 @@ use Rattle.model.specs.declared.Selector.{Selector}
 use Rattle.model.specs.declared.TrackerIndex.{TrackerIndex}
 use Rattle.model.specs.declared.Refusal.{Refusal}
 use Rattle.model.specs.declared.Refusal.the-variants.{NumbersOutOfLimits, FlagsBreakRule, ShortRoom, NotWellFormed, LogTooShort, FlagsDiffer, NoSuchIndex, ExtentOutOfLimits, ExtentDiffers, SelectorEmpty, SelectorPastExtent, StateReserved, StateIncompatible, RangesOutOfOrder, NoFreeEntry}
+use Rattle.model.specs.declared.Verdict.{Verdict}
+use Rattle.model.specs.declared.Verdict.the-variants.{Accepted, Refused}
 use Rattle.model.specs.Base.{if_then_else_, each, eachAt}
 use Rattle.model.specs.Flags.{meets, incompatible, flagsFit, sameFlags}
 use Rattle.model.specs.Representation.{mipStart, mipEnd, layerStart, layerEnd}
@@ -52,6 +54,11 @@ placeOf StateReserved = 0
 placeOf StateIncompatible = 0
 placeOf RangesOutOfOrder = 0
 placeOf NoFreeEntry = 0
+
+-- what checks tell: the refusal, if one fails
+abbrev pub refusedFor : Verdict → Option Refusal
+refusedFor Accepted = none
+refusedFor (Refused r) = some r
 
 -- ---- "Checked top to bottom."
 -- a row of the table at a call: whether it fails, and the refusal that is then the answer

@@ -1,6 +1,5 @@
 -- 01, "Bench samples": B1 to B14 as one table of rows, and one theorem for all of them, by computation.
-use mathlib.Core.Bool.{Bool, true, false}
-use mathlib.Core.List.{List, [], _∷_, _++_, map}
+use mathlib.Core.List.{List, [], _∷_, map}
 use mathlib.Core.Option.{Option, none, some}
 use mathlib.Core.Path.{_≡_, refl}
 use Prim.Native.Nat.{ℕ}
@@ -16,7 +15,7 @@ use Rattle.model.specs.Sets.{Opening, slotAt, openSet, openTracker}
 use Rattle.model.specs.Refusals.{trackerIndex}
 use Rattle.model.specs.Calls.{Indexed, Answer, done, inConflict, CallResult, Call, callMergeSingle, callMergeUsageScope, callSetSingle, callSetFromUsageScope, callSetFromTracker, noEnds, Sets, nothing, step, newly}
 use Rattle.model.specs.StateRules.{invalidState}
-use Rattle.model.specs.RangedStates.{range, Cut, listOf, isolate}
+use Rattle.model.specs.RangedStates.{range, listOf, isolate}
 use Rattle.model.specs.Texture.{Held, single, many, Entry, invalidUse, ranged, insert, merge, barrier, update}
 
 -- ---- "UNINITIALIZED 1, EXCLUSIVE 20, COMPLEX 4096, UNKNOWN 8192 (U), mask 10; 2 mips, 4 layers."

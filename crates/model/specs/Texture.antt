@@ -1,5 +1,4 @@
 -- texture.rs on plain lists: `insert`, `merge`, `barrier` and `update` of one texture, exactly as the Rust leaves it.
-use mathlib.Core.Bool.{true, false}
 use mathlib.Core.List.{List, [], _∷_, _++_, map}
 use mathlib.Core.Option.{Option, none, some, Option·map}
 use Prim.Native.Nat.{ℕ, suc}

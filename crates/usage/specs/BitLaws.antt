@@ -1,9 +1,9 @@
 -- The bits of a union, of what two numbers share, and of a number less some bits.
 use mathlib.Core.Path.{_≡_, refl, sym, ap, ap₂, _∙_}
-use Prim.Native.Nat.{ℕ, zero, suc, _+_, _-_, _*_, _/_, _%_, _^_, _≤_, _<_, min, max}
+use Prim.Native.Nat.{ℕ, zero, suc, _+_, _-_, _*_, _/_, _%_, _^_, _<_, min, max}
 use native.Mathlib.Omega.{arith}
 use lib.Arith.{bin-ind}
-use lib.Bits.{bitAnd, bitOr, bitXor, and-step, or-step, and-zero-l, and-zero-r, and-self, or-add-and, and-le-l, and-le-r, or-disjoint, xor-shr}
+use lib.Bits.{bitAnd, bitOr, and-step, or-step, and-zero-l, and-zero-r, or-add-and, and-le-l, and-le-r, or-disjoint}
 use lib.Count.{onesIn}
 use native.Mathlib.Decide.{decLt}
 

@@ -9,6 +9,4 @@ unfolding incompatible
 returns c = rw (c .before .meets .ensures, c .one-bit .ensures)
 
 pub incompatible-spec : {M : Type 1} → statement M
-incompatible-spec =
-    tie.close
-    (tie.spec (λ c κs. search needs) (λ c κs. search needs) returns)
+incompatible-spec = tie.close (tie.spec (λ c κs. search needs) (λ c κs. search needs) returns)

@@ -14,6 +14,4 @@ unfolding less
 returns c = refl
 
 pub less-spec : {M : Type 1} → statement M
-less-spec =
-    tie.close
-    (tie.spec sub-result returns)
+less-spec = tie.close (tie.spec sub-result returns)

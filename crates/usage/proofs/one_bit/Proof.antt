@@ -3,10 +3,5 @@ use Rattle.usage.specs.CountLaws.{ones-masked}
 use Rattle.usage.proofs.one_bit.Statement.{statement}
 use Rattle.usage.proofs.one_bit.Tie as tie
 
-returns : tie.Need-returns
-returns c = rw (ones-masked 16 (c .args .s))
-
 pub one-bit-spec : {M : Type 1} → statement M
-one-bit-spec =
-    tie.close
-    (tie.spec returns)
+one-bit-spec = tie.close (tie.spec (λ c. rw (ones-masked 16 (c .args .s))))

@@ -13,6 +13,4 @@ unfolding skipBarrier
 returns-2 c = search tests
 
 pub skips-spec : {M : Type 1} → statement M
-skips-spec =
-    tie.close
-    (tie.spec returns returns-2)
+skips-spec = tie.close (tie.spec returns returns-2)

@@ -6,9 +6,6 @@ use borrow.Author.Needs.{needs}
 use Rattle.usage.proofs.flags.apart.Statement.{statement}
 use Rattle.usage.proofs.flags.apart.Tie as tie
 
-returns : tie.Need-returns
-returns c = search tests
-
 returns-2 : tie.Need-returns-2
 returns-2 c = let e0 = sym (c .before .is-bit .ensures) ∙ not-true _ (c .if2 .taken) in search (tests, e0)
 
@@ -31,7 +28,5 @@ returns-8 : tie.Need-returns-8
 returns-8 c = let e0 = sym (c .before .before .before .before .before .before .before .before .before .before .before .before .is-bit .ensures) ∙ not-false _ (c .before .before .before .before .before .before .before .before .before .before .before .if2 .left) in let e1 = sym (c .before .before .before .before .before .before .before .before .before .before .is-bit2 .ensures) ∙ not-false _ (c .before .before .before .before .before .before .before .before .before .if3 .left) in let e2 = sym (c .before .before .meets .ensures) ∙ (c .before .if7 .left) in rw (lt-ltb _ _ (c .before .before .before .before .before .before .before .before .before .before .before .before .before .if1 .left), e0, e1, ne-eqb _ _ (c .before .before .before .before .before .before .before .if4 .left), ne-eqb _ _ (c .before .before .before .before .before .if5 .left), ne-eqb _ _ (c .before .before .before .if6 .left), e2, (c .meets2 .ensures))
 
 pub apart-spec : {M : Type 1} → statement M
-apart-spec =
-    tie.close
-    (tie.spec returns (λ c κs. search needs) returns-2 (λ c κs. search needs) returns-3 returns-4 returns-5 returns-6
-    (λ c κs. search needs) returns-7 (λ c κs. search needs) returns-8)
+apart-spec = tie.close (tie.spec (λ c. search tests) (λ c κs. search needs) returns-2 (λ c κs. search needs) returns-3
+    returns-4 returns-5 returns-6 (λ c κs. search needs) returns-7 (λ c κs. search needs) returns-8)

@@ -14,6 +14,4 @@ unfolding flagsFit
 returns-2 c = let m = sym (c .before .is-bit .ensures) ∙ (c .if1 .left) in rw m
 
 pub flags-fit-spec : {M : Type 1} → statement M
-flags-fit-spec =
-    tie.close
-    (tie.spec (λ c κs. search needs) (λ c κs. search needs) returns returns-2)
+flags-fit-spec = tie.close (tie.spec (λ c κs. search needs) (λ c κs. search needs) returns returns-2)

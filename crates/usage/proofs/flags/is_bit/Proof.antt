@@ -11,6 +11,4 @@ returns-2 : tie.Need-returns-2
 returns-2 c = let m = sym (c .before .one-bit .ensures) ∙ (c .if1 .left) in rw m
 
 pub is-bit-spec : {M : Type 1} → statement M
-is-bit-spec =
-    tie.close
-    (tie.spec (λ c κs. search needs) returns returns-2)
+is-bit-spec = tie.close (tie.spec (λ c κs. search needs) returns returns-2)

@@ -6,9 +6,6 @@ use borrow.Author.Needs.{needs}
 use Rattle.usage.proofs.flags.state_reserved.Statement.{statement}
 use Rattle.usage.proofs.flags.state_reserved.Tie as tie
 
-returns : tie.Need-returns
-returns c = search tests
-
 returns-2 : tie.Need-returns-2
 returns-2 c = let m = sym (c .before .meets .ensures) ∙ (c .if2 .taken) in search (tests, m)
 
@@ -16,6 +13,5 @@ returns-3 : tie.Need-returns-3
 returns-3 c = let m = sym (c .before .before .meets .ensures) ∙ (c .before .if2 .left) in rw (ne-eqb _ _ (c .before .before .before .if1 .left), m) (c .meets2 .ensures)
 
 pub state-reserved-spec : {M : Type 1} → statement M
-state-reserved-spec =
-    tie.close
-    (tie.spec returns (λ c κs. search needs) returns-2 (λ c κs. search needs) returns-3)
+state-reserved-spec = tie.close (tie.spec (λ c. search tests) (λ c κs. search needs) returns-2 (λ c κs. search needs)
+    returns-3)

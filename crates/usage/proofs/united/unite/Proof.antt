@@ -15,6 +15,4 @@ unfolding unite
 returns-2 c = let i = invalid-is _ _ ∙ sym (c .before .incompatible .ensures) ∙ (c .if1 .left) in rw (← (c .before .before .union .ensures), i)
 
 pub unite-spec : {M : Type 1} → statement M
-unite-spec =
-    tie.close
-    (tie.spec (λ c κs. search needs) (λ c κs. search needs) returns returns-2)
+unite-spec = tie.close (tie.spec (λ c κs. search needs) (λ c κs. search needs) returns returns-2)

@@ -1,17 +1,55 @@
--- `coalesce` and `isolate` keep the state of each layer, and their ranges tile as before.
+-- Ranges that tile: `coalesce`, `isolate` and `paint` keep the layers tiled, the first two keep the state of each layer, and no list has more ranges than layers.
 use mathlib.Core.Bool.{true, and-eq-true-iff}
-use mathlib.Core.List.{List, [], _∷_, _++_, append-assoc}
+use mathlib.Core.List.{List, [], _∷_, _++_, map, append-assoc}
 use mathlib.Core.Path.{_≡_, refl, sym, ap, _∙_}
 use Prim.Native.Nat.{max, ℕ, _-_, _+_, _≤_, _<_}
 use native.Mathlib.Omega.{arith}
 use lib.Dec.{leb, ltb, eqb}
-use lib.ListN.{replicate, replicate-append-replicate}
+use lib.ListN.{length, length-append, length-replicate, replicate, replicate-append-replicate}
 use borrow.Author.Tests.{eqb-true, eqb-false, leb-true, leb-false, ltb-true, ltb-false}
 use Rattle.model.specs.declared.Range.{Range}
 use Rattle.model.specs.Base.{if_then_else_}
-use Rattle.model.specs.RangedStates.{range, joins, coalesceFrom, coalesce, Cut, Rest, rest, withRun, isolateFrom, isolate, layerStates, Tiles}
-use Rattle.agreement.specs.BoolLaws.{by-test}
+use Rattle.model.specs.RangedStates.{range, joins, coalesceFrom, coalesce, Cut, listOf, Rest, rest, withRun, isolateFrom, isolate, inState, paint, layerStates, Tiles}
+use Rattle.model.specs.BoolLaws.{by-test}
 
+-- ---- tilings
+pub tiles-le : (s : List Range) (a e : ℕ) → Tiles a s e → a ≤ e
+tiles-le [] a e t = omega arith
+tiles-le (r ∷ s) a e t = let h = tiles-le s (r .end) e (t .2) in omega arith
+
+-- "A strip's ranges never outnumber the layers it covers"
+pub tiles-count : (s : List Range) (a e : ℕ) → Tiles a s e → a + length s ≤ e
+tiles-count [] a e t = omega arith
+tiles-count (r ∷ s) a e t = let h = tiles-count s (r .end) e (t .2) in omega arith
+
+-- one range over all layers tiles them
+pub tiles-one : (e st : ℕ) → 0 < e → Tiles 0 (range 0 e st ∷ []) e
+tiles-one e st h = (refl, h, refl)
+
+-- two tilings, one after the other
+pub tiles-append : (s t : List Range) (a b e : ℕ) → Tiles a s b → Tiles b t e → Tiles a (s ++ t) e
+tiles-append [] t a b e x y = rw x y
+tiles-append (r ∷ s) t a b e x y = (x .0, x .1, tiles-append s t (r .end) b e (x .2) y)
+
+-- states do not matter
+tiles-map : (st : ℕ) (s : List Range) (a e : ℕ) → Tiles a s e → Tiles a (map (inState st) s) e
+tiles-map st [] a e t = t
+tiles-map st (r ∷ s) a e t = (t .0, t .1, tiles-map st s (r .end) e (t .2))
+
+-- one state a layer
+pub tiles-length : (s : List Range) (a e : ℕ) → Tiles a s e → length (layerStates s) ≡ e - a
+unfolding layerStates
+tiles-length [] a e t = omega arith
+tiles-length (r ∷ s) a e t =
+    let h = tiles-length s (r .end) e (t .2) in let g = tiles-le s (r .end) e (t .2) in
+    rw (length-append, length-replicate, h) (omega arith)
+
+pub states-append : (x y : List Range) → layerStates (x ++ y) ≡ layerStates x ++ layerStates y
+unfolding layerStates
+states-append [] y = refl
+states-append (r ∷ x) y = rw (states-append x y, append-assoc)
+
+-- ---- `coalesce`
 -- x tiles a .. e and has the subresources of y
 abbrev pub Same : ℕ → ℕ → List Range → List Range → Type 0
 Same a e x y = Tiles a x e × (layerStates x ≡ layerStates y)
@@ -45,12 +83,10 @@ unfolding coalesce
 coalesce-same [] a e t = (t, refl)
 coalesce-same (r ∷ s) a e t = coalesce-from s r a e t
 
--- ---- isolate, on ranges that tile z .. w
+pub coalesce-tiles : (s : List Range) (a e : ℕ) → Tiles a s e → Tiles a (coalesce s) e
+coalesce-tiles s a e t = coalesce-same s a e t .0
 
-pub tiles-le : (s : List Range) (a e : ℕ) → Tiles a s e → a ≤ e
-tiles-le [] a e t = omega arith
-tiles-le (r ∷ s) a e t = let h = tiles-le s (r .end) e (t .2) in omega arith
-
+-- ---- `isolate`, on ranges that tile z .. w
 record Cuts-from (p e w : ℕ) (s : List Range) (c : Rest) : Type 0 where
   run : Tiles p (c .run) e
   after : Tiles e (c .after) w
@@ -105,3 +141,21 @@ isolate-cuts (r ∷ s) z a e d w g h k t =
     (λ b. let l : z ≡ a = omega (arith, ltb-false (r .start) a b) in
     let f = cut-from (r ∷ s) a e d w h k (rw l at t) in
     record { before = l; run = f .run; after = f .after; same = f .same })
+
+isolate-tiles : (s : List Range) (z a e d w : ℕ) → z ≤ a → a < e → e ≤ w → Tiles z s w → Tiles z (listOf (isolate a e d s)) w
+isolate-tiles s z a e d w g h k t =
+    let c = isolate-cuts s z a e d w g h k t in let i = isolate a e d s in
+    tiles-append (i .before) (i .run ++ i .after) z a w (c .before) (tiles-append (i .run) (i .after) a e w (c .run) (c .after))
+
+-- as many ranges as layers are enough, also between `isolate` and `coalesce`
+pub isolate-few : (s : List Range) (a e d w : ℕ) → a < e → e ≤ w → Tiles 0 s w → length (listOf (isolate a e d s)) ≤ w
+isolate-few s a e d w h k t =
+    let c = tiles-count (listOf (isolate a e d s)) 0 w (isolate-tiles s 0 a e d w (omega arith) h k t) in omega arith
+
+-- ---- `paint`: the run takes a state
+pub paint-tiles : (s : List Range) (z a e u st w : ℕ) → z ≤ a → a < e → e ≤ w → Tiles z s w → Tiles z (paint u a e st s) w
+unfolding paint
+paint-tiles s z a e u st w g h k t =
+    let c = isolate-cuts s z a e u w g h k t in let i = isolate a e u s in
+    tiles-append (i .before) (map (inState st) (i .run) ++ i .after) z a w (c .before)
+    (tiles-append (map (inState st) (i .run)) (i .after) a e w (tiles-map st (i .run) a e (c .run)) (c .after))
