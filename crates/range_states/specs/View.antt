@@ -165,12 +165,3 @@ drop-flat-tri [] (suc n) h = absurd (not-suc-le-zero h)
 drop-flat-tri (a ∷ []) (suc n) h = absurd (not-suc-le-zero (le-of-suc-le-suc h))
 drop-flat-tri (a ∷ b ∷ []) (suc n) h = absurd (not-suc-le-zero (le-of-suc-le-suc (le-of-suc-le-suc h)))
 drop-flat-tri (a ∷ b ∷ c ∷ l) (suc n) h = drop-flat-tri l n (le-of-suc-le-suc (le-of-suc-le-suc (le-of-suc-le-suc h)))
-
--- the numbers from record n on, as the records from n on and what is left over
-pub drop-flat : (l : List ℕ) (n : ℕ) → 3 * n ≤ length l → drop (3 * n) l ≡ flat (drop n (view l)) ++ spare l
-drop-flat l n h = rw (← tri-is n) (drop-flat-tri l n (omega (arith, tri-is n)))
-
--- the numbers past the m records are as they were
-pub becomes-flat : {l : List ℕ} {m : ℕ} {xs : List Range} {l′ : List ℕ} → 3 * m ≤ length l → Becomes l m xs l′ → drop (3 * m) l′ ≡ drop (3 * m) l
-becomes-flat {l} {m} {xs} {l′} h b =
-    drop-flat l′ m (omega (arith, b .long)) ∙ rw (becomes-past b m (omega arith), b .rest) (sym (drop-flat l m h))

@@ -1,20 +1,12 @@
 -- What a call answers, by what its walk over textures met.
-use mathlib.Core.Bool.{Bool, true, false}
-use mathlib.Core.Option.{Option, none, some, Option·map}
+use mathlib.Core.Option.{Option, Option·map}
 use Prim.Native.Nat.{ℕ}
 use Rattle.model.specs.declared.InvalidUse.{InvalidUse}
 use Rattle.model.specs.declared.Outcome.{Outcome}
-use Rattle.model.specs.declared.Outcome.the-variants.{Done, Refused, Conflict}
 use Rattle.model.specs.Calls.{Indexed, answer}
 use Rattle.model.specs.Log.{outcomeOf}
 use Rattle.texture_merge.specs.declared.Stopped.{Stopped}
 use Rattle.texture_merge.specs.Walks.{stoppedOf}
-
--- whether a call was turned away
-abbrev pub turnedAway : Outcome → Bool
-turnedAway Done = false
-turnedAway (Refused r) = true
-turnedAway (Conflict c) = false
 
 -- a conflict at index i
 abbrev pub indexed : ℕ → InvalidUse → Indexed InvalidUse

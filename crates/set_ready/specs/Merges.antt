@@ -1,27 +1,28 @@
 -- A texture of a set in one half, owned or about to be: ready for a use of it, and for the texture that another set holds at its index.
-use Prim.Native.Nat.{ℕ, _+_, _≤_, _<_}
+use Prim.Native.Nat.{ℕ, _+_, _<_}
 use native.Mathlib.Omega.{arith}
 use mathlib.Core.Path.{_≡_, refl, sym, ap, subst, _∙_}
-use mathlib.Core.Logic.{inl, inr}
+use mathlib.Core.Logic.{inl}
 use mathlib.Core.Bool.{Bool, true, false}
 use mathlib.Core.List.{List}
 use lib.Bits.{bitAnd, bitOr}
-use lib.ListN.{length, getD, set, length-set}
+use lib.ListN.{getD, set, length-set}
 use borrow.Author.Tests.{ne-eqb, not-false, eqb-true}
 use Rattle.model.specs.declared.UsageFlags.{UsageFlags}
 use Rattle.model.specs.declared.Extent.{Extent}
-use Rattle.model.specs.declared.Range.{Range}
 use Rattle.model.specs.declared.Selector.{Selector}
 use Rattle.model.specs.Flags.{meets}
+use Rattle.model.specs.Sets.{Numbers}
 use Rattle.model.specs.Representation.{full}
 use Rattle.model.specs.RangedStates.{Tiles}
 use Rattle.set_storage.specs.Storage.{numbersOf, flagsOf, extentOf, ownedOf, mipOf, complexAt, layersAt, mipsAt, ownedAt, texturesAt}
 use Rattle.set_storage.specs.Frames.{Measured}
 use Rattle.set_storage.specs.Slots.{ownWords, own-word, own-mips, own-layers}
+use Rattle.set_storage.specs.Texture.{TextureReady, TextureHeld, SelectorWithin}
 use Rattle.texture_merge.specs.Uses.{UseReady, HeldReady}
-use Rattle.texture_merge.specs.FromSet.{SetReady, MergeReady}
+use Rattle.texture_merge.specs.FromSet.{GivenReady, MergeReady}
 use Rattle.set_checks.specs.Passed.{TexturePassed, SelectorPassed, StatePassed}
-use Rattle.agreement.specs.Fits.{ExtentFits, SingleFits}
+use Rattle.agreement.specs.Fits.{ExtentFits}
 use Rattle.set_ready.specs.Tested.{HalfFits, not-bit, union-not-bit}
 
 -- ---- A state that passed the checks
@@ -49,73 +50,54 @@ pub record TakenUse (t : List ℕ) (sh : Extent) (all : Bool) (q : Selector) (p 
 pub word-owned : (t : List ℕ) (i : ℕ) → (getD t (ownedAt i) 0 ≡ 0 → ⊥) → ownedOf t i ≡ true
 word-owned t i own = rw (ne-eqb (getD t (ownedAt i) 0) 0 own)
 
--- ---- A use of a texture that has the extent already
+-- ---- A texture that passed the checks and has the extent already, in a set that passed the test
 module _ {h i : ℕ} {t r : List ℕ} {sh : Extent} (m : Measured (numbersOf t) h t r) (x : TexturePassed t i sh) (e : extentOf t i ≡ sh) where
-  has-mips : getD t (mipsAt i) 0 ≡ sh .mips
-  has-mips = ap (λ (y : Extent). y .mips) e
-
-  has-layers : getD t (layersAt i) 0 ≡ sh .layers
-  has-layers = ap (λ (y : Extent). y .layers) e
-
-  pub use-ready : {all : Bool} {q : Selector} {st : ℕ} → SelectorPassed sh q → (all ≡ true → q ≡ full sh) → StatePassed (flagsOf t) st → UseReady (numbersOf t) h t r i sh all q (flagsOf t) st
-  use-ready s w k = record {
+  pub texture-ready : TextureReady (numbersOf t) h t r i sh
+  texture-ready = record {
     measured = m;
-    texture = x .texture;
-    mips = has-mips;
-    layers = has-layers;
+    index = x .texture;
+    mips = ap (λ (y : Extent). y .mips) e;
+    layers = ap (λ (y : Extent). y .layers) e;
+    mip = x .mip;
     top = x .top;
-    low = x .low;
     some = x .some;
-    flags = refl;
-    order = s .order;
-    in-mips = s .in-mips;
-    span = s .span;
-    in-layers = s .in-layers;
-    whole = w;
-    plain = state-plain k;
+    low = x .low;
   }
 
-  -- the ranges that the half holds, by the extent
-  pub tiles-of : HalfFits h t r i → getD t (h + i) 0 ≡ getD t complexAt 0 → (k : ℕ) → k < sh .mips → Tiles 0 (mipOf (numbersOf t) h t r i k) (sh .layers)
-  tiles-of f c k l = subst (Tiles 0 (mipOf (numbersOf t) h t r i k)) has-layers (f .tiled c k (rw has-mips l))
+  -- and what the half holds fits
+  pub texture-held : HalfFits h t r i → TextureHeld (numbersOf t) h t r i sh
+  texture-held f = record {
+    ready = texture-ready;
+    tiled = λ c k l. subst (Tiles 0 (mipOf (numbersOf t) h t r i k)) (texture-ready .layers) (f .tiled c k (rw (texture-ready .mips) l));
+  }
 
-  pub held-ready : {st : ℕ} → HalfFits h t r i → StatePassed (flagsOf t) st → HeldReady h t r i sh st
-  held-ready f k = record { tiled = tiles-of f; plain = state-union k (getD t (h + i) 0) }
+-- ---- A use of it
+pub selector-within : {sh : Extent} {q : Selector} → SelectorPassed sh q → SelectorWithin sh q
+selector-within s = record { order = s .order; in-mips = s .in-mips; span = s .span; in-layers = s .in-layers }
 
-  -- ---- The texture that another set holds at the same index
-  module _ {from : ℕ} {g l : List ℕ} (same : flagsOf g ≡ flagsOf t) (e₂ : extentOf g i ≡ sh) (f₂ : HalfFits from g l i) where
-    complex-is : getD g complexAt 0 ≡ getD t complexAt 0
-    complex-is = ap (λ (y : UsageFlags). y .complex) same
+module _ {t : List ℕ} {sh : Extent} {all : Bool} {q : Selector} {p : UsageFlags} {new : ℕ} (u : TakenUse t sh all q p new) where
+  -- in a table with the same flags
+  pub use-ready : {d : Numbers} {h i : ℕ} {t′ r : List ℕ} → TextureReady d h t′ r i sh → flagsOf t′ ≡ flagsOf t → UseReady d h t′ r i sh all q p new
+  use-ready x e = record { texture = x; selector = selector-within (u .selector); flags = u .flags ∙ sym e; whole = u .whole; plain = state-plain (u .state) }
 
-    pub set-ready : Measured (numbersOf g) from g l → i < getD g texturesAt 0 → ExtentFits (numbersOf g) sh → SetReady h t r i sh from g l (flagsOf t)
-    set-ready m₂ n y = record {
-      measured = m;
-      texture = x .texture;
-      mips = has-mips;
-      layers = has-layers;
-      top = x .top;
-      low = x .low;
-      mip = x .mip;
-      some = x .some;
-      flags = refl;
-      given = m₂;
-      in-given = n;
-      same-flags = same;
-      same-mips = ap (λ (y : Extent). y .mips) e₂;
-      top-given = y .mips;
-      low-given = y .layers;
-      tiled = λ c k b.
-          subst (Tiles 0 (mipOf (numbersOf g) from g l i k)) (ap (λ (y : Extent). y .layers) e₂)
-          (f₂ .tiled (c ∙ sym complex-is) k (rw (ap (λ (y : Extent). y .mips) e₂) b));
-    }
+  pub held-ready : {h i : ℕ} {r : List ℕ} → TextureHeld (numbersOf t) h t r i sh → HeldReady h t r i sh new
+  held-ready {h} {i} x = record { tiled = x .tiled; plain = λ z. state-union (u .state) (getD t (h + i) 0) (z ∙ sym (ap (λ (f : UsageFlags). f .complex) (u .flags))) }
 
-    pub merge-ready : HalfFits h t r i → MergeReady h t r i sh from g (flagsOf t)
-    merge-ready f = record {
-      tiled = tiles-of f;
-      plain = λ c.
-          let s = f₂ .state (λ z. c (z ∙ complex-is)) in
-          union-not-bit (getD t (h + i) 0) (getD g (from + i) 0) (getD t complexAt 0) (s .state .nonzero) (rw complex-is at (s .state .plain));
-    }
+-- ---- The texture that another set holds at the same index
+pub given-ready : {from i : ℕ} {g l : List ℕ} {sh : Extent} {p : UsageFlags} → Measured (numbersOf g) from g l → i < getD g texturesAt 0 → extentOf g i ≡ sh → ExtentFits (numbersOf g) sh → HalfFits from g l i → flagsOf g ≡ p → GivenReady from g l i sh p
+given-ready m n e y f same = record {
+  texture = texture-held m (record { texture = n; mip = y .mip; top = y .mips; some = y .layer; low = y .layers; own = λ o. e }) e f;
+  flags = same;
+}
+
+pub merge-ready : {h i from : ℕ} {t r g l : List ℕ} {sh : Extent} {p : UsageFlags} → TextureHeld (numbersOf t) h t r i sh → p ≡ flagsOf t → flagsOf g ≡ p → HalfFits from g l i → MergeReady h t r i sh from g p
+merge-ready {h} {i} {from} {t} {r} {g} x flags same f = record {
+  tiled = x .tiled;
+  plain = λ c.
+      let e : getD g complexAt 0 ≡ getD t complexAt 0 = ap (λ (y : UsageFlags). y .complex) (same ∙ flags) in
+      let s = f .state (λ z. c (z ∙ ap (λ (y : UsageFlags). y .complex) same)) in
+      union-not-bit (getD t (h + i) 0) (getD g (from + i) 0) (getD t complexAt 0) (s .state .nonzero) (rw e at (s .state .plain));
+}
 
 -- ---- A texture that has just become owned
 module _ {h i : ℕ} {t r : List ℕ} {sh : Extent} (m : Measured (numbersOf t) h t r) (x : TexturePassed t i sh) where
@@ -152,3 +134,6 @@ module _ {h i : ℕ} {t r : List ℕ} {sh : Extent} (m : Measured (numbersOf t) 
     half = m .half;
     table = rw (length-set (set (set t (ownedAt i) 1) (mipsAt i) (sh .mips)) (layersAt i) (sh .layers), length-set (set t (ownedAt i) 1) (mipsAt i) (sh .mips), length-set t (ownedAt i) 1) (m .table);
   }
+
+  pub own-ready : TextureReady (numbersOf (ownWords t i sh)) h (ownWords t i sh) r i sh
+  own-ready = texture-ready own-measured own-passed own-extent

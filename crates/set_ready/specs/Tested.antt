@@ -1,41 +1,30 @@
 -- What the test of a set has shown of its storage, index by index.
-use Prim.Native.Nat.{ℕ, zero, suc, _+_, _*_, _/_, _≤_, _<_}
+use Prim.Native.Nat.{ℕ, zero, suc, _+_, _/_, _≤_, _<_}
 use native.Mathlib.Omega.{arith}
 use mathlib.Core.Path.{_≡_, refl, sym, ap, subst, _∙_}
-use mathlib.Core.Bool.{Bool, true, false, _&&_, not, and-eq-true-iff}
-use mathlib.Core.List.{List, [], _∷_}
+use mathlib.Core.Bool.{true, and-eq-true-iff}
+use mathlib.Core.List.{List, []}
 use lib.Bits.{bitAnd, bitOr, and-comm, and-self}
-use lib.Dec.{leb, ltb, eqb}
 use lib.ListN.{length, getD}
-use borrow.Author.Tests.{leb-true, not-true, eqb-true}
 use Rattle.model.specs.declared.UsageFlags.{UsageFlags}
 use Rattle.model.specs.declared.Extent.{Extent}
 use Rattle.model.specs.declared.Range.{Range}
-use Rattle.model.specs.Base.{if_then_else_}
 use Rattle.model.specs.Flags.{flagsFit}
-use Rattle.model.specs.Representation.{Ends}
 use Rattle.model.specs.RangedStates.{Tiles}
-use Rattle.model.specs.Sets.{Numbers, Slot, Set, Tracker, outside, numbersFit, capacity}
-use Rattle.model.specs.Texture.{Held, single, many}
-use Rattle.model.specs.WellFormed.{scopeFits, trackerFits, wellFormedScope, wellFormedTracker}
+use Rattle.model.specs.Texture.{many}
+use Rattle.model.specs.WellFormed.{wellFormedScope, wellFormedTracker}
 use Rattle.usage.specs.BitLaws.{and-or, or-zero}
-use Rattle.set_storage.specs.Storage.{numbersOf, flagsOf, extentOf, ownedOf, startHalf, endHalf, mipOf, mipsIn, mipsOf, heldOf, endsOf, slotWith, setWith, scopeOf, trackerOf, listFrom, complexAt, layerLimitAt, layersAt, mipLimitAt, mipsAt, tableLength, texturesAt}
-use Rattle.set_storage.specs.Frames.{Measured, mip-at, mips-long}
+use Rattle.set_storage.specs.Storage.{numbersOf, flagsOf, extentOf, startHalf, endHalf, mipOf, mipsIn, mipsOf, heldOf, endsOf, slotWith, setWith, scopeOf, trackerOf, listFrom, complexAt, layersAt, mipLimitAt, mipsAt, tableLength, texturesAt}
+use Rattle.set_storage.specs.Frames.{Measured, mip-at, mips-long, measured-of}
 use Rattle.set_storage.specs.Slots.{held-many, held-single}
-use Rattle.agreement.specs.ScopeLaws.{inside}
-use Rattle.agreement.specs.WellFormedSets.{All}
-use Rattle.agreement.specs.Fits.{StateFits, SingleFits, MipFits, HeldFits, EndsFit, ExtentFits, SlotFits, SetFits}
+use Rattle.agreement.specs.Fits.{SingleFits, MipFits, HeldFits, EndsFit, SlotFits, SetFits}
 use Rattle.agreement.specs.Decides.{scope-to, tracker-to}
+use Rattle.model.specs.ListLaws.{All, all-at}
 
 -- ---- What an owned texture holds in the half h: ranges that tile its layers where its word tells COMPLEX, otherwise a state that fits
 pub record HalfFits (h : ℕ) (t r : List ℕ) (i : ℕ) : Type 0 where
   pub tiled : getD t (h + i) 0 ≡ getD t complexAt 0 → (k : ℕ) → k < getD t (mipsAt i) 0 → Tiles 0 (mipOf (numbersOf t) h t r i k) (getD t (layersAt i) 0)
   pub state : (getD t (h + i) 0 ≡ getD t complexAt 0 → ⊥) → SingleFits (flagsOf t) (getD t (h + i) 0)
-
-all-at : {A : Type 0} (P : A → Type 0) (s : List A) (k : ℕ) (z : A) → All P s → k < length s → P (getD s k z)
-all-at P [] k z a h = absurd (omega arith)
-all-at P (x ∷ s) zero z a h = a .0
-all-at P (x ∷ s) (suc k) z a h = all-at P s k z (a .1) (omega arith)
 
 pub half-fits : (h : ℕ) (t r : List ℕ) (i : ℕ) → getD t (mipsAt i) 0 ≤ getD t mipLimitAt 0 → HeldFits (flagsOf t) (extentOf t i) (heldOf (numbersOf t) h t r i) → HalfFits h t r i
 half-fits h t r i top f = record {
@@ -60,13 +49,6 @@ union-not-bit x s c n e z =
     n (or-zero (bitAnd x s) s a .1)
 
 -- ---- A set that passed the test
-measured-of : (h : ℕ) (t r : List ℕ) → (startHalf ≤ h) × (h ≤ endHalf) → length t ≡ tableLength → numbersFit (numbersOf t) ≡ true → leb (capacity (numbersOf t)) (length r / 3) ≡ true → Measured (numbersOf t) h t r
-measured-of h t r half size e room =
-    let a = and-eq-true-iff _ _ .0 e in let b = and-eq-true-iff _ _ .0 (a .0) in
-    let n = inside (getD t texturesAt 0) 64 (not-true _ (b .0)) in let m = inside (getD t mipLimitAt 0) 16 (not-true _ (b .1)) in let w = inside (getD t layerLimitAt 0) 256 (not-true _ (a .1)) in
-    let c = leb-true (capacity (numbersOf t)) (length r / 3) room in
-    record { dims = refl; textures = n .1; mips = m .1; some = w .0; layers = w .1; fits = omega arith; half = half; table = size }
-
 -- each slot of a list that was made position by position
 list-all : {A : Type 0} (P : A → Type 0) (f : ℕ → A) (k n j : ℕ) → All P (listFrom f k n) → j < n → P (f (k + j))
 unfolding listFrom

@@ -1,12 +1,15 @@
-// Ready: what the test of a set and the checks of a call have shown, in the form that the functions on one texture ask for.
+// Set ready: what the test of a set and the checks of a call have shown, in the form that the functions on one texture require.
 //
-// Place in the picture: between the test (`set_wellformed`), the checks (`set_checks`) and the functions on one texture (`texture_merge`, `texture_update`,
-// `texture_barrier`) below, and the public calls above, which test and check first. Laws, and one function that every use of a texture asks.
+// Place in the picture: between the test (`set_wellformed`), the checks (`set_checks`) and the functions on one texture (`texture_merge`,
+// `texture_update`, `texture_barrier`) below, and the public calls above, which test and check first. Laws, and one function, by which every
+// use of a texture is told to be of all of it.
 //
-//     Tested    a set that passed the test, index by index
-//     Merges    an owned or new texture in one half, for a use of it and for another set's texture
-//     Updates   an owned texture of a tracker, for a use of it and for its transitions
-//     Answers   what a call answers, and whether it was turned away
+//     Tested      a set that passed the test, index by index
+//     Merges      a texture that passed the checks: `TextureReady` and `TextureHeld`, made once, for a use and for another set's texture
+//     Updates     an owned texture of a tracker, for a use of it
+//     Selectors   a selector that names all of a texture
+//     Answers     what a call answers, and whether it was turned away
+//     Named       what the frame of a call says of the numbers that no texture uses, and of a texture that it does not name
 use model::Extent;
 use model::Selector;
 ghost use mathlib.Core.Path.{_≡_};

@@ -1,19 +1,22 @@
 -- What a change of one texture leaves as it was, and how changes of its mips follow one another.
-use Prim.Native.Nat.{ℕ, suc, _+_, _*_, _≤_, _<_}
+use Prim.Native.Nat.{ℕ, suc, _+_, _*_, _/_, _≤_, _<_}
 use native.Mathlib.Omega.{arith}
 use native.Mathlib.Nat.{min-le-right}
-use mathlib.Core.Path.{_≡_, refl, ap, sym, _∙_}
+use mathlib.Core.Path.{_≡_, refl, ap, _∙_}
 use mathlib.Core.Logic.{_⊎_, inl, inr}
-use mathlib.Core.List.{List, [], _++_}
+use mathlib.Core.List.{List, _++_}
 use lib.Dec.{leb}
-use borrow.Author.Tests.{le-leb}
-use lib.ListN.{length, getD, set, length-set, take, drop}
+use borrow.Author.Tests.{le-leb, leb-true, not-true}
+use lib.ListN.{length, getD, set, take, drop}
 use lib.Seq.{getD-set-same, getD-set-other}
+use mathlib.Core.Bool.{true}
 use Rattle.model.specs.declared.Range.{Range}
-use Rattle.model.specs.Sets.{Numbers}
-use Rattle.range_states.specs.View.{decode, Becomes}
-use Rattle.set_storage.specs.Part.{baseOf, partOf, putPart, put-length, put-part, put-before, put-after, put-apart, part-length, mips-apart, by-eq, places-fit, Within}
-use Rattle.set_storage.specs.Storage.{numbersOf, tableIndices, stateAt, rangesAt, mipsIn, countAt, mipPart, mipOf, mipsOf, listFrom, endHalf, mipsAt, tableLength, startHalf}
+use Rattle.model.specs.Sets.{Numbers, numbersFit, capacity}
+use Rattle.model.specs.BoolLaws.{and-both}
+use Rattle.model.specs.CheckLaws.{inside}
+use Rattle.range_states.specs.View.{decode}
+use Rattle.set_storage.specs.Part.{baseOf, partOf, putPart, put-length, put-part, put-before, put-after, put-apart, part-length, mips-apart, places-fit, Within}
+use Rattle.set_storage.specs.Storage.{numbersOf, tableIndices, stateAt, rangesAt, mipsIn, countAt, mipPart, mipOf, mipsOf, endHalf, mipsAt, tableLength, startHalf, texturesAt, mipLimitAt, layerLimitAt}
 use Rattle.set_storage.specs.Stays.{Frame, HalfFrame, stays-refl, stays-at, stays-of, stays-set, keeps-more, mip-first, mip-last}
 use Rattle.set_storage.specs.Lists.{list-set, list-long, list-at}
 
@@ -27,6 +30,15 @@ pub record Measured (d : Numbers) (h : ℕ) (t r : List ℕ) : Type 0 where
   pub fits : d .textures * d .mips * d .layers * 3 ≤ length r
   pub half : (startHalf ≤ h) × (h ≤ endHalf)
   pub table : length t ≡ tableLength
+
+-- what the test of its numbers and of its room tells
+pub measured-of : (h : ℕ) (t r : List ℕ) → (startHalf ≤ h) × (h ≤ endHalf) → length t ≡ tableLength → numbersFit (numbersOf t) ≡ true
+    → leb (capacity (numbersOf t)) (length r / 3) ≡ true → Measured (numbersOf t) h t r
+measured-of h t r half size e room =
+    let a = and-both _ _ e in let b = and-both _ _ (a .0) in
+    let n = inside (getD t texturesAt 0) 64 (not-true _ (b .0)) in let m = inside (getD t mipLimitAt 0) 16 (not-true _ (b .1)) in let w = inside (getD t layerLimitAt 0) 256 (not-true _ (a .1)) in
+    let c = leb-true (capacity (numbersOf t)) (length r / 3) room in
+    record { dims = refl; textures = n .1; mips = m .1; some = w .0; layers = w .1; fits = omega arith; half = half; table = size }
 
 -- ---- Only the counts and the ranges of texture i in the half h may differ: the words below its counts, and past them
 module _ {d : Numbers} {h i : ℕ} {t r t′ r′ : List ℕ} (f : Frame d h i t r t′ r′) where

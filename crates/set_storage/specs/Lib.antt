@@ -1,7 +1,9 @@
 pub mod Part
 pub mod Storage
+pub mod Lent
 pub mod Lists
 pub mod Stays
 pub mod Frames
 pub mod Slots
+pub mod Texture
 pub mod Locate

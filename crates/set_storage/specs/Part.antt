@@ -1,16 +1,14 @@
 -- A part of a list at a computed place.
-use Prim.Native.Nat.{ℕ, zero, suc, _+_, _*_, _-_, _≤_, _<_, min}
-use mathlib.Core.Path.{_≡_, refl, ap, sym, _∙_}
+use Prim.Native.Nat.{ℕ, suc, _+_, _*_, _-_, _≤_, _<_, min}
+use mathlib.Core.Path.{_≡_, ap, sym, _∙_}
 use mathlib.Core.List.{List, _++_}
-use native.Mathlib.Nat.{suc-mul, mul-le-mul-right, le-mul-of-pos-right, le-trans, min-le-left}
+use native.Mathlib.Nat.{suc-mul, mul-le-mul-right, le-mul-of-pos-right, min-le-left}
 use native.Mathlib.Omega.{arith}
-use mathlib.Core.Bool.{Bool, true, false}
 use mathlib.Core.Logic.{_⊎_, inl, inr}
-use lib.Dec.{ltb, eqb}
-use borrow.Author.Tests.{ltb-true, ltb-false, eqb-true, eqb-false}
 use lib.Arith.{digits-lt}
-use lib.ListN.{length, getD, take, drop, set, length-take, length-drop, length-append, List·getD-append}
+use lib.ListN.{length, getD, take, drop, length-take, length-drop, length-append, List·getD-append}
 use lib.Seq.{length-take-le, getD-take, getD-drop, getD-append-add, take-at, drop-at, ext-getD}
+use Rattle.model.specs.BoolLaws.{by-lt}
 
 -- the start of the ranges of (i, m), with M mips a texture and W records a mip
 unfoldable pub baseOf : ℕ → ℕ → ℕ → ℕ → ℕ
@@ -53,13 +51,6 @@ module _ (l : List ℕ) (b k : ℕ) (p : List ℕ) (room : b + k ≤ length l) (
   put-before j d h =
       let e : length (take b l) ≡ b = length-take-le b l (omega arith) in
       List·getD-append (take b l) (p ++ drop k (drop b l)) d j (omega arith) ∙ getD-take b l j d h
-
-  pub put-in : (j d : ℕ) → j < k → getD (putPart l b k p) (b + j) d ≡ getD p j d
-  unfolding putPart
-  put-in j d h =
-      let e : length (take b l) ≡ b = length-take-le b l (omega arith) in
-      ap (λ (n : ℕ). getD (take b l ++ (p ++ drop k (drop b l))) (n + j) d) (sym e)
-      ∙ getD-append-add (take b l) (p ++ drop k (drop b l)) j d ∙ List·getD-append p (drop k (drop b l)) d j (omega arith)
 
   pub put-after : (j d : ℕ) → b + k ≤ j → getD (putPart l b k p) j d ≡ getD l j d
   unfolding putPart
@@ -115,33 +106,12 @@ put-apart l b k p room size c h (inr q) =
     (λ j t. put-after l b k p room size (c + j) 0 (omega arith))
 
 -- ---- the ranges of two mips
-pub by-lt : {P : Type 0} (a b : ℕ) → (a < b → P) → (b ≤ a → P) → P
-by-lt {P} a b f g = go (ltb a b) refl
-  where
-    go : (t : Bool) → ltb a b ≡ t → P
-    go true q = f (ltb-true a b q)
-    go false q = g (ltb-false a b q)
-
-pub by-eq : {P : Type 0} (a b : ℕ) → (a ≡ b → P) → ((a ≡ b → ⊥) → P) → P
-by-eq {P} a b f g = go (eqb a b) refl
-  where
-    go : (t : Bool) → eqb a b ≡ t → P
-    go true q = f (eqb-true a b q)
-    go false q = g (eqb-false a b q)
 
 pub row-lt : (i j m M : ℕ) → i < j → m < M → i * M + m < j * M
 row-lt i j m M h k = digits-lt h k
 
 pub lt-ne : (i j : ℕ) → i ≤ j → (j ≡ i → ⊥) → i < j
 lt-ne i j h ne = by-lt i j (λ q. q) (λ q. absurd (ne (omega arith)))
-
--- the ranges of two textures do not meet
-pub textures-apart : (i j m k M W : ℕ) → m < M → k < M → (j ≡ i → ⊥) → (baseOf j k M W + 3 * W ≤ baseOf i m M W) ⊎ (baseOf i m M W + 3 * W ≤ baseOf j k M W)
-unfolding baseOf
-textures-apart i j m k M W hm hk ne =
-    by-lt j i
-    (λ (h : j < i). inl (blocks-apart (j * M + k) (i * M + m) W (omega (arith, row-lt j i k M h hk))))
-    (λ (h : i ≤ j). inr (blocks-apart (i * M + m) (j * M + k) W (omega (arith, row-lt i j m M (lt-ne i j h ne) hm))))
 
 -- two mips of one texture do not meet
 pub mips-apart : (i m k M W : ℕ) → (k ≡ m → ⊥) → (baseOf i k M W + 3 * W ≤ baseOf i m M W) ⊎ (baseOf i m M W + 3 * W ≤ baseOf i k M W)

@@ -4,17 +4,16 @@ use native.Mathlib.Omega.{arith}
 use mathlib.Core.Path.{_≡_, refl, sym, _∙_}
 use mathlib.Core.Bool.{Bool, true, false}
 use mathlib.Core.List.{List, [], _∷_, _++_}
-use lib.Dec.{leb}
 use lib.ListN.{getD, drop, replicate}
 use lib.Seq.{slice-empty}
 use borrow.Author.Tests.{le-leb, lt-leb}
 use Rattle.model.specs.declared.Range.{Range}
 use Rattle.model.specs.RangedStates.{layerStates, Tiles}
 use Rattle.model.specs.WellFormed.{all₂}
+use Rattle.model.specs.RangeLaws.{tiles-count}
+use Rattle.model.specs.BoolLaws.{by-lt}
 use Rattle.range_states.specs.View.{view, decode, blank}
-use Rattle.range_isolate.specs.Tiling.{tiles-count}
 use Rattle.range_states.proofs.Inserting.{next-is}
-use Rattle.set_storage.specs.Part.{by-lt}
 use Rattle.set_wellformed.specs.Unknowns.{agrees, layersAgree, passed, SameLayers}
 
 -- ---- Two runs of one state each, side by side

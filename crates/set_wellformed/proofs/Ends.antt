@@ -13,12 +13,13 @@ use Rattle.model.specs.Base.{every}
 use Rattle.model.specs.RangedStates.{layerStates}
 use Rattle.model.specs.Subresources.{subresources}
 use Rattle.model.specs.WellFormed.{rangesFit, heldFits, all₂}
+use Rattle.model.specs.BoolLaws.{by-lt, and-both as both}
 use Rattle.range_states.specs.View.{decode}
-use Rattle.set_storage.specs.Part.{baseOf, by-lt}
+use Rattle.set_storage.specs.Part.{baseOf}
 use Rattle.set_storage.specs.Storage.{numbersOf, extentOf, startHalf, endHalf, countAt, mipOf, mipsOf, heldOf, complexAt, layerLimitAt, layersAt, mipLimitAt, mipsAt, stateAt}
 use Rattle.set_storage.specs.Frames.{mips-long, room-of}
 use Rattle.set_storage.specs.Slots.{held-many, held-single}
-use Rattle.set_wellformed.specs.Tests.{TextureReady, both, every-at}
+use Rattle.set_wellformed.specs.Tests.{TextureStored, every-at}
 use Rattle.set_wellformed.specs.Unknowns.{agrees, isKnown, SameLayers, MipFits, MipsFit, EndsReady, HalvesFit, mipsAgree, endsAgree}
 use Rattle.set_wellformed.proofs.Mips.{mip-seen, mip-past, mip-ready, mips-told}
 use Rattle.set_wellformed.proofs.Known.{single-known, fits-tiles, mips-known, all-same, all-sym, agrees-sym, mips-beside}
@@ -61,7 +62,7 @@ mip-of {p} {h} {t} {r} {i} {mips} m q l = record {
   fits = every-at (rangesFit p (getD t (layersAt i) 0) 0) (mipOf (numbersOf t) h t r i) mips m (rw (mips-told mips (q .ready) (q .told) (q .top)) at (q .fits)) l;
 }
 
-mips-of : {p : UsageFlags} {h : ℕ} {t r : List ℕ} {i : ℕ} → TextureReady (numbersOf t) h t r i → getD t (mipsAt i) 0 ≤ getD t mipLimitAt 0 → 0 < getD t (layersAt i) 0 → getD t (h + i) 0 ≡ getD t complexAt 0 → heldFits p (extentOf t i) (heldOf (numbersOf t) h t r i) ≡ true → MipsFit p h t r i (getD t (mipsAt i) 0)
+mips-of : {p : UsageFlags} {h : ℕ} {t r : List ℕ} {i : ℕ} → TextureStored (numbersOf t) h t r i → getD t (mipsAt i) 0 ≤ getD t mipLimitAt 0 → 0 < getD t (layersAt i) 0 → getD t (h + i) 0 ≡ getD t complexAt 0 → heldFits p (extentOf t i) (heldOf (numbersOf t) h t r i) ≡ true → MipsFit p h t r i (getD t (mipsAt i) 0)
 mips-of {p} {h} {t} {r} {i} q top some e f =
     let g = rw (held-many (numbersOf t) h t r i (mipsOf (numbersOf t) h t r i) e refl) at f in
     record {

@@ -15,10 +15,11 @@ use Rattle.model.specs.Base.{every}
 use Rattle.model.specs.Flags.{meets, incompatible}
 use Rattle.model.specs.RangedStates.{layerStates, Tiles}
 use Rattle.model.specs.WellFormed.{stateFits, singleFits, rangesFit, sameTest, all₂}
+use Rattle.model.specs.BoolLaws.{and-both as both}
+use Rattle.model.specs.RangeLaws.{tiles-le as tiles-below}
 use Rattle.range_states.specs.View.{view, decode, blank}
 use Rattle.range_states.proofs.Inserting.{next-is}
 use Rattle.set_storage.specs.Storage.{listFrom}
-use Rattle.set_wellformed.specs.Tests.{both}
 use Rattle.set_wellformed.specs.Unknowns.{agrees, layersAgree, isKnown, itself}
 use Rattle.set_wellformed.proofs.Agreeing.{skip-left, stop-here}
 
@@ -63,10 +64,6 @@ fits-tiles p e a (r ∷ s) f =
     let y = both (eqb (r .start) a && ltb a (r .end)) (stateFits p (r .state)) (x .0) in
     let z = both (eqb (r .start) a) (ltb a (r .end)) (y .0) in
     (eqb-true (r .start) a (z .0), ltb-true a (r .end) (z .1), fits-tiles p e (r .end) s (x .1))
-
-tiles-below : (s : List Range) (a e : ℕ) → Tiles a s e → a ≤ e
-tiles-below [] a e t = omega arith
-tiles-below (r ∷ s) a e t = let h = tiles-below s (r .end) e (t .2) in omega (arith, t .1)
 
 -- ---- A state that is not UNKNOWN beside a list of ranges
 module _ (u a : ℕ) (known : eqb a u ≡ false) where

@@ -14,7 +14,7 @@ use Rattle.range_states.specs.View.{decode}
 use Rattle.set_storage.specs.Part.{baseOf, partOf}
 use Rattle.set_storage.specs.Storage.{countAt, mipOf, mipsIn, mipsAt}
 use Rattle.set_storage.specs.Frames.{MipReady, mips-top, mip-is}
-use Rattle.set_wellformed.specs.Tests.{TextureReady}
+use Rattle.set_wellformed.specs.Tests.{TextureStored}
 
 -- the part that the code cuts out, at b, with room for w ranges
 pub mip-seen : (d : Numbers) (h : ℕ) (t r : List ℕ) (i k n b w : ℕ) → n ≡ getD t (countAt h i k) 0 → w ≡ d .layers → n ≤ w → b ≡ baseOf i k (d .mips) (d .layers) → mipOf d h t r i k ≡ decode n (take (b + w * 3 - b) (drop b r))
@@ -33,9 +33,9 @@ pub mips-are : (d : Numbers) (t : List ℕ) (i : ℕ) → getD t (mipsAt i) 0 �
 unfolding mipsIn
 mips-are d t i h = min-eq-left h
 
-pub mips-told : {d : Numbers} {h : ℕ} {t r : List ℕ} {i : ℕ} (mips : ℕ) → TextureReady d h t r i → mips ≡ getD t (mipsAt i) 0 → mips ≤ d .mips → mipsIn d t i ≡ mips
+pub mips-told : {d : Numbers} {h : ℕ} {t r : List ℕ} {i : ℕ} (mips : ℕ) → TextureStored d h t r i → mips ≡ getD t (mipsAt i) 0 → mips ≤ d .mips → mipsIn d t i ≡ mips
 mips-told {d} {h} {t} {r} {i} mips q e top = mips-are d t i (rw e at top) ∙ sym e
 
-pub mip-ready : {d : Numbers} {h : ℕ} {t r : List ℕ} {i : ℕ} (m mips : ℕ) → TextureReady d h t r i → mips ≡ getD t (mipsAt i) 0 → mips ≤ d .mips → m < mips → MipReady d h t r i m
+pub mip-ready : {d : Numbers} {h : ℕ} {t r : List ℕ} {i : ℕ} (m mips : ℕ) → TextureStored d h t r i → mips ≡ getD t (mipsAt i) 0 → mips ≤ d .mips → m < mips → MipReady d h t r i m
 mip-ready {d} {h} {t} {r} {i} m mips q e top l =
     record { measured = q .measured; texture = q .texture; mip = omega (arith, mips-told mips q e top); top = mips-top d t i }

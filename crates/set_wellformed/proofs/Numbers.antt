@@ -3,37 +3,21 @@ use Prim.Native.Nat.{ℕ, zero, suc, _*_, _/_, _≤_, _<_}
 use native.Mathlib.Omega.{arith}
 use native.Mathlib.Nat.{mul-le-mul-right}
 use mathlib.Core.Path.{_≡_, refl, sym}
-use mathlib.Core.Bool.{Bool, true, false, _&&_, _||_, not, false≢true}
+use mathlib.Core.Bool.{Bool, true, false, _&&_, not, false≢true}
 use mathlib.Core.List.{List}
 use lib.Dec.{leb, ltb, eqb}
-use lib.ListN.{length, getD}
-use borrow.Author.Tests.{leb-true, ltb-false, eqb-false, lt-leb, le-leb, lt-ltb, le-ltb}
+use lib.ListN.{length}
+use borrow.Author.Tests.{ltb-false, eqb-false}
+use Rattle.model.specs.BoolLaws.{and-both as both, nor as neither}
 use Rattle.model.specs.Flags.{flagsFit}
 use Rattle.model.specs.Sets.{outside, numbersFit, capacity}
-use Rattle.set_storage.specs.Part.{by-lt}
-use Rattle.set_storage.specs.Storage.{numbersOf, flagsOf, endHalf, layerLimitAt, mipLimitAt, tableLength, texturesAt, startHalf}
-use Rattle.set_storage.specs.Frames.{Measured}
-use Rattle.set_wellformed.specs.Tests.{numbers, extentFits, headFits, both}
-
-neither : (a b : Bool) → not (a || b) ≡ true → (a ≡ false) × (b ≡ false)
-neither true b e = absurd (false≢true e)
-neither false true e = absurd (false≢true e)
-neither false false e = (refl, refl)
-
-pub neither-no : (a b : Bool) → not a ≡ false → false ≡ not (a || b)
-neither-no true b e = refl
-neither-no false b e = absurd (false≢true (sym e))
-
-pub neither-yes : (a b : Bool) → not a ≡ true → not b ≡ not (a || b)
-neither-yes true b e = absurd (false≢true e)
-neither-yes false b e = refl
+use Rattle.set_storage.specs.Storage.{numbersOf, flagsOf, tableLength, startHalf}
+use Rattle.set_storage.specs.Frames.{Measured, measured-of as measured}
+use Rattle.set_wellformed.specs.Tests.{numbers, extentFits, headFits}
 
 not-no : (a : Bool) → a ≡ false → not a ≡ true
 not-no true e = absurd (false≢true (sym e))
 not-no false e = refl
-
-pub leb-not : (a b : ℕ) → leb a b ≡ not (ltb b a)
-leb-not a b = by-lt b a (λ h. rw (lt-leb a b h, lt-ltb b a h)) (λ h. rw (le-leb a b h, le-ltb b a h))
 
 pub record Inside (x top : ℕ) : Type 0 where
   pub low : 0 < x
@@ -80,12 +64,6 @@ pub head-numbers : (t : List ℕ) (room : ℕ) → headFits t room ≡ true → 
 unfolding headFits
 head-numbers t room e =
     both (numbersFit (numbersOf t)) (flagsFit (flagsOf t)) (both (numbersFit (numbersOf t) && flagsFit (flagsOf t)) (leb (capacity (numbersOf t)) (room / 3)) e .0) .0
-
-pub measured : (h : ℕ) (t r : List ℕ) → (startHalf ≤ h) × (h ≤ endHalf) → length t ≡ tableLength → numbersFit (numbersOf t) ≡ true → leb (capacity (numbersOf t)) (length r / 3) ≡ true → Measured (numbersOf t) h t r
-measured h t r half size e room =
-    let n = numbers-in (getD t texturesAt 0) (getD t mipLimitAt 0) (getD t layerLimitAt 0) e in
-    let c = leb-true (capacity (numbersOf t)) (length r / 3) room in
-    record { dims = refl; textures = n .textures .high; mips = n .mips .high; some = n .layers .low; layers = n .layers .high; fits = omega arith; half = half; table = size }
 
 pub head-measured : (t r : List ℕ) → length t ≡ tableLength → headFits t (length r) ≡ true → Measured (numbersOf t) 200 t r
 unfolding headFits

@@ -7,13 +7,14 @@ use mathlib.Core.List.{List}
 use lib.Dec.{eqb}
 use lib.ListN.{getD}
 use borrow.Author.Tests.{eqb-true, eqb-false, not-true, not-false}
+use Rattle.model.specs.BoolLaws.{and-both as both, neither}
 use Rattle.model.specs.Base.{every}
 use Rattle.model.specs.WellFormed.{singleFits, rangesFit, heldFits, slotFits, endsFit}
 use Rattle.set_storage.specs.Storage.{numbersOf, flagsOf, extentOf, startHalf, endHalf, mipsOf, heldOf, endsOf, listFrom, complexAt, layerLimitAt, layersAt, mipLimitAt, mipsAt, ownedAt, texturesAt, unknownAt}
 use Rattle.set_storage.specs.Frames.{Measured}
-use Rattle.set_wellformed.specs.Tests.{TextureReady, extentFits, both, every-next, every-at, every-also, scopeSlot, scopeSlotFits, scopeSlotsFit}
+use Rattle.set_wellformed.specs.Tests.{TextureStored, extentFits, every-none, every-next, every-at, every-also, scopeSlot, scopeSlotFits, scopeSlotsFit}
 use Rattle.set_wellformed.specs.Unknowns.{itself, EndsReady, HalvesFit, endsAgree, trackerSlot, trackerSlotFits, trackerSlotsFit}
-use Rattle.set_wellformed.specs.Words.{scopeWordPlain, scopeWordFits, trackerWordPlain, trackerWordFits}
+use Rattle.set_wellformed.specs.Words.{WordsAre, scopeWordPlain, scopeWordFits, trackerWordPlain, trackerWordFits}
 use Rattle.set_wellformed.proofs.Numbers.{Inside, extent-in}
 use Rattle.set_wellformed.proofs.Holding.{fits-many, fits-single}
 use Rattle.set_wellformed.proofs.Ends.{ends-single}
@@ -22,13 +23,13 @@ by-case : (P : Type 0) (b : Bool) → (b ≡ true → P) → (b ≡ false → P)
 by-case P true y n = y refl
 by-case P false y n = n refl
 
-neither : (a b : Bool) → (a || b) ≡ false → (a ≡ false) × (b ≡ false)
-neither true b x = absurd (false≢true (sym x))
-neither false b x = (refl, x)
+-- ---- the pass over the words: one index more is one test more of each kind
+module _ (fits single : ℕ → Bool) where
+  pub words-none : WordsAre fits single 0 (record { fit = true; plain = true })
+  words-none = record { fit = sym (every-none fits itself); plain = sym (every-none single itself) }
 
--- one index more is one test more
-pub one-more : (g : ℕ → Bool) (n : ℕ) (a b : Bool) → a ≡ every g (listFrom itself 0 n) → b ≡ g n → (a && b) ≡ every g (listFrom itself 0 (n + 1))
-one-more g n a b e f = rw (every-next g itself n, e, f)
+  pub words-more : (n : ℕ) {a b x y : Bool} → WordsAre fits single n (record { fit = a; plain = b }) → x ≡ fits n → y ≡ single n → WordsAre fits single (n + 1) (record { fit = a && x; plain = b && y })
+  words-more n w e f = record { fit = rw (every-next fits itself n, w .fit, e); plain = rw (every-next single itself n, w .plain, f) }
 
 -- ---- the words
 module _ (t : List ℕ) where
@@ -117,7 +118,7 @@ module _ (t s e : List ℕ) (i : ℕ) where
     tracker-extents : absent t i ≡ false → Extents t i
     tracker-extents o = extents t i (both (extent t i) (either || (single t startHalf i && single t endHalf i)) (fit-both o) .0)
 
-    pub tracker-plain : TextureReady (numbersOf t) startHalf t s i → TextureReady (numbersOf t) endHalf t e i → trackerWordPlain t i ≡ true → trackerSlotFits t s e i ≡ true
+    pub tracker-plain : TextureStored (numbersOf t) startHalf t s i → TextureStored (numbersOf t) endHalf t e i → trackerWordPlain t i ≡ true → trackerSlotFits t s e i ≡ true
     tracker-plain q r p =
         by-case (trackerSlotFits t s e i ≡ true) (absent t i) (λ o. rw o)
         (λ o. let m = both (not (isMany t startHalf i)) (not (isMany t endHalf i)) (rw o at p) in

@@ -1,3 +1,4 @@
 pub mod Tests
 pub mod Unknowns
 pub mod Words
+pub mod Whole

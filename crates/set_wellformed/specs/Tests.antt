@@ -1,12 +1,14 @@
 -- Tests of every position of a list, as loops make them, and what the code needs of storage to make them.
-use Prim.Native.Nat.{ℕ, zero, suc, _+_, _/_, _<_}
+use Prim.Native.Nat.{ℕ, zero, suc, _+_, _/_, _≤_, _<_}
 use native.Mathlib.Omega.{arith}
 use native.Mathlib.Decide.{le-ind}
 use native.Mathlib.Numerals.{add-one}
-use mathlib.Core.Path.{_≡_, refl}
-use mathlib.Core.Bool.{Bool, true, false, _&&_, _||_, not, false≢true}
+use mathlib.Core.Path.{_≡_, refl, sym, _∙_}
+use mathlib.Core.Bool.{Bool, true, false, _&&_, _||_, not}
 use mathlib.Core.List.{List}
 use lib.Dec.{leb}
+use borrow.Author.Tests.{not-true, not-false}
+use Rattle.model.specs.BoolLaws.{and-both as both}
 use Rattle.model.specs.Base.{every}
 use Rattle.model.specs.Flags.{flagsFit}
 use Rattle.model.specs.Sets.{Numbers, Slot, outside, numbersFit, capacity}
@@ -15,7 +17,7 @@ use Rattle.model.specs.WellFormed.{heldFits, slotFits}
 use Rattle.set_storage.specs.Storage.{numbersOf, flagsOf, startHalf, heldOf, slotWith, listFrom}
 use Rattle.set_storage.specs.Frames.{Measured}
 
-pub record TextureReady (d : Numbers) (h : ℕ) (t r : List ℕ) (i : ℕ) : Type 0 where
+pub record TextureStored (d : Numbers) (h : ℕ) (t r : List ℕ) (i : ℕ) : Type 0 where
   pub measured : Measured d h t r
   pub texture : i < d .textures
 
@@ -41,10 +43,6 @@ scopeSlotFits t r i = slotFits heldFits (numbersOf t) (flagsOf t) (scopeSlot t r
 abbrev pub scopeSlotsFit : List ℕ → List ℕ → ℕ → Bool
 scopeSlotsFit t r n = every (slotFits heldFits (numbersOf t) (flagsOf t)) (listFrom (scopeSlot t r) 0 n)
 
-pub both : (a b : Bool) → (a && b) ≡ true → (a ≡ true) × (b ≡ true)
-both true b e = (refl, e)
-both false b e = absurd (false≢true e)
-
 -- ---- every position below n
 module _ {A : Type 0} (g : A → Bool) (f : ℕ → A) where
   -- the last position is tested last
@@ -68,10 +66,10 @@ module _ {A : Type 0} (g : A → Bool) (f : ℕ → A) where
   pub every-next : (n : ℕ) → every g (listFrom f 0 (n + 1)) ≡ every g (listFrom f 0 n) && g (f n)
   every-next n = let e : 0 + n ≡ n = omega arith in rw (add-one, every-last 0 n, e)
 
-  pub every-more : (n : ℕ) → every g (listFrom f 0 n) ≡ true → g (f n) ≡ true → every g (listFrom f 0 (n + 1)) ≡ true
+  every-more : (n : ℕ) → every g (listFrom f 0 n) ≡ true → g (f n) ≡ true → every g (listFrom f 0 (n + 1)) ≡ true
   every-more n a b = rw (every-next n, a, b)
 
-  pub every-stop : (k n : ℕ) → every g (listFrom f 0 k) ≡ true → g (f k) ≡ false → k < n → every g (listFrom f 0 n) ≡ false
+  every-stop : (k n : ℕ) → every g (listFrom f 0 k) ≡ true → g (f k) ≡ false → k < n → every g (listFrom f 0 n) ≡ false
   every-stop k n a b h =
       let e : 0 + k ≡ k = omega arith in
       le-ind (λ (m : ℕ). every g (listFrom f 0 m) ≡ false) (rw (every-last 0 k, e, a, b)) (λ m _ q. rw (every-last 0 m, q)) n h
@@ -86,6 +84,25 @@ module _ {A : Type 0} (g : A → Bool) (f : ℕ → A) where
 
   pub every-at : (n k : ℕ) → every g (listFrom f 0 n) ≡ true → k < n → g (f k) ≡ true
   every-at n k a h = let e : 0 + k ≡ k = omega arith in rw e at (every-from 0 n k a h)
+
+-- ---- A loop over the positions below n, up to the first that fails: k have passed
+pub record Testing {A : Type 0} (g : A → Bool) (f : ℕ → A) (n k : ℕ) : Type 0 where
+  pub high : k ≤ n
+  pub passed : every g (listFrom f 0 k) ≡ true
+
+pub testing-start : {A : Type 0} (g : A → Bool) (f : ℕ → A) (n : ℕ) → Testing g f n 0
+testing-start g f n = record { high = omega arith; passed = every-none g f }
+
+module _ {A : Type 0} {g : A → Bool} {f : ℕ → A} {n k : ℕ} (w : Testing g f n k) where
+  module _ {b : Bool} (h : k < n) (e : b ≡ g (f k)) where
+    pub testing-stop : not b ≡ true → false ≡ every g (listFrom f 0 n)
+    testing-stop x = sym (every-stop g f k n (w .passed) (sym e ∙ not-true b x) h)
+
+    pub testing-turn : not b ≡ false → Testing g f n (k + 1)
+    testing-turn x = record { high = omega arith; passed = every-more g f k (w .passed) (sym e ∙ not-false b x) }
+
+  pub testing-end : n ≤ k → true ≡ every g (listFrom f 0 n)
+  testing-end h = let z : k ≡ n = omega (arith, w .high) in rw (← z) (sym (w .passed))
 
 -- where each position that passes one test passes another, and all pass the first, all pass the other
 pub every-also : {A B : Type 0} (g : A → Bool) (f : ℕ → A) (h : B → Bool) (k : ℕ → B) (n : ℕ) → ((i : ℕ) → i < n → g (f i) ≡ true → h (k i) ≡ true) → every g (listFrom f 0 n) ≡ true → every h (listFrom k 0 n) ≡ true

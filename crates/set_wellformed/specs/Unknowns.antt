@@ -1,5 +1,5 @@
 -- Where start and end of a tracker's texture are exactly UNKNOWN, as the code tests it, and what it may take as tested before.
-use Prim.Native.Nat.{ℕ, _+_, _*_, _≤_, _<_}
+use Prim.Native.Nat.{ℕ, _*_, _≤_, _<_}
 use mathlib.Core.Path.{_≡_}
 use mathlib.Core.Bool.{Bool, true, not}
 use mathlib.Core.List.{List}
@@ -17,7 +17,7 @@ use Rattle.model.specs.WellFormed.{rangesFit, heldFits, sameTest, all₂, sameU
 use Rattle.range_states.specs.View.{decode}
 use Rattle.set_storage.specs.Storage.{numbersOf, flagsOf, extentOf, startHalf, endHalf, mipOf, mipsOf, heldOf, endsOf, slotWith, listFrom, layersAt, mipLimitAt, mipsAt}
 use Rattle.set_storage.specs.Frames.{MipReady}
-use Rattle.set_wellformed.specs.Tests.{TextureReady}
+use Rattle.set_wellformed.specs.Tests.{TextureStored}
 
 -- two states are both exactly UNKNOWN, or neither is
 abbrev pub agrees : ℕ → ℕ → ℕ → Bool
@@ -50,7 +50,7 @@ pub record MipFits (p : UsageFlags) (h : ℕ) (t r : List ℕ) (i m : ℕ) : Typ
   pub fits : rangesFit p (getD t (layersAt i) 0) 0 (mipOf (numbersOf t) h t r i m) ≡ true
 
 pub record MipsFit (p : UsageFlags) (h : ℕ) (t r : List ℕ) (i mips : ℕ) : Type 0 where
-  pub ready : TextureReady (numbersOf t) h t r i
+  pub ready : TextureStored (numbersOf t) h t r i
   pub told : mips ≡ getD t (mipsAt i) 0
   pub top : mips ≤ getD t mipLimitAt 0
   pub some : 0 < getD t (layersAt i) 0
@@ -58,8 +58,8 @@ pub record MipsFit (p : UsageFlags) (h : ℕ) (t r : List ℕ) (i mips : ℕ) : 
 
 -- index i, whose extent is within the set's
 pub record EndsReady (p : UsageFlags) (t s e : List ℕ) (i : ℕ) : Type 0 where
-  pub start : TextureReady (numbersOf t) startHalf t s i
-  pub end : TextureReady (numbersOf t) endHalf t e i
+  pub start : TextureStored (numbersOf t) startHalf t s i
+  pub end : TextureStored (numbersOf t) endHalf t e i
   pub flags : p ≡ flagsOf t
   pub top : getD t (mipsAt i) 0 ≤ getD t mipLimitAt 0
   pub some : 0 < getD t (layersAt i) 0

@@ -39,13 +39,14 @@ ghost use lib.Dec.{leb};
 ghost use lib.ListN.{length, getD};
 ghost use Rattle.model.specs.Base.{every};
 ghost use Rattle.model.specs.Sets.{outside as outsideOf, numbersFit};
-ghost use Rattle.model.specs.WellFormed.{stateFits, singleFits, rangesFit, heldFits, wellFormedScope};
+ghost use Rattle.model.specs.WellFormed.{stateFits, singleFits, rangesFit, heldFits};
 ghost use Rattle.range_states.specs.View.{decode};
-ghost use Rattle.set_storage.specs.Storage.{numbersOf, flagsOf, extentOf, mipOf, mipsOf, heldOf, scopeOf, startHalf, listFrom, layersAt, mipLimitAt, mipsAt, texturesAt};
+ghost use Rattle.set_storage.specs.Storage.{numbersOf, flagsOf, extentOf, mipOf, mipsOf, heldOf, startHalf, listFrom, layersAt, mipLimitAt, mipsAt, texturesAt};
 ghost use Rattle.set_storage.specs.Frames.{Measured, MipReady};
-ghost use Rattle.set_wellformed.specs.Tests.{TextureReady, numbers, extentFits, headFits, scopeSlotFits, scopeSlotsFit};
+ghost use Rattle.set_wellformed.specs.Tests.{TextureStored, numbers, extentFits, headFits, scopeSlotFits, scopeSlotsFit};
 ghost use Rattle.set_wellformed.specs.Unknowns.{itself};
 ghost use Rattle.set_wellformed.specs.Words.{scopeWordFits};
+ghost use Rattle.set_wellformed.specs.Whole.{TestsScope};
 
 // "states nonzero, compatible, without COMPLEX", of 16 bits.
 pub fn state_fits(p: UsageFlags, s: u32) -> bool
@@ -121,7 +122,7 @@ fn mips_fit(
     p: UsageFlags,
     layers: u32,
 ) -> bool
-    requires { ⌜ TextureReady (numbersOf (now table)) half (now table) (now ranges) i ⌝ }
+    requires { ⌜ TextureStored (numbersOf (now table)) half (now table) (now ranges) i ⌝ }
     requires { ⌜ (mips ≡ getD (now table) (mipsAt i) 0) × ((mips ≤ getD (now table) mipLimitAt 0) × (0 < layers)) ⌝ }
     ensures { λ x. ⌜ x ≡ every (rangesFit p layers 0) (mipsOf (numbersOf (now (table .entry))) half (now (table .entry)) (now (ranges .entry)) i) ⌝ }
 {
@@ -137,7 +138,7 @@ fn mips_fit(
 
 // What a half holds of texture i, whose extent is within the set's.
 pub fn held_fits(table: &Table, ranges: &[u32], half: usize, i: usize, p: UsageFlags) -> bool
-    requires { ⌜ TextureReady (numbersOf (now table)) half (now table) (now ranges) i ⌝ }
+    requires { ⌜ TextureStored (numbersOf (now table)) half (now table) (now ranges) i ⌝ }
     requires { ⌜ p ≡ flagsOf (now table) ⌝ }
     requires { ⌜ (getD (now table) (mipsAt i) 0 ≤ getD (now table) mipLimitAt 0) × (0 < getD (now table) (layersAt i) 0) ⌝ }
     ensures { λ x. ⌜ x ≡ heldFits p (extentOf (now (table .entry)) i) (heldOf (numbersOf (now (table .entry))) half (now (table .entry)) (now (ranges .entry)) i) ⌝ }
@@ -201,7 +202,7 @@ pub fn head_fits(table: &Table, room: usize) -> bool
 
 // Index i of a scope, whose words fit: where it is Many, its ranges.
 fn slot_fits(table: &Table, ranges: &[u32], i: usize, p: UsageFlags) -> bool
-    requires { ⌜ TextureReady (numbersOf (now table)) startHalf (now table) (now ranges) i ⌝ }
+    requires { ⌜ TextureStored (numbersOf (now table)) startHalf (now table) (now ranges) i ⌝ }
     requires { ⌜ p ≡ flagsOf (now table) ⌝ }
     requires { ⌜ scopeWordFits (now table) i ≡ true ⌝ }
     ensures { λ x. ⌜ x ≡ scopeSlotFits (now (table .entry)) (now (ranges .entry)) i ⌝ }
@@ -255,7 +256,7 @@ fn all_fit(table: &Table, ranges: &[u32], n: usize, p: UsageFlags) -> bool
 
 // Whether a scope's storage is a well-formed scope with room for its ranges.
 pub fn scope_fits(table: &Table, ranges: &[u32]) -> bool
-    ensures { λ x. ⌜ x ≡ wellFormedScope (length (now (ranges .entry)) / 3) (scopeOf (now (table .entry)) (now (ranges .entry))) ⌝ }
+    ensures { λ x. ⌜ TestsScope (now (table .entry)) (now (ranges .entry)) x ⌝ }
 {
     table_len(table);
     if !head_fits(table, ranges.len()) {

@@ -26,16 +26,17 @@ use set_storage::table_len;
 use set_storage::wide;
 ghost use mathlib.Core.Path.{_≡_};
 ghost use mathlib.Core.Bool.{true};
-ghost use Prim.Native.Nat.{_*_, _/_, _≤_};
+ghost use Prim.Native.Nat.{_*_, _≤_};
 ghost use lib.ListN.{length, getD};
 ghost use Rattle.model.specs.Base.{every};
-ghost use Rattle.model.specs.WellFormed.{endsFit, wellFormedTracker};
+ghost use Rattle.model.specs.WellFormed.{endsFit};
 ghost use Rattle.range_states.specs.View.{decode};
-ghost use Rattle.set_storage.specs.Storage.{numbersOf, flagsOf, extentOf, startHalf, endHalf, mipOf, mipsOf, endsOf, trackerOf, listFrom, texturesAt};
+ghost use Rattle.set_storage.specs.Storage.{numbersOf, flagsOf, extentOf, startHalf, endHalf, mipOf, mipsOf, endsOf, listFrom, texturesAt};
 ghost use Rattle.set_storage.specs.Frames.{Measured};
-ghost use Rattle.set_wellformed.specs.Tests.{TextureReady};
+ghost use Rattle.set_wellformed.specs.Tests.{TextureStored};
 ghost use Rattle.set_wellformed.specs.Unknowns.{agrees, layersAgree, isKnown, passed, SameLayers, MipFits, MipsFit, EndsReady, HalvesFit, mipAgrees, mipsAgree, endsAgree, itself, trackerSlotFits, trackerSlotsFit};
 ghost use Rattle.set_wellformed.specs.Words.{trackerWordFits};
+ghost use Rattle.set_wellformed.specs.Whole.{TestsTracker};
 
 // Whether two states are both exactly UNKNOWN, or neither.
 fn states_agree(a: u32, b: u32, u: u32) -> bool
@@ -211,8 +212,8 @@ fn ends_fit(table: &Table, starts: &[u32], ends: &[u32], i: usize, p: UsageFlags
 
 // Index i of a tracker, whose words fit: where a half is Many, what it holds.
 fn slot_fits(table: &Table, starts: &[u32], ends: &[u32], i: usize, p: UsageFlags) -> bool
-    requires { ⌜ TextureReady (numbersOf (now table)) startHalf (now table) (now starts) i ⌝ }
-    requires { ⌜ TextureReady (numbersOf (now table)) endHalf (now table) (now ends) i ⌝ }
+    requires { ⌜ TextureStored (numbersOf (now table)) startHalf (now table) (now starts) i ⌝ }
+    requires { ⌜ TextureStored (numbersOf (now table)) endHalf (now table) (now ends) i ⌝ }
     requires { ⌜ p ≡ flagsOf (now table) ⌝ }
     requires { ⌜ trackerWordFits (now table) i ≡ true ⌝ }
     ensures { λ x. ⌜ x ≡ trackerSlotFits (now (table .entry)) (now (starts .entry)) (now (ends .entry)) i ⌝ }
@@ -260,7 +261,7 @@ fn all_fit(table: &Table, starts: &[u32], ends: &[u32], n: usize, p: UsageFlags)
 
 // Whether a tracker's storage is a well-formed tracker with room for the ranges of start and end.
 pub fn tracker_fits(table: &Table, starts: &[u32], ends: &[u32]) -> bool
-    ensures { λ x. ⌜ x ≡ wellFormedTracker (length (now (starts .entry)) / 3) (length (now (ends .entry)) / 3) (trackerOf (now (table .entry)) (now (starts .entry)) (now (ends .entry))) ⌝ }
+    ensures { λ x. ⌜ TestsTracker (now (table .entry)) (now (starts .entry)) (now (ends .entry)) x ⌝ }
 {
     table_len(table);
     if !head_fits(table, starts.len()) {

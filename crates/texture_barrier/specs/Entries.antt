@@ -11,7 +11,7 @@ use Rattle.model.specs.declared.LogHead.{LogHead}
 use Rattle.model.specs.Log.{added}
 use Rattle.model.specs.Representation.{select, mipStart, mipEnd, layerStart, layerEnd}
 use Rattle.model.specs.Refusals.{trackerIndex}
-use Rattle.texture_barrier.specs.Over.{over, over-long, over-past, over-then}
+use Rattle.texture_barrier.specs.Over.{over, over-long, over-past}
 
 -- ---- One entry: "seven numbers: index, mip start, mip end, layer start, layer end, old, new"
 abbrev pub sevenOf : PendingTransition → List ℕ
@@ -134,9 +134,6 @@ pub entries-long : (l : List ℕ) → length (entriesOf l) ≡ length l / 7
 unfolding entriesOf
 entries-long l = read-long (length l / 7) l
 
-pub entries-room : (l : List ℕ) (k : ℕ) → k ≤ length (entriesOf l) → 7 * k ≤ length l
-entries-room l k h = omega (arith, entries-long l)
-
 -- ---- What the numbers tell after new entries were written after the first n
 module _ (l : List ℕ) (n : ℕ) (new : List PendingTransition) (room : 7 * (n + length new) ≤ length l) where
   abbrev after : List ℕ
@@ -177,17 +174,6 @@ module _ (l : List ℕ) (n : ℕ) (new : List PendingTransition) (room : 7 * (n 
   added-is = record { entries = after-entries; rest = after-unused; long = after-long }
 
 -- ---- Laws of `Added`
-pub added-none : (l : List ℕ) (n : ℕ) → Added l n [] l
-added-none l n = let z : n + 0 ≡ n = omega arith in record { entries = rw z (sym (take-append-drop n (entriesOf l))); rest = refl; long = refl }
-
--- one after another
-pub added-then : {l : List ℕ} {n : ℕ} {x y : List PendingTransition} {l₁ l₂ : List ℕ} → n + length x ≤ length (entriesOf l) → Added l n x l₁ → Added l₁ (n + length x) y l₂ → Added l n (x ++ y) l₂
-added-then {l} {n} {x} {y} {l₁} {l₂} room a b = record {
-  entries = b .entries ∙ ap (λ (e : List PendingTransition). over e (n + length x) y) (a .entries) ∙ over-then (entriesOf l) n x room y;
-  rest = b .rest ∙ a .rest;
-  long = b .long ∙ a .long;
-}
-
 -- the model's `added` of a log with these entries
 pub added-model : (l : List ℕ) (h : LogHead) (new : List PendingTransition) (l′ : List ℕ) → Added l (h .written) new l′ → entriesOf l′ ≡ (added new (record { entries = entriesOf l; head = h })) .entries
 added-model l h new l′ a = a .entries

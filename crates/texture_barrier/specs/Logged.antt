@@ -10,7 +10,7 @@ use Rattle.model.specs.Base.{if_then_else_}
 use Rattle.model.specs.Log.{pendingOf}
 use Rattle.model.specs.Texture.{Entry}
 use Rattle.texture_barrier.specs.Over.{over, over-then}
-use Rattle.texture_barrier.specs.Entries.{flatten, flatten-long, Added, added-is}
+use Rattle.texture_barrier.specs.Entries.{flatten, flatten-long}
 
 -- the transitions of texture i as entries, and as numbers
 abbrev pub entriesAt : ℕ → List Entry → List PendingTransition
@@ -29,17 +29,6 @@ pub record Logged (top i : ℕ) (write : Bool) (l : List ℕ) (n : ℕ) (es : Li
   pub few : x ≤ top
   pub content : l′ ≡ (if write then take (7 * n) l ++ (flat i es ++ drop (7 * (n + length es)) l) else l)
   pub long : length l′ ≡ length l
-
--- ---- What is written reads as the model's `added`
-pub logged-added : {top i : ℕ} {l : List ℕ} {n : ℕ} {es : List Entry} {x : ℕ} {l′ : List ℕ} → 7 * (n + length es) ≤ length l → Logged top i true l n es x l′ → Added l n (entriesAt i es) l′
-logged-added {top} {i} {l} {n} {es} {x} {l′} room a =
-    let m : length (entriesAt i es) ≡ length es = length-map es _ in
-    let b = added-is l n (entriesAt i es) (rw m room) in
-    let c : l′ ≡ take (7 * n) l ++ (flat i es ++ drop (7 * (n + length (entriesAt i es))) l) = rw m (a .content) in
-    subst (λ (y : List ℕ). Added l n (entriesAt i es) y) (sym c) b
-
-pub logged-unchanged : {top i : ℕ} {l : List ℕ} {n : ℕ} {es : List Entry} {x : ℕ} {l′ : List ℕ} → Logged top i false l n es x l′ → l′ ≡ l
-logged-unchanged a = a .content
 
 -- ---- Laws of `flat`
 flat-long : (i : ℕ) (es : List Entry) → length (flat i es) ≡ 7 * length es

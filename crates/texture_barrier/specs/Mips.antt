@@ -1,31 +1,10 @@
 -- Lists made mip by mip: laws of the model's `each` and `eachAt` over `listFrom`.
 use Prim.Native.Nat.{ℕ, zero, suc, _+_, _-_, _≤_, _<_}
 use native.Mathlib.Omega.{arith}
-use mathlib.Core.Path.{_≡_, refl, sym, ap, _∙_}
-use mathlib.Core.List.{List, [], _∷_, _++_, map, append-assoc, append-nil}
-use Rattle.model.specs.Base.{each, eachAt}
+use mathlib.Core.Path.{_≡_, refl, ap, _∙_}
+use mathlib.Core.List.{List, [], _++_, append-nil}
+use Rattle.model.specs.Base.{eachAt}
 use Rattle.set_storage.specs.Storage.{listFrom}
-
-module _ {A B : Type 0} (f : A → List B) where
-  pub each-append : (x y : List A) → each f (x ++ y) ≡ each f x ++ each f y
-  each-append [] y = refl
-  each-append (a ∷ x) y = rw (each-append x y) (sym (append-assoc (f a) (each f x) (each f y)))
-
-  pub each-map : {D : Type 0} (g : D → A) (s : List D) → each f (map g s) ≡ each (λ (d : D). f (g d)) s
-  each-map g [] = refl
-  each-map g (d ∷ s) = ap (λ (y : List B). f (g d) ++ y) (each-map g s)
-
-  pub each-at : {D : Type 0} (g : ℕ → D → List A) (k : ℕ) (s : List D) → each f (eachAt g k s) ≡ eachAt (λ k d. each f (g k d)) k s
-  each-at g k [] = refl
-  each-at g k (d ∷ s) = rw (each-append (g k d) (eachAt g (suc k) s), each-at g (suc k) s)
-
-pub each-ext : {A B : Type 0} (f g : A → List B) → ((a : A) → f a ≡ g a) → (s : List A) → each f s ≡ each g s
-each-ext f g e [] = refl
-each-ext f g e (a ∷ s) = rw (e a, each-ext f g e s)
-
-pub at-ext : {A B : Type 0} (F F′ : ℕ → A → List B) → ((k : ℕ) (a : A) → F k a ≡ F′ k a) → (k : ℕ) (s : List A) → eachAt F k s ≡ eachAt F′ k s
-at-ext F F′ e k [] = refl
-at-ext F F′ e k (a ∷ s) = rw (e k a, at-ext F F′ e (suc k) s)
 
 module _ {A B : Type 0} (F : ℕ → A → List B) (G : ℕ → A) where
   -- the mip at k, and those behind it

@@ -1,37 +1,22 @@
 -- What the functions over one texture may count on, and where the ranges of a mip are found.
-use Prim.Native.Nat.{ℕ, _+_, _*_, _-_, _≤_, _<_}
-use native.Mathlib.Nat.{min-eq-left}
+use Prim.Native.Nat.{ℕ, _+_, _-_, _≤_, _<_}
 use native.Mathlib.Omega.{arith}
 use mathlib.Core.Path.{_≡_, sym}
 use mathlib.Core.List.{List}
 use lib.ListN.{length, getD, take, drop, length-drop}
 use lib.Seq.{length-take-le}
 use Rattle.model.specs.declared.Extent.{Extent}
-use Rattle.model.specs.declared.Selector.{Selector}
 use Rattle.model.specs.declared.Range.{Range}
 use Rattle.model.specs.Base.{eachAt}
-use Rattle.model.specs.Representation.{mipStart, mipEnd}
 use Rattle.model.specs.Texture.{Entry}
 use Rattle.range_states.specs.View.{decode}
 use Rattle.set_storage.specs.declared.Located.{Located}
 use Rattle.set_storage.specs.Part.{partOf}
-use Rattle.set_storage.specs.Storage.{numbersOf, mipsIn, countAt, mipOf, listFrom, complexAt, mipsAt}
+use Rattle.set_storage.specs.Storage.{numbersOf, mipsIn, countAt, mipOf, listFrom, complexAt}
 use Rattle.set_storage.specs.Frames.{Measured, MipReady, mip-is, mips-top}
 use Rattle.set_storage.specs.Locate.{LocatedAt}
+use Rattle.set_storage.specs.Texture.{TextureHeld, tiles-few, texture-mips}
 use Rattle.texture_barrier.specs.Steps.{toRanges, runTop, RunReady, PairReady}
-
--- texture i of extent sh as the half h holds it; the counts of one that is Single may be any numbers
-pub record Textured (h : ℕ) (t r : List ℕ) (i : ℕ) (sh : Extent) : Type 0 where
-  pub measured : Measured (numbersOf t) h t r
-  pub texture : i < numbersOf t .textures
-  pub mips : getD t (mipsAt i) 0 ≡ sh .mips
-  pub top : sh .mips ≤ numbersOf t .mips
-  pub few : getD t (h + i) 0 ≡ getD t complexAt 0 → (k : ℕ) → k < sh .mips → getD t (countAt h i k) 0 ≤ numbersOf t .layers
-
--- a selector within the mips of its texture
-pub record Selects (q : Selector) (sh : Extent) : Type 0 where
-  pub order : mipStart q ≤ mipEnd q
-  pub inside : mipEnd q ≤ sh .mips
 
 -- the first n mips of texture i, which is Many
 pub record Ready (h : ℕ) (t r : List ℕ) (i n : ℕ) : Type 0 where
@@ -49,24 +34,17 @@ mipsEntries f h t r i lo hi = eachAt f lo (listFrom (mipOf (numbersOf t) h t r i
 abbrev pub pairEntries : ℕ → ℕ → ℕ → List ℕ → List ℕ → ℕ → List ℕ → List ℕ → ℕ → ℕ → List Entry
 pairEntries unknown mask h t r g u v i n = mipsEntries (λ k s. toRanges unknown mask (mipOf (numbersOf t) h t r i k) k s) g u v i 0 n
 
--- the mips that are read are those that the extent tells
-pub mips-read : (t : List ℕ) (i : ℕ) (sh : Extent) → getD t (mipsAt i) 0 ≡ sh .mips → sh .mips ≤ numbersOf t .mips → mipsIn (numbersOf t) t i ≡ sh .mips
-unfolding mipsIn
-mips-read t i sh e top = rw e (min-eq-left top)
-
 -- ---- A texture that is Many
-module _ {h : ℕ} {t r : List ℕ} {i : ℕ} {sh : Extent} (q : Textured h t r i sh) where
-  pub mips-are : mipsIn (numbersOf t) t i ≡ sh .mips
-  mips-are = mips-read t i sh (q .mips) (q .top)
-
-  pub ready : getD t (h + i) 0 ≡ getD t complexAt 0 → (n : ℕ) → n ≤ sh .mips → Ready h t r i n
-  ready c n l = record {
-    measured = q .measured;
-    texture = q .texture;
-    top = omega (arith, q .top, q .measured .mips);
-    inside = omega (arith, mips-are);
-    few = λ k a. q .few c k (omega arith);
-  }
+pub ready : {h : ℕ} {t r : List ℕ} {i : ℕ} {sh : Extent} → TextureHeld (numbersOf t) h t r i sh → getD t (h + i) 0 ≡ getD t complexAt 0 → (n : ℕ) → n ≤ sh .mips → Ready h t r i n
+ready {h} {t} {r} {i} {sh} q c n l =
+    let x = q .ready in
+    record {
+      measured = x .measured;
+      texture = x .index;
+      top = omega (arith, x .top, x .measured .mips);
+      inside = omega (arith, texture-mips x);
+      few = λ k a. tiles-few (numbersOf t) h t r i k (sh .layers) (x .some) (q .tiled c k (omega arith));
+    }
 
 -- ---- Its mip m, whose ranges were found: the part that a function over one mip borrows
 abbrev pub lentPart : Located → List ℕ → List ℕ

@@ -16,11 +16,12 @@ use Rattle.model.specs.RangedStates.{range}
 use Rattle.model.specs.Representation.{select, full, mipStart, mipEnd, layerStart, layerEnd, inMips}
 use Rattle.model.specs.StateRules.{moveOf}
 use Rattle.model.specs.Texture.{single, many, Piece, givenSingle, givenMany, piecesOf, Entry, entry, barrier}
+use Rattle.model.specs.ListLaws.{each-map, each-at, each-ext, at-ext}
 use Rattle.set_storage.specs.Storage.{listFrom}
 use Rattle.texture_barrier.specs.declared.transition.Task.{Task}
 use Rattle.texture_barrier.specs.Steps.{stepEntries, toRanges, toStateIn, within-is}
 use Rattle.texture_barrier.specs.declared.mip.Step.the-variants.{To, Within, From}
-use Rattle.texture_barrier.specs.Mips.{each-map, each-at, each-ext, at-ext, mips-same, mips-only, mips-one}
+use Rattle.texture_barrier.specs.Mips.{mips-same, mips-only, mips-one}
 
 abbrev pub piece : Selector → ℕ → Piece
 piece q st = record { selector = q; state = st }

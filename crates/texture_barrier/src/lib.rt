@@ -1,4 +1,4 @@
-// Barrier: the transitions from a tracker's end of one texture to a given start (`barrier` of texture.rs), counted, or written to a
+// Texture barrier: the transitions from a tracker's end of one texture to a given start (`barrier` of texture.rs), counted, or written to a
 // borrowed log.
 //
 // Place in the picture: over `usage` (which transition is skipped), `range_states` (the ranges of a mip) and `set_storage` (where a texture's ranges

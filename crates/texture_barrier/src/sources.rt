@@ -27,7 +27,7 @@ ghost use Rattle.model.specs.StateRules.{moveOf};
 ghost use Rattle.model.specs.Texture.{givenSingle, givenMany, fromHeld, entry, barrier};
 ghost use Rattle.set_storage.specs.Storage.{numbersOf, endHalf, heldOf};
 ghost use Rattle.texture_barrier.specs.Logged.{Room, Logged};
-ghost use Rattle.texture_barrier.specs.Ready.{Textured, Selects};
+ghost use Rattle.set_storage.specs.Texture.{TextureHeld, SelectorWithin};
 ghost use Rattle.texture_barrier.specs.Steps.{logTop};
 ghost use Rattle.texture_barrier.specs.Textures.{piece, taskOf};
 
@@ -94,7 +94,7 @@ pub fn barrier_state(
     at: usize,
     write: bool,
 ) -> usize
-    requires { ⌜ Textured endHalf (now table) (now ends) i extent ⌝ }
+    requires { ⌜ TextureHeld (numbersOf (now table)) endHalf (now table) (now ends) i extent ⌝ }
     requires { ⌜ at ≤ logTop ⌝ }
     requires { ⌜ Room write (now log) at (barrier p mask extent (heldOf (numbersOf (now table)) endHalf (now table) (now ends) i) (givenSingle new)) ⌝ }
     ensures { λ x. ⌜ Logged 4096 i write (now (log .entry)) at (barrier p mask extent (heldOf (numbersOf (now (table .entry))) endHalf (now (table .entry)) (now (ends .entry)) i) (givenSingle new)) x (now (log .exit)) ⌝ }
@@ -123,8 +123,8 @@ pub fn barrier_selector(
     at: usize,
     write: bool,
 ) -> usize
-    requires { ⌜ Textured endHalf (now table) (now ends) i extent ⌝ }
-    requires { ⌜ Selects q extent ⌝ }
+    requires { ⌜ TextureHeld (numbersOf (now table)) endHalf (now table) (now ends) i extent ⌝ }
+    requires { ⌜ SelectorWithin extent q ⌝ }
     requires { ⌜ at ≤ logTop ⌝ }
     requires { ⌜ Room write (now log) at (barrier p mask extent (heldOf (numbersOf (now table)) endHalf (now table) (now ends) i) (givenMany (piece q new ∷ []))) ⌝ }
     ensures { λ x. ⌜ Logged 4096 i write (now (log .entry)) at (barrier p mask extent (heldOf (numbersOf (now (table .entry))) endHalf (now (table .entry)) (now (ends .entry)) i) (givenMany (piece q new ∷ []))) x (now (log .exit)) ⌝ }
@@ -160,8 +160,8 @@ pub fn barrier_texture(
     at: usize,
     write: bool,
 ) -> usize
-    requires { ⌜ Textured endHalf (now table) (now ends) i extent ⌝ }
-    requires { ⌜ Textured side (now given) (now pieces) i extent ⌝ }
+    requires { ⌜ TextureHeld (numbersOf (now table)) endHalf (now table) (now ends) i extent ⌝ }
+    requires { ⌜ TextureHeld (numbersOf (now given)) side (now given) (now pieces) i extent ⌝ }
     requires { ⌜ at ≤ logTop ⌝ }
     requires { ⌜ Room write (now log) at (barrier p mask extent (heldOf (numbersOf (now table)) endHalf (now table) (now ends) i) (fromHeld (heldOf (numbersOf (now given)) side (now given) (now pieces) i))) ⌝ }
     ensures { λ x. ⌜ Logged 1048576 i write (now (log .entry)) at (barrier p mask extent (heldOf (numbersOf (now (table .entry))) endHalf (now (table .entry)) (now (ends .entry)) i) (fromHeld (heldOf (numbersOf (now (given .entry))) side (now (given .entry)) (now (pieces .entry)) i))) x (now (log .exit)) ⌝ }

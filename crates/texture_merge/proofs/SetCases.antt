@@ -1,42 +1,36 @@
 -- `insert` and `merge` of a texture of another set, case by case: what the code leaves is what the model gives.
-use Prim.Native.Nat.{ℕ, suc, _+_, _*_, _≤_, _<_}
+use Prim.Native.Nat.{ℕ, _+_, _<_}
 use native.Mathlib.Omega.{arith}
-use native.Mathlib.Nat.{min-eq-left}
 use mathlib.Core.Path.{_≡_, refl, sym, ap, subst, _∙_}
-use mathlib.Core.Bool.{Bool, true, false}
 use mathlib.Core.List.{List, [], _∷_}
-use mathlib.Core.Option.{Option, none, some}
+use mathlib.Core.Option.{none, some}
 use lib.ListN.{getD, set, replicate}
-use lib.Seq.{getD-set-same, getD-set-other}
 use Rattle.model.specs.declared.UsageFlags.{UsageFlags}
 use Rattle.model.specs.declared.Extent.{Extent}
 use Rattle.model.specs.declared.Range.{Range}
 use Rattle.model.specs.declared.InvalidUse.{InvalidUse}
-use Rattle.model.specs.Base.{Stop, fine, stopped, orKeep, passes, walk}
+use Rattle.model.specs.Base.{Stop, passes}
 use Rattle.model.specs.Sets.{Numbers}
-use Rattle.model.specs.Representation.{full}
 use Rattle.model.specs.RangedStates.{range}
-use Rattle.model.specs.Texture.{Held, single, many, Given, givenSingle, givenMany, Piece, piecesOf, fromHeld, freshMips, paintAll, insert, spreadPiece, mergeMip, asMany, merge}
-use Rattle.set_storage.specs.Storage.{numbersOf, flagsOf, countAt, mipsIn, mipOf, mipsOf, heldOf, complexAt, layersAt}
+use Rattle.model.specs.Texture.{single, many, Given, givenSingle, piecesOf, fromHeld, freshMips, paintAll, insert, spreadPiece, merge}
+use Rattle.set_storage.specs.Storage.{numbersOf, countAt, mipsOf, heldOf, complexAt, layersAt}
 use Rattle.set_storage.specs.Stays.{Frame, keeps-then}
-use Rattle.set_storage.specs.Frames.{Measured, MipsBecome, frame-below, half-of, half-word, measured-then, mips-long}
+use Rattle.set_storage.specs.Frames.{MipsBecome, frame-below, half-of, measured-then}
 use Rattle.set_storage.specs.Slots.{HalfBecomes, become-single, become-many, become-marked, held-single, held-many}
 use Rattle.texture_merge.specs.declared.Stopped.{Stopped}
 use Rattle.texture_merge.specs.declared.Stopped.the-variants.{Nowhere, At}
 use Rattle.texture_merge.specs.declared.Doing.the-variants.{Insert, Merge, Spread}
 use Rattle.texture_merge.specs.Walks.{stoppedOf, MipsWalked}
-use Rattle.texture_merge.specs.Ready.{ManyReady, EveryReady}
-use Rattle.texture_merge.specs.Uses.{useOf, UseReady, HeldReady, HalfMerged, use-then, use-mips, use-every, fresh-many}
+use Rattle.set_storage.specs.Texture.{TextureReady, texture-then, texture-dims}
+use Rattle.texture_merge.specs.Ready.{ManyReady, many-of, fresh-many}
+use Rattle.texture_merge.specs.Uses.{HalfMerged}
 use Rattle.texture_merge.specs.Giving.{taken, inserts, merges, spreads, GivenTexture}
-use Rattle.texture_merge.specs.FromSet.{SetReady, MergeReady, set-use, set-held, set-given}
-use Rattle.texture_merge.proofs.Breaking.{break-every, break-many, break-layers, break-mips, break-then}
+use Rattle.texture_merge.specs.FromSet.{SetReady, MergeReady, given-state, given-pieces, given-many}
+use Rattle.texture_merge.proofs.Breaking.{break-many, break-texture, break-then}
 
 module _ {h i from : ℕ} {sh : Extent} {p : UsageFlags} {t r t₂ r₂ : List ℕ} (x : SetReady h t r i sh from t₂ r₂ p) where
   complex-is : p .complex ≡ getD t complexAt 0
   complex-is = ap (λ (y : UsageFlags). y .complex) (x .flags)
-
-  complex-given : getD t₂ complexAt 0 ≡ p .complex
-  complex-given = ap (λ (y : UsageFlags). y .complex) (x .same-flags)
 
   abbrev gs : List (List Range)
   gs = mipsOf (numbersOf t₂) from t₂ r₂ i
@@ -44,78 +38,56 @@ module _ {h i from : ℕ} {sh : Extent} {p : UsageFlags} {t r t₂ r₂ : List �
   abbrev given : Given
   given = fromHeld (heldOf (numbersOf t₂) from t₂ r₂ i)
 
-  -- any state but COMPLEX makes a use of all of the texture
-  pub any-use : UseReady (numbersOf t) h t r i sh true (full sh) p (suc (p .complex))
-  any-use = set-use (suc (p .complex)) x (λ z. omega arith)
-
   -- ---- the given texture is Single
   module _ (c : getD t₂ (from + i) 0 ≡ p .complex → ⊥) where
-    given-single : given ≡ givenSingle (getD t₂ (from + i) 0)
-    given-single = ap fromHeld (held-single (numbersOf t₂) from t₂ r₂ i (λ z. c (z ∙ complex-given)))
-
     pub insert-single : HalfBecomes (numbersOf t) h i (insert p sh given) t r (set t (h + i) (getD t₂ (from + i) 0)) r
     unfolding insert
-    insert-single = rw given-single (become-single (x .measured) (x .texture) (λ z. c (z ∙ sym complex-is)))
+    insert-single = rw (given-state (x .given) c) (become-single (x .texture .measured) (x .texture .index) (λ z. c (z ∙ sym complex-is)))
 
     pub merge-single : {z : Stopped} {t′ r′ : List ℕ} → HalfMerged (numbersOf t) h i (merge p sh (heldOf (numbersOf t) h t r i) (givenSingle (getD t₂ (from + i) 0))) t r z t′ r′ → HalfMerged (numbersOf t) h i (merge p sh (heldOf (numbersOf t) h t r i) given) t r z t′ r′
-    merge-single {z} {t′} {r′} m = subst (λ (g : Given). HalfMerged (numbersOf t) h i (merge p sh (heldOf (numbersOf t) h t r i) g) t r z t′ r′) (sym given-single) m
+    merge-single {z} {t′} {r′} m = subst (λ (g : Given). HalfMerged (numbersOf t) h i (merge p sh (heldOf (numbersOf t) h t r i) g) t r z t′ r′) (sym (given-state (x .given) c)) m
 
   -- ---- the given texture is Many
   module _ (c : getD t₂ (from + i) 0 ≡ p .complex) where
-    given-many : given ≡ givenMany (piecesOf gs)
-    given-many = ap fromHeld (held-many (numbersOf t₂) from t₂ r₂ i gs (c ∙ sym complex-given) refl)
-
     -- insert: made anew UNKNOWN, and painted
     module _ {t₃ r₃ : List ℕ} (b : MipsBecome (numbersOf (set t (h + i) (p .complex))) h i (replicate (sh .mips) (range 0 (sh .layers) (p .unknown) ∷ [])) (set t (h + i) (p .complex)) r t₃ r₃) where
       pub insert-ready : ManyReady (numbersOf t₃) h t₃ r₃ i (getD t₃ (layersAt i) 0) × GivenTexture t₃ i (sh .mips) from t₂ r₂
-      insert-ready = (break-many any-use (p .unknown) b, set-given x c t₃ (break-layers any-use (p .unknown) b) (break-mips any-use (p .unknown) b))
+      insert-ready = (break-many (x .texture) (x .flags) (p .unknown) b, given-many (x .given) c (break-texture (x .texture) (x .flags) (p .unknown) b))
 
       pub insert-many : {z : Stopped} {t₄ r₄ : List ℕ} → MipsWalked (numbersOf t₃) h i (passes (taken Insert p) (piecesOf gs) (mipsOf (numbersOf t₃) h t₃ r₃ i)) t₃ r₃ z t₄ r₄ → HalfBecomes (numbersOf t) h i (insert p sh given) t r t₄ r₄
       unfolding insert
       insert-many {z} {t₄} {r₄} w =
           let v = subst (λ (y : Stop InvalidUse (List (List Range))). MipsBecome (numbersOf t₃) h i (y .value) t₃ r₃ t₄ r₄) (inserts p (piecesOf gs) (mipsOf (numbersOf t₃) h t₃ r₃ i)) (w .into) in
-          rw given-many (break-then any-use (p .unknown) b (paintAll (p .unknown) (piecesOf gs)) v)
+          rw (given-pieces (x .given) c) (break-then (x .texture) (x .flags) (p .unknown) b (paintAll (p .unknown) (piecesOf gs)) v)
 
     module _ (y : MergeReady h t r i sh from t₂ p) where
-      mips-are : mipsIn (numbersOf t) t i ≡ sh .mips
-      mips-are = use-mips any-use
-
       -- merge into Many
       module _ (e : getD t (h + i) 0 ≡ p .complex) where
         told : getD t (h + i) 0 ≡ getD t complexAt 0
         told = e ∙ complex-is
 
         pub many-ready : ManyReady (numbersOf t) h t r i (getD t (layersAt i) 0) × GivenTexture t i (sh .mips) from t₂ r₂
-        many-ready = (
-          record {
-            measured = x .measured;
-            texture = x .texture;
-            some = rw (x .layers) (x .some);
-            low = rw (x .layers) (x .low);
-            tiled = λ k l. rw (x .layers) (y .tiled told k (rw mips-are at l));
-          },
-          set-given x c t (x .layers) mips-are,
-        )
+        many-ready = (many-of (record { ready = x .texture; tiled = y .tiled }) told _ (x .texture .layers), given-many (x .given) c (x .texture))
 
         pub many-many : {z : Stopped} {t′ r′ : List ℕ} → MipsWalked (numbersOf t) h i (passes (taken Merge p) (piecesOf gs) (mipsOf (numbersOf t) h t r i)) t r z t′ r′ → HalfMerged (numbersOf t) h i (merge p sh (heldOf (numbersOf t) h t r i) given) t r z t′ r′
         unfolding merge
         many-many {z} {t′} {r′} w =
             let v = subst (λ (s : Stop InvalidUse (List (List Range))). MipsWalked (numbersOf t) h i s t r z t′ r′) (merges p (piecesOf gs) (mipsOf (numbersOf t) h t r i)) w in
-            rw (given-many, held-many (numbersOf t) h t r i (mipsOf (numbersOf t) h t r i) told refl)
-            record { conflict = v .conflict; into = become-many (x .measured) (x .texture) told (v .into) }
+            rw (given-pieces (x .given) c, held-many (numbersOf t) h t r i (mipsOf (numbersOf t) h t r i) told refl)
+            record { conflict = v .conflict; into = become-many (x .texture .measured) (x .texture .index) told (v .into) }
 
       -- merge into Single: the mips are made anew in its state, and the word stays until all pieces are taken
       module _ {cur : ℕ} (e : cur ≡ getD t (h + i) 0) (ne : cur ≡ p .complex → ⊥) {t₃ r₃ : List ℕ} (b : MipsBecome (numbersOf t) h i (replicate (sh .mips) (range 0 (sh .layers) cur ∷ [])) t r t₃ r₃) where
-        use₃ : UseReady (numbersOf t) h t₃ r₃ i sh true (full sh) p (suc (p .complex))
-        use₃ = use-then any-use (half-of (b .frame))
+        third : TextureReady (numbersOf t) h t₃ r₃ i sh
+        third = texture-then (x .texture) (half-of (b .frame))
 
         dims₃ : numbersOf t₃ ≡ numbersOf t
-        dims₃ = use₃ .measured .dims
+        dims₃ = third .measured .dims
 
         pub spread-ready : ManyReady (numbersOf t₃) h t₃ r₃ i (getD t₃ (layersAt i) 0) × GivenTexture t₃ i (sh .mips) from t₂ r₂
         spread-ready = (
-          subst (λ (d : Numbers). ManyReady d h t₃ r₃ i (getD t₃ (layersAt i) 0)) (sym dims₃) (subst (λ (w : ℕ). ManyReady (numbersOf t) h t₃ r₃ i w) (sym (use₃ .layers)) (fresh-many cur use₃ (b .mips))),
-          set-given x c t₃ (use₃ .layers) (ap (λ (d : Numbers). mipsIn d t₃ i) dims₃ ∙ use-mips use₃),
+          subst (λ (d : Numbers). ManyReady d h t₃ r₃ i (getD t₃ (layersAt i) 0)) (sym dims₃) (fresh-many third cur (b .mips) _ (third .layers)),
+          given-many (x .given) c (texture-dims third),
         )
 
         module _ {z : Stopped} {t₄ r₄ : List ℕ} (w : MipsWalked (numbersOf t₃) h i (passes (taken (Spread cur) p) (piecesOf gs) (mipsOf (numbersOf t₃) h t₃ r₃ i)) t₃ r₃ z t₄ r₄) where
@@ -141,11 +113,11 @@ module _ {h i from : ℕ} {sh : Extent} {p : UsageFlags} {t r t₂ r₂ : List �
           unfolding merge
           spread-stop k q =
               let n : s .conflict ≡ some k = sym (v .conflict) ∙ ap stoppedOf q in
-              rw (given-many, held-single-is, n)
+              rw (given-pieces (x .given) c, held-single-is, n)
               record {
                 conflict = refl;
                 into = record {
-                  held = held-single (numbersOf t) h t₄ r₄ i (λ m. ne (e ∙ sym (word (h + i) (omega (arith, x .texture))) ∙ m ∙ word 5 (omega (arith, x .measured .half .0)) ∙ sym complex-is)) ∙ ap single (word (h + i) (omega (arith, x .texture)) ∙ sym e);
+                  held = held-single (numbersOf t) h t₄ r₄ i (λ m. ne (e ∙ sym (word (h + i) (omega (arith, x .texture .index))) ∙ m ∙ word 5 (omega (arith, x .texture .measured .half .0)) ∙ sym complex-is)) ∙ ap single (word (h + i) (omega (arith, x .texture .index)) ∙ sym e);
                   frame = half-of both;
                 };
               }
@@ -154,6 +126,6 @@ module _ {h i from : ℕ} {sh : Extent} {p : UsageFlags} {t r t₂ r₂ : List �
           unfolding merge
           spread-done q =
               let n : s .conflict ≡ none = sym (v .conflict) ∙ ap stoppedOf q in
-              let m = become-marked (measured-then (x .measured) both) (x .texture) (complex-is ∙ sym (word 5 (omega (arith, x .measured .half .0)))) in
-              rw (given-many, held-single-is, n)
+              let m = become-marked (measured-then (x .texture .measured) both) (x .texture .index) (complex-is ∙ sym (word 5 (omega (arith, x .texture .measured .half .0)))) in
+              rw (given-pieces (x .given) c, held-single-is, n)
               record { conflict = refl; into = record { held = m .held ∙ ap many (v .into .mips); frame = keeps-then (half-of both) (m .frame) } }

@@ -1,10 +1,9 @@
 -- `merge` of one use, case by case: what the code leaves is what the model's merge gives.
-use Prim.Native.Nat.{ℕ, _+_, _≤_, _<_}
-use native.Mathlib.Omega.{arith}
+use Prim.Native.Nat.{ℕ, _+_}
 use mathlib.Core.Path.{_≡_, refl, sym, ap, subst, _∙_}
 use mathlib.Core.Bool.{Bool, true, false}
-use mathlib.Core.List.{List, [], _∷_}
-use mathlib.Core.Option.{Option, none, some}
+use mathlib.Core.List.{List}
+use mathlib.Core.Option.{none, some}
 use lib.Bits.{bitOr}
 use lib.ListN.{getD, set}
 use Rattle.model.specs.declared.UsageFlags.{UsageFlags}
@@ -12,17 +11,17 @@ use Rattle.model.specs.declared.Extent.{Extent}
 use Rattle.model.specs.declared.Selector.{Selector}
 use Rattle.model.specs.declared.Range.{Range}
 use Rattle.model.specs.declared.InvalidUse.{InvalidUse}
-use Rattle.model.specs.Base.{Stop, fine, stopped, walk}
+use Rattle.model.specs.Base.{Stop, walk}
 use Rattle.model.specs.StateRules.{unite}
 use Rattle.model.specs.Texture.{Held, single, many, mergeMip, mergeEvery, invalidUse, asMany, merge}
-use Rattle.set_storage.specs.Storage.{numbersOf, flagsOf, mipsOf, heldOf, complexAt, layersAt}
+use Rattle.set_storage.specs.Storage.{numbersOf, mipsOf, heldOf, complexAt, layersAt}
 use Rattle.set_storage.specs.Stays.{keeps-refl}
 use Rattle.set_storage.specs.Slots.{HalfBecomes, become-single, become-many, held-single, held-many}
 use Rattle.texture_merge.specs.declared.Stopped.{Stopped}
 use Rattle.texture_merge.specs.declared.Stopped.the-variants.{Nowhere, At}
-use Rattle.texture_merge.specs.Walks.{stoppedOf, MipsWalked}
-use Rattle.texture_merge.specs.Ready.{ManyReady}
-use Rattle.texture_merge.specs.Uses.{useOf, brokenUp, UseReady, HeldReady, SingleReady, HalfMerged, use-mips, united, single-conflict, single-all, single-part, many-all, many-part}
+use Rattle.texture_merge.specs.Walks.{MipsWalked}
+use Rattle.texture_merge.specs.Ready.{ManyReady, many-of}
+use Rattle.texture_merge.specs.Uses.{useOf, brokenUp, UseReady, HeldReady, SingleReady, HalfMerged, united, single-conflict, single-all, single-part, many-all, many-part}
 
 module _ {h i : ℕ} {sh : Extent} {all : Bool} {q : Selector} {p : UsageFlags} {new : ℕ} {t r : List ℕ} (x : UseReady (numbersOf t) h t r i sh all q p new) where
   complex-is : p .complex ≡ getD t complexAt 0
@@ -44,7 +43,7 @@ module _ {h i : ℕ} {sh : Extent} {all : Bool} {q : Selector} {p : UsageFlags} 
     pub all-left : (u : ℕ) → unite p cur new ≡ some u → all ≡ true → HalfMerged (numbersOf t) h i (merge p sh (single cur) (useOf all q new)) t r Nowhere (set t (h + i) u) r
     all-left u e a =
         subst (λ (w : Stop InvalidUse Held). HalfMerged (numbersOf t) h i w t r Nowhere (set t (h + i) u) r) (sym (ap (λ (b : Bool). merge p sh (single cur) (useOf b q new)) a ∙ single-all p sh cur new u q e))
-        record { conflict = refl; into = become-single (x .measured) (x .texture) (λ z. union-plain u e (z ∙ sym complex-is)) }
+        record { conflict = refl; into = become-single (x .texture .measured) (x .texture .index) (λ z. union-plain u e (z ∙ sym complex-is)) }
 
     pub part-left : {t′ r′ : List ℕ} (u : ℕ) → unite p cur new ≡ some u → all ≡ false → HalfBecomes (numbersOf t) h i (brokenUp sh cur q (p .unknown) u) t r t′ r′ → HalfMerged (numbersOf t) h i (merge p sh (single cur) (useOf all q new)) t r Nowhere t′ r′
     part-left {t′} {r′} u e a b =
@@ -66,13 +65,7 @@ module _ {h i : ℕ} {sh : Extent} {all : Bool} {q : Selector} {p : UsageFlags} 
       told = c ∙ complex-is
 
       pub many-ready : ManyReady (numbersOf t) h t r i (getD t (layersAt i) 0)
-      many-ready = record {
-        measured = x .measured;
-        texture = x .texture;
-        some = rw (x .layers) (x .some);
-        low = rw (x .layers) (x .low);
-        tiled = λ k l. rw (x .layers) (y .tiled told k (rw (use-mips x) at l));
-      }
+      many-ready = many-of (record { ready = x .texture; tiled = y .tiled }) told _ (x .texture .layers)
 
       held-is : heldOf (numbersOf t) h t r i ≡ many (mipsOf (numbersOf t) h t r i)
       held-is = held-many (numbersOf t) h t r i (mipsOf (numbersOf t) h t r i) told refl
@@ -81,7 +74,7 @@ module _ {h i : ℕ} {sh : Extent} {all : Bool} {q : Selector} {p : UsageFlags} 
       many-merged {z} {t′} {r′} w e m =
           subst (λ (k : Held). HalfMerged (numbersOf t) h i (merge p sh k (useOf all q new)) t r z t′ r′) (sym held-is)
           (subst (λ (k : Stop InvalidUse Held). HalfMerged (numbersOf t) h i k t r z t′ r′) (sym e)
-          record { conflict = m .conflict; into = become-many (x .measured) (x .texture) told (m .into) })
+          record { conflict = m .conflict; into = become-many (x .texture .measured) (x .texture .index) told (m .into) })
 
       pub every-merged : {z : Stopped} {t′ r′ : List ℕ} → all ≡ true → MipsWalked (numbersOf t) h i (walk (mergeEvery p new) 0 (mipsOf (numbersOf t) h t r i)) t r z t′ r′ → HalfMerged (numbersOf t) h i (merge p sh (heldOf (numbersOf t) h t r i) (useOf all q new)) t r z t′ r′
       every-merged a m = many-merged _ (ap (λ (b : Bool). merge p sh (many (mipsOf (numbersOf t) h t r i)) (useOf b q new)) a ∙ many-all p sh (mipsOf (numbersOf t) h t r i) new q) m

@@ -10,25 +10,26 @@ use Rattle.model.specs.declared.UsageFlags.{UsageFlags}
 use Rattle.model.specs.declared.Selector.{Selector}
 use Rattle.model.specs.declared.Range.{Range}
 use Rattle.model.specs.declared.InvalidUse.{InvalidUse}
-use Rattle.model.specs.Base.{if_then_else_, eachAt, Stop, fine, stopped, ruled, andThen, onward, passes, walk}
+use Rattle.model.specs.Base.{eachAt, Stop, fine, ruled, andThen, onward, passes, walk}
 use Rattle.model.specs.StateRules.{unite, endAfter}
 use Rattle.model.specs.Sets.{Numbers}
 use Rattle.model.specs.Representation.{select, layerStart, layerEnd, inMips}
 use Rattle.model.specs.RangedStates.{coalesce, paint, Tiles}
-use Rattle.model.specs.Texture.{Piece, onMips, piecesOf, paintAll, spreadPiece, spreadEnd, mergeMip, invalidUse}
+use Rattle.model.specs.Texture.{Piece, onMips, paintAll, spreadPiece, spreadEnd, mergeMip, invalidUse}
 use Rattle.range_states.specs.View.{decode}
-use Rattle.range_isolate.specs.Tiling.{by-test, paint-tiles}
-use Rattle.texture_mips.specs.Merge.{mergeRun, merge-mip, merge-other}
+use Rattle.texture_mips.specs.Merge.{merge-mip, merge-other}
 use Rattle.texture_mips.specs.Kept.{run-tiles, update-tiles}
-use Rattle.set_storage.specs.Storage.{numbersOf, mipsIn, mipOf, mipsOf, layersAt, startHalf}
+use Rattle.set_storage.specs.Storage.{numbersOf, mipsIn, mipsOf, layersAt, startHalf}
 use Rattle.set_storage.specs.Stays.{Frame, keeps-refl, keeps-then}
-use Rattle.set_storage.specs.Frames.{Measured, MipsBecome, frame-below, measured-then, mips-same, mip-at, mips-long}
+use Rattle.set_storage.specs.Frames.{Measured, frame-below, measured-then, mip-at, mips-long}
 use Rattle.texture_merge.specs.declared.Stopped.{Stopped}
 use Rattle.texture_merge.specs.declared.Stopped.the-variants.{Nowhere, At}
 use Rattle.texture_merge.specs.declared.Doing.{Doing}
 use Rattle.texture_merge.specs.declared.Doing.the-variants.{Insert, Merge, Spread, Cover}
 use Rattle.texture_merge.specs.Walks.{stoppedOf, MipsWalked}
 use Rattle.texture_merge.specs.Ready.{ManyReady}
+use Rattle.model.specs.BoolLaws.{by-test}
+use Rattle.model.specs.RangeLaws.{paint-tiles, tiles-le}
 
 -- ---- What one piece does to the mips
 unfoldable pub taken : Doing → UsageFlags → Piece → List (List Range) → Stop InvalidUse (List (List Range))
@@ -65,14 +66,29 @@ abbrev pub Tiled : ℕ → List (List Range) → Type 0
 Tiled w [] = Unit {0}
 Tiled w (s ∷ ss) = Tiles 0 s w × Tiled w ss
 
-pub tiled-get : (w : ℕ) (ss : List (List Range)) (k : ℕ) → Tiled w ss → k < length ss → Tiles 0 (getD ss k []) w
+tiled-get : (w : ℕ) (ss : List (List Range)) (k : ℕ) → Tiled w ss → k < length ss → Tiles 0 (getD ss k []) w
 tiled-get w [] k t h = absurd (omega arith)
 tiled-get w (s ∷ ss) zero t h = t .0
 tiled-get w (s ∷ ss) (suc k) t h = tiled-get w ss k (t .1) (omega arith)
 
-pub tiled-of : (w : ℕ) (ss : List (List Range)) → ((k : ℕ) → k < length ss → Tiles 0 (getD ss k []) w) → Tiled w ss
+tiled-of : (w : ℕ) (ss : List (List Range)) → ((k : ℕ) → k < length ss → Tiles 0 (getD ss k []) w) → Tiled w ss
 tiled-of w [] f = tt
 tiled-of w (s ∷ ss) f = (f 0 (omega arith), tiled-of w ss (λ k h. f (suc k) (omega arith)))
+
+-- as the storage has them
+pub many-tiled : {d : Numbers} {h i w : ℕ} {t r : List ℕ} → ManyReady d h t r i w → Tiled w (mipsOf d h t r i)
+many-tiled {d} {h} {i} {w} {t} {r} m = tiled-of w (mipsOf d h t r i) (λ k b.
+    let l : k < mipsIn d t i = rw (mips-long d h t r i) at b in
+    subst (λ (s : List Range). Tiles 0 s w) (sym (mip-at d h t r i k [] l)) (m .tiled k l))
+
+pub many-ready : {d : Numbers} {h i w : ℕ} {t r : List ℕ} → Measured d h t r → i < d .textures → 0 < w → w ≤ d .layers → Tiled w (mipsOf d h t r i) → ManyReady d h t r i w
+many-ready {d} {h} {i} {w} {t} {r} m hi a b x = record {
+  measured = m;
+  texture = hi;
+  some = a;
+  low = b;
+  tiled = λ k l. subst (λ (s : List Range). Tiles 0 s w) (mip-at d h t r i k [] l) (tiled-get w (mipsOf d h t r i) k x (rw (mips-long d h t r i) l));
+}
 
 pub on-tiled : (w : ℕ) (q : Selector) (f : List Range → List Range) → ((s : List Range) → Tiles 0 s w → Tiles 0 (f s) w) → (k : ℕ) (ss : List (List Range)) → Tiled w ss → Tiled w (onMips q f k ss)
 on-tiled w q f g k [] t = tt
@@ -104,10 +120,6 @@ taken-tiled (Spread cur) p q w ss h g t = go (unite p cur (q .state))
     go (some u) = on-tiled w (q .selector) _ (λ s x. update-tiles (p .unknown) (layerStart (q .selector)) (layerEnd (q .selector)) u s w h g x) 0 ss t
 taken-tiled (Cover cur) p q w ss h g t = on-tiled w (q .selector) _ (λ s x. update-tiles (p .unknown) (layerStart (q .selector)) (layerEnd (q .selector)) (endAfter (p .unknown) cur (q .state)) s w h g x) 0 ss t
 
-pub tiles-le : (s : List Range) (a e : ℕ) → Tiles a s e → a ≤ e
-tiles-le [] a e t = omega arith
-tiles-le (r ∷ s) a e t = omega (arith, tiles-le s (r .end) e (t .2))
-
 -- ---- Pieces of one mip, and of the mips from k on
 abbrev pub pieceOn : ℕ → Range → Piece
 pieceOn k r = record { selector = select k (suc k) (r .start) (r .end); state = r .state }
@@ -134,13 +146,7 @@ module _ (h i layers : ℕ) (goal : Stop InvalidUse (List (List Range))) (t₀ r
 
 module _ {h i layers : ℕ} {t r : List ℕ} (m : ManyReady (numbersOf t) h t r i layers) where
   pub giving-start : (left : List (List Range) → Stop InvalidUse (List (List Range))) → Giving h i layers (left (mipsOf (numbersOf t) h t r i)) t r left t r
-  giving-start left = record {
-    ends = refl;
-    frame = keeps-refl t r;
-    tiled = tiled-of layers (mipsOf (numbersOf t) h t r i) (λ k b.
-        let l : k < mipsIn (numbersOf t) t i = rw (mips-long (numbersOf t) h t r i) at b in
-        subst (λ (s : List Range). Tiles 0 s layers) (sym (mip-at (numbersOf t) h t r i k [] l)) (m .tiled k l));
-  }
+  giving-start left = record { ends = refl; frame = keeps-refl t r; tiled = many-tiled m }
 
 module _ {h i layers : ℕ} {goal : Stop InvalidUse (List (List Range))} {t₀ r₀ t r : List ℕ} {left : List (List Range) → Stop InvalidUse (List (List Range))} (m : ManyReady (numbersOf t₀) h t₀ r₀ i layers) (g : Giving h i layers goal t₀ r₀ left t r) where
   dims : numbersOf t ≡ numbersOf t₀
@@ -151,15 +157,7 @@ module _ {h i layers : ℕ} {goal : Stop InvalidUse (List (List Range))} {t₀ r
 
   -- the texture is ready for the next piece
   pub giving-ready : ManyReady (numbersOf t) h t r i layers
-  giving-ready = subst (λ (d : Numbers). ManyReady d h t r i layers) (sym dims) (record {
-    measured = measured-then (m .measured) (g .frame);
-    texture = m .texture;
-    some = m .some;
-    low = m .low;
-    tiled = λ k l.
-        subst (λ (s : List Range). Tiles 0 s layers) (mip-at (numbersOf t₀) h t r i k [] l)
-        (tiled-get layers (mipsOf (numbersOf t₀) h t r i) k (g .tiled) (rw (mips-long (numbersOf t₀) h t r i) l));
-  })
+  giving-ready = subst (λ (d : Numbers). ManyReady d h t r i layers) (sym dims) (many-ready (measured-then (m .measured) (g .frame)) (m .texture) (m .some) (m .low) (g .tiled))
 
   module _ {t′ r′ : List ℕ} {x : Stopped} (f : List (List Range) → Stop InvalidUse (List (List Range))) (next : List (List Range) → Stop InvalidUse (List (List Range)))
       (splits : (ss : List (List Range)) → left ss ≡ andThen (f ss .conflict) (f ss .value) (next (f ss .value)))

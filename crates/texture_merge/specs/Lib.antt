@@ -1,4 +1,3 @@
-pub mod Editing
 pub mod Walking
 pub mod Walks
 pub mod Ready

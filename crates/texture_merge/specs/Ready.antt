@@ -1,25 +1,26 @@
 -- What the code needs of a mip, or of all mips of a texture, to change it in place, and what it leaves: the part of the ranges that is lent on.
 use Prim.Native.Nat.{ℕ, _+_, _*_, _-_, _≤_, _<_}
 use native.Mathlib.Omega.{arith}
-use mathlib.Core.Path.{_≡_, refl, sym, ap, subst, _∙_}
+use mathlib.Core.Path.{_≡_, sym, ap, subst, _∙_}
 use mathlib.Core.List.{List, [], _∷_, _++_}
-use lib.Dec.{leb}
-use lib.ListN.{length, getD, set, take, drop}
-use borrow.Author.Tests.{lt-leb}
+use lib.ListN.{length, getD, set, take, drop, getD-replicate}
+use Rattle.model.specs.declared.Extent.{Extent}
 use Rattle.model.specs.declared.Range.{Range}
 use Rattle.model.specs.declared.Selector.{Selector}
-use Rattle.model.specs.Base.{if_then_else_}
 use Rattle.model.specs.Representation.{mipStart, mipEnd, layerStart, layerEnd}
 use Rattle.model.specs.Sets.{Numbers}
-use Rattle.model.specs.RangedStates.{Tiles}
+use Rattle.model.specs.RangedStates.{range, Tiles}
+use Rattle.model.specs.Texture.{freshMips}
 use Rattle.range_states.specs.View.{decode}
 use Rattle.range_isolate.specs.Isolation.{IsolateRoom}
 use Rattle.range_isolate.specs.Tiling.{isolate-room}
-use Rattle.set_storage.specs.Part.{baseOf, partOf, part-length, by-lt}
-use Rattle.set_storage.specs.Storage.{numbersOf, mipsIn, countAt, mipPart, mipOf, mipsOf, endHalf, layerLimitAt, layersAt, mipLimitAt}
-use Rattle.set_storage.specs.Frames.{Measured, MipsBecome, MipReady, mip-is, mip-put, room-of, mips-top, measured-then, mips-same}
+use Rattle.set_storage.specs.Part.{baseOf, partOf, part-length}
+use Rattle.set_storage.specs.Storage.{numbersOf, mipsIn, countAt, mipPart, mipOf, mipsOf, endHalf, complexAt, layerLimitAt, layersAt, mipLimitAt}
+use Rattle.set_storage.specs.Frames.{Measured, MipsBecome, MipReady, mip-is, mip-at, mip-put, room-of}
 use Rattle.set_storage.specs.Locate.{LocatedAt}
 use Rattle.set_storage.specs.declared.Located.{Located}
+use Rattle.set_storage.specs.Texture.{TextureReady, TextureHeld, SelectorWithin, tiles-few, texture-mips}
+use Rattle.model.specs.RangeLaws.{tiles-one}
 
 -- ---- A mip whose ranges tile its layers
 pub record MipTiled (d : Numbers) (h : ℕ) (t r : List ℕ) (i m layers : ℕ) : Type 0 where
@@ -28,13 +29,9 @@ pub record MipTiled (d : Numbers) (h : ℕ) (t r : List ℕ) (i m layers : ℕ) 
   pub low : layers ≤ d .layers
   pub tiled : Tiles 0 (mipOf d h t r i m) layers
 
--- its count is not past the room, since no ranges tile nothing
+-- its count is not past the room
 pub tiled-few : {d : Numbers} {h i m layers : ℕ} {t r : List ℕ} → MipTiled d h t r i m layers → getD t (countAt h i m) 0 ≤ d .layers
-unfolding mipOf
-tiled-few {d} {h} {i} {m} {layers} {t} {r} q =
-    by-lt (d .layers) (getD t (countAt h i m) 0)
-    (λ l. let z : Tiles 0 [] layers = rw (lt-leb (getD t (countAt h i m) 0) (d .layers) l) at (q .tiled) in absurd (omega (arith, q .some)))
-    (λ l. l)
+tiled-few {d} {h} {i} {m} {layers} {t} {r} q = tiles-few d h t r i m layers (q .some) (q .tiled)
 
 pub tiled-is : {d : Numbers} {h i m layers : ℕ} {t r : List ℕ} → MipTiled d h t r i m layers → mipOf d h t r i m ≡ decode (getD t (countAt h i m) 0) (mipPart d r i m)
 tiled-is {d} {h} {i} {m} {layers} {t} {r} q = mip-is d h t r i m (tiled-few q)
@@ -90,6 +87,18 @@ pub record ManyReady (d : Numbers) (h : ℕ) (t r : List ℕ) (i layers : ℕ) :
   pub low : layers ≤ d .layers
   pub tiled : (k : ℕ) → k < mipsIn d t i → Tiles 0 (mipOf d h t r i k) layers
 
+-- as the half holds it, where its word tells COMPLEX; w is how many layers it has
+pub many-of : {d : Numbers} {h i : ℕ} {sh : Extent} {t r : List ℕ} → TextureHeld d h t r i sh → getD t (h + i) 0 ≡ getD t complexAt 0 → (w : ℕ) → w ≡ sh .layers → ManyReady d h t r i w
+many-of x c w e =
+    let y = x .ready in
+    record {
+      measured = y .measured;
+      texture = y .index;
+      some = rw e (y .some);
+      low = rw e (y .low);
+      tiled = λ k l. rw e (x .tiled c k (rw (texture-mips y) at l));
+    }
+
 -- ---- A piece with the layers from a to e, on a tiled mip of texture i
 pub record PieceReady (h : ℕ) (t r : List ℕ) (i m a e : ℕ) : Type 0 where
   pub tiled : MipTiled (numbersOf t) h t r i m (getD t (layersAt i) 0)
@@ -108,3 +117,22 @@ pub record EveryReady (d : Numbers) (h : ℕ) (t r : List ℕ) (i mips : ℕ) : 
   pub measured : Measured d h t r
   pub texture : i < d .textures
   pub all : mips ≡ mipsIn d t i
+
+module _ {d : Numbers} {h i : ℕ} {sh : Extent} {t r : List ℕ} (x : TextureReady d h t r i sh) where
+  pub texture-selects : {q : Selector} → SelectorWithin sh q → Selects d t i q
+  texture-selects w = record { mips = w .order; layers = w .span; in-mips = rw (texture-mips x) (w .in-mips); in-layers = rw (x .layers) (w .in-layers) }
+
+  pub texture-every : EveryReady d h t r i (sh .mips)
+  texture-every = record { measured = x .measured; texture = x .index; all = sym (texture-mips x) }
+
+  -- mips that were made anew tile their layers
+  pub fresh-many : (st : ℕ) → mipsOf d h t r i ≡ freshMips sh st → (w : ℕ) → w ≡ sh .layers → ManyReady d h t r i w
+  fresh-many st e w z = record {
+    measured = x .measured;
+    texture = x .index;
+    some = rw z (x .some);
+    low = rw z (x .low);
+    tiled = λ k l.
+        let f : mipOf d h t r i k ≡ range 0 (sh .layers) st ∷ [] = sym (mip-at d h t r i k [] l) ∙ rw e (getD-replicate (sh .mips) k (range 0 (sh .layers) st ∷ []) [] (rw (texture-mips x) at l)) in
+        rw z (subst (λ (s : List Range). Tiles 0 s (sh .layers)) (sym f) (tiles-one (sh .layers) st (x .some)));
+  }

@@ -1,33 +1,28 @@
 -- One use of a texture, in one half: what is asked for, and the contracts of `insert` and `merge`.
-use Prim.Native.Nat.{ℕ, zero, suc, _+_, _≤_, _<_}
+use Prim.Native.Nat.{ℕ, _+_}
 use native.Mathlib.Omega.{arith}
-use native.Mathlib.Nat.{min-eq-left}
-use mathlib.Core.Path.{_≡_, refl, sym, ap, subst, _∙_}
+use mathlib.Core.Path.{_≡_, refl, sym, ap}
 use mathlib.Core.Bool.{Bool, true, false, false≢true}
 use mathlib.Core.List.{List, [], _∷_}
-use mathlib.Core.Option.{Option, none, some, Option·map}
+use mathlib.Core.Option.{Option, none, some}
 use lib.Bits.{bitOr}
-use lib.ListN.{length, getD, set, replicate, getD-replicate}
+use lib.ListN.{getD}
 use Rattle.model.specs.declared.UsageFlags.{UsageFlags}
 use Rattle.model.specs.declared.Extent.{Extent}
 use Rattle.model.specs.declared.Selector.{Selector}
 use Rattle.model.specs.declared.Range.{Range}
 use Rattle.model.specs.declared.InvalidUse.{InvalidUse}
-use Rattle.model.specs.Base.{if_then_else_, Stop, fine, stopped, ruled, orKeep, andThen, passes, walk}
+use Rattle.model.specs.Base.{if_then_else_, Stop, fine, stopped, andThen, walk}
 use Rattle.model.specs.StateRules.{invalidState, unite}
 use Rattle.model.specs.Sets.{Numbers}
-use Rattle.model.specs.Representation.{mipStart, mipEnd, layerStart, layerEnd, full}
-use Rattle.model.specs.RangedStates.{range, coalesce, paint, Tiles}
-use Rattle.model.specs.Texture.{Held, single, many, Given, givenSingle, givenMany, Piece, onMips, freshMips, paintAll, insert, spreadPiece, mergeMip, mergeEvery, invalidUse, asMany, merge}
-use Rattle.range_isolate.specs.Tiling.{tiles-one}
-use Rattle.set_storage.specs.Storage.{numbersOf, flagsOf, mipsIn, mipOf, mipsOf, heldOf, complexAt, layersAt, mipsAt}
-use Rattle.set_storage.specs.Stays.{Frame, HalfFrame}
-use Rattle.set_storage.specs.Frames.{Measured, MipsBecome, half-of, half-measured, half-word, mips-same, mip-at, mips-long}
-use Rattle.set_storage.specs.Slots.{HalfBecomes, become-single, become-many, held-many, held-single, half-low}
+use Rattle.model.specs.Representation.{layerStart, layerEnd, full}
+use Rattle.model.specs.RangedStates.{coalesce, paint}
+use Rattle.model.specs.Texture.{Held, single, many, Given, givenSingle, givenMany, onMips, freshMips, spreadPiece, mergeMip, mergeEvery, invalidUse, asMany, merge}
+use Rattle.set_storage.specs.Storage.{numbersOf, flagsOf, complexAt}
+use Rattle.set_storage.specs.Slots.{HalfBecomes}
+use Rattle.set_storage.specs.Texture.{TextureReady, RangesTile, SelectorWithin}
 use Rattle.texture_merge.specs.declared.Stopped.{Stopped}
-use Rattle.texture_merge.specs.declared.Stopped.the-variants.{Nowhere, At}
-use Rattle.texture_merge.specs.Walks.{stoppedOf, MipsWalked}
-use Rattle.texture_merge.specs.Ready.{ManyReady, Selects, EveryReady}
+use Rattle.texture_merge.specs.Walks.{stoppedOf}
 
 -- a use of all of a texture, or of what a selector names
 abbrev pub useOf : Bool → Selector → ℕ → Given
@@ -39,24 +34,15 @@ brokenUp sh was q u st = many (onMips q (λ s. coalesce (paint u (layerStart q) 
 
 -- what the checks and the test of the set have shown
 pub record UseReady (d : Numbers) (h : ℕ) (t r : List ℕ) (i : ℕ) (sh : Extent) (all : Bool) (q : Selector) (p : UsageFlags) (new : ℕ) : Type 0 where
-  pub measured : Measured d h t r
-  pub texture : i < d .textures
-  pub mips : getD t (mipsAt i) 0 ≡ sh .mips
-  pub layers : getD t (layersAt i) 0 ≡ sh .layers
-  pub top : sh .mips ≤ d .mips
-  pub low : sh .layers ≤ d .layers
-  pub some : 0 < sh .layers
+  pub texture : TextureReady d h t r i sh
+  pub selector : SelectorWithin sh q
   pub flags : p ≡ flagsOf t
-  pub order : mipStart q < mipEnd q
-  pub in-mips : mipEnd q ≤ sh .mips
-  pub span : layerStart q < layerEnd q
-  pub in-layers : layerEnd q ≤ sh .layers
   pub whole : all ≡ true → q ≡ full sh
   pub plain : new ≡ p .complex → ⊥
 
 -- what is held there already: ranges that tile the layers, or a state that with the new one is not COMPLEX
 pub record HeldReady (h : ℕ) (t r : List ℕ) (i : ℕ) (sh : Extent) (new : ℕ) : Type 0 where
-  pub tiled : getD t (h + i) 0 ≡ getD t complexAt 0 → (k : ℕ) → k < sh .mips → Tiles 0 (mipOf (numbersOf t) h t r i k) (sh .layers)
+  pub tiled : RangesTile (numbersOf t) h t r i sh
   pub plain : bitOr (getD t (h + i) 0) new ≡ getD t complexAt 0 → ⊥
 
 -- a Single texture in the state `cur`
@@ -70,70 +56,10 @@ pub record HalfMerged (d : Numbers) (h i : ℕ) (w : Stop InvalidUse Held) (t r 
   pub conflict : stoppedOf x ≡ w .conflict
   pub into : HalfBecomes d h i (w .value) t r t′ r′
 
--- ---- the mips
-module _ {d : Numbers} {h i : ℕ} {sh : Extent} {all : Bool} {q : Selector} {p : UsageFlags} {new : ℕ} {t r : List ℕ} (u : UseReady d h t r i sh all q p new) where
-  pub use-mips : mipsIn d t i ≡ sh .mips
-  unfolding mipsIn
-  use-mips = rw (u .mips) (min-eq-left (u .top))
-
-  pub use-selects : Selects d t i q
-  use-selects = record { mips = u .order; layers = u .span; in-mips = rw use-mips (u .in-mips); in-layers = rw (u .layers) (u .in-layers) }
-
-  pub use-every : EveryReady d h t r i (sh .mips)
-  use-every = record { measured = u .measured; texture = u .texture; all = sym use-mips }
-
--- the same after the half was changed
-pub use-then : {d : Numbers} {h i : ℕ} {sh : Extent} {all : Bool} {q : Selector} {p : UsageFlags} {new : ℕ} {t r t′ r′ : List ℕ} → UseReady d h t r i sh all q p new → HalfFrame d h i t r t′ r′ → UseReady d h t′ r′ i sh all q p new
-use-then {d} {h} {i} {sh} {all} {q} {p} {new} {t} {r} {t′} {r′} u f =
-    let low = half-low (u .measured) (u .texture) f in
-    record {
-      measured = half-measured (u .measured) f;
-      texture = u .texture;
-      mips = low (mipsAt i) (omega (arith, u .measured .textures, u .texture)) ∙ u .mips;
-      layers = low (layersAt i) (omega (arith, u .measured .textures, u .texture)) ∙ u .layers;
-      top = u .top;
-      low = u .low;
-      some = u .some;
-      flags = u .flags ∙ rw (low 3 (omega arith), low 4 (omega arith), low 5 (omega arith), low 6 (omega arith));
-      order = u .order;
-      in-mips = u .in-mips;
-      span = u .span;
-      in-layers = u .in-layers;
-      whole = u .whole;
-      plain = u .plain;
-    }
-
--- mips that were made anew tile their layers
-pub fresh-many : (st : ℕ) {d : Numbers} {h i : ℕ} {sh : Extent} {all : Bool} {q : Selector} {p : UsageFlags} {new : ℕ} {t r : List ℕ} → UseReady d h t r i sh all q p new → mipsOf d h t r i ≡ freshMips sh st → ManyReady d h t r i (sh .layers)
-fresh-many st {d} {h} {i} {sh} {all} {q} {p} {new} {t} {r} u e = record {
-  measured = u .measured;
-  texture = u .texture;
-  some = u .some;
-  low = u .low;
-  tiled = λ k l.
-      let x : mipOf d h t r i k ≡ range 0 (sh .layers) st ∷ [] = sym (mip-at d h t r i k [] l) ∙ rw e (getD-replicate (sh .mips) k (range 0 (sh .layers) st ∷ []) [] (rw (use-mips u) at l)) in
-      subst (λ (s : List Range). Tiles 0 s (sh .layers)) (sym x) (tiles-one (sh .layers) st (u .some));
-}
-
 -- ---- The model's merge of one use, case by case
 -- with a state that has another bit than COMPLEX, for a part
 pub use-with : {d : Numbers} {h i : ℕ} {sh : Extent} {all : Bool} {q : Selector} {p : UsageFlags} {new : ℕ} {t r : List ℕ} (u : ℕ) → UseReady d h t r i sh all q p new → (u ≡ p .complex → ⊥) → UseReady d h t r i sh false q p u
-use-with u x c = record {
-  measured = x .measured;
-  texture = x .texture;
-  mips = x .mips;
-  layers = x .layers;
-  top = x .top;
-  low = x .low;
-  some = x .some;
-  flags = x .flags;
-  order = x .order;
-  in-mips = x .in-mips;
-  span = x .span;
-  in-layers = x .in-layers;
-  whole = λ z. absurd (false≢true z);
-  plain = c;
-}
+use-with u x c = record { texture = x .texture; selector = x .selector; flags = x .flags; whole = λ z. absurd (false≢true z); plain = c }
 
 pub united : (p : UsageFlags) (old new u : ℕ) → unite p old new ≡ some u → u ≡ bitOr old new
 unfolding unite

@@ -1,11 +1,10 @@
 -- A walk over the mips of a texture, in place, that stops at the first conflict: the storage on the way.
-use Prim.Native.Nat.{ℕ, zero, suc, _+_, _-_, _≤_, _<_}
+use Prim.Native.Nat.{ℕ, _+_, _≤_, _<_}
 use native.Mathlib.Omega.{arith}
-use mathlib.Core.Path.{_≡_, refl, sym, ap, _∙_}
-use mathlib.Core.List.{List, [], _∷_}
+use mathlib.Core.Path.{_≡_, sym, ap, _∙_}
+use mathlib.Core.List.{List, []}
 use mathlib.Core.Option.{Option, none, some}
 use lib.ListN.{length, getD, set, drop}
-use lib.Seq.{getD-set-other}
 use Rattle.model.specs.declared.Range.{Range}
 use Rattle.model.specs.declared.InvalidUse.{InvalidUse}
 use Rattle.model.specs.Base.{Stop, fine, walk}
@@ -13,7 +12,7 @@ use Rattle.model.specs.Sets.{Numbers}
 use Rattle.set_storage.specs.Storage.{mipsIn, mipOf, mipsOf, mipsAt, startHalf}
 use Rattle.set_storage.specs.Stays.{Frame, keeps-refl, keeps-then}
 use Rattle.set_storage.specs.Frames.{Measured, MipsBecome, MipReady, frame-below, measured-then, mips-same, mips-top, mip-at, mips-long}
-use Rattle.texture_merge.specs.Walking.{Walking, walk-start, walk-turn, walk-stop, walk-end, walk-skip}
+use Rattle.texture_merge.specs.Walking.{InPlace, place-skip, place-turn, walk-stop, walk-end}
 use Rattle.texture_merge.specs.declared.Stopped.{Stopped}
 use Rattle.texture_merge.specs.declared.Stopped.the-variants.{Nowhere, At}
 
@@ -31,19 +30,38 @@ pub record MipWalked (d : Numbers) (h i m : ℕ) (w : Stop InvalidUse (List Rang
   pub conflict : c ≡ w .conflict
   pub into : MipsBecome d h i (set (mipsOf d h t r i) m (w .value)) t r t′ r′
 
+-- ---- The mips of texture i in one half, where m is the next
+module _ (f : ℕ → List Range → Stop InvalidUse (List Range)) (d : Numbers) (h i : ℕ) (t₀ r₀ t r : List ℕ) {m : ℕ}
+    (w : InPlace [] f (mipsOf d h t₀ r₀ i) m (mipsOf d h t r i)) (n : mipsIn d t i ≡ mipsIn d t₀ i) (b : m < mipsIn d t₀ i) where
+  here : getD (mipsOf d h t r i) m [] ≡ mipOf d h t r i m
+  here = mip-at d h t r i m [] (rw n b)
+
+  in-list : m < length (mipsOf d h t r i)
+  in-list = rw (mips-long d h t r i, n) b
+
+  -- it is as it was
+  pub next-mip : mipOf d h t r i m ≡ mipOf d h t₀ r₀ i m
+  next-mip = sym here ∙ w .left m (omega arith) ∙ mip-at d h t₀ r₀ i m [] b
+
+  module _ (t′ r′ : List ℕ) (e : mipsOf d h t′ r′ i ≡ set (mipsOf d h t r i) m (f m (mipOf d h t r i m) .value)) where
+    set-is : mipsOf d h t′ r′ i ≡ set (mipsOf d h t r i) m (f m (getD (mipsOf d h t r i) m []) .value)
+    set-is = rw here e
+
+    pub next-turn : f m (mipOf d h t r i m) .conflict ≡ none → InPlace [] f (mipsOf d h t₀ r₀ i) (m + 1) (mipsOf d h t′ r′ i)
+    next-turn c = place-turn [] f w in-list (mipsOf d h t′ r′ i) set-is (ap (λ (y : List Range). f m y .conflict) here ∙ c)
+
+    pub next-stop : (x : InvalidUse) → f m (mipOf d h t r i m) .conflict ≡ some x → (mipsOf d h t′ r′ i ≡ walk f 0 (mipsOf d h t₀ r₀ i) .value) × (some x ≡ walk f 0 (mipsOf d h t₀ r₀ i) .conflict)
+    next-stop x c = walk-stop f (w .walking) [] in-list (mipsOf d h t′ r′ i) x set-is (ap (λ (y : List Range). f m y .conflict) here ∙ c)
+
+-- ---- and nothing else of the storage changes
 module _ (f : ℕ → List Range → Stop InvalidUse (List Range)) (d : Numbers) (h i : ℕ) (t₀ r₀ : List ℕ) where
   pub record MipWalk (m : ℕ) (t r : List ℕ) : Type 0 where
-    pub walking : Walking f (mipsOf d h t₀ r₀ i) m (mipsOf d h t r i)
-    pub left : (k : ℕ) → m ≤ k → k < mipsIn d t₀ i → mipOf d h t r i k ≡ mipOf d h t₀ r₀ i k
+    pub walking : InPlace [] f (mipsOf d h t₀ r₀ i) m (mipsOf d h t r i)
     pub frame : Frame d h i t₀ r₀ t r
 
   -- the mips before `lo` are passed over
   pub walk-from : (lo : ℕ) → lo ≤ mipsIn d t₀ i → ((j : ℕ) (x : List Range) → j < lo → f j x ≡ fine x) → MipWalk lo t₀ r₀
-  walk-from lo q under = record {
-    walking = walk-skip f [] (mipsOf d h t₀ r₀ i) lo (rw (mips-long d h t₀ r₀ i) q) under;
-    left = λ k a b. refl;
-    frame = keeps-refl t₀ r₀;
-  }
+  walk-from lo q under = record { walking = place-skip [] f (mipsOf d h t₀ r₀ i) lo (rw (mips-long d h t₀ r₀ i) q) under; frame = keeps-refl t₀ r₀ }
 
   module _ {m : ℕ} {t r : List ℕ} (s : Measured d h t₀ r₀) (hi : i < d .textures) (w : MipWalk m t r) where
     pub walk-measured : Measured d h t r
@@ -55,47 +73,25 @@ module _ (f : ℕ → List Range → Stop InvalidUse (List Range)) (d : Numbers)
     pub walk-count : mipsIn d t i ≡ mipsIn d t₀ i
     walk-count = mips-same d t₀ t i (walk-word (mipsAt i) (omega (arith, s .textures)))
 
-    pub walk-ready : m < mipsIn d t₀ i → MipReady d h t r i m
-    walk-ready q = record { measured = walk-measured; texture = hi; mip = rw walk-count q; top = mips-top d t i }
+    module _ (b : m < mipsIn d t₀ i) where
+      pub walk-ready : MipReady d h t r i m
+      walk-ready = record { measured = walk-measured; texture = hi; mip = rw walk-count b; top = mips-top d t i }
 
-    module _ {c : Option InvalidUse} {t′ r′ : List ℕ} (q : m < mipsIn d t₀ i) (k : MipWalked d h i m (f m (mipOf d h t r i m)) c t r t′ r′) where
-      here : getD (mipsOf d h t r i) m [] ≡ mipOf d h t r i m
-      here = mip-at d h t r i m [] (rw walk-count q)
+      pub walk-here : mipOf d h t r i m ≡ mipOf d h t₀ r₀ i m
+      walk-here = next-mip f d h i t₀ r₀ t r (w .walking) walk-count b
 
-      in-list : m < length (mipsOf d h t r i)
-      in-list = rw (mips-long d h t r i, walk-count) q
+      module _ {c : Option InvalidUse} {t′ r′ : List ℕ} (k : MipWalked d h i m (f m (mipOf d h t r i m)) c t r t′ r′) where
+        pub walk-on : c ≡ none → MipWalk (m + 1) t′ r′
+        walk-on e = record {
+          walking = next-turn f d h i t₀ r₀ t r (w .walking) walk-count b t′ r′ (k .into .mips) (sym (k .conflict) ∙ e);
+          frame = keeps-then (w .frame) (k .into .frame);
+        }
 
-      set-is : mipsOf d h t′ r′ i ≡ set (mipsOf d h t r i) m (f m (getD (mipsOf d h t r i) m []) .value)
-      set-is = rw here (k .into .mips)
-
-      conflict-is : f m (getD (mipsOf d h t r i) m []) .conflict ≡ c
-      conflict-is = rw here (sym (k .conflict))
-
-      frame-is : Frame d h i t₀ r₀ t′ r′
-      frame-is = keeps-then (w .frame) (k .into .frame)
-
-      count-is : mipsIn d t′ i ≡ mipsIn d t₀ i
-      count-is = mips-same d t₀ t′ i (frame-below frame-is (mipsAt i) (omega (arith, s .half .0, s .textures)))
-
-      -- a mip that comes later is not touched
-      later : (x : ℕ) → m + 1 ≤ x → x < mipsIn d t₀ i → mipOf d h t′ r′ i x ≡ mipOf d h t₀ r₀ i x
-      later x a b =
-          sym (mip-at d h t′ r′ i x [] (rw count-is b))
-          ∙ rw set-is (getD-set-other (mipsOf d h t r i) m x _ [] (λ z. omega arith))
-          ∙ mip-at d h t r i x [] (rw walk-count b) ∙ w .left x (omega arith) b
-
-      pub walk-on : c ≡ none → MipWalk (m + 1) t′ r′
-      walk-on e = record {
-        walking = walk-turn f (w .walking) [] in-list (mipsOf d h t′ r′ i) set-is (conflict-is ∙ e);
-        left = later;
-        frame = frame-is;
-      }
-
-      pub walk-stopped : (x : InvalidUse) → c ≡ some x → MipsWalked d h i (walk f 0 (mipsOf d h t₀ r₀ i)) t₀ r₀ (At x) t′ r′
-      walk-stopped x e =
-          let y = walk-stop f (w .walking) [] in-list (mipsOf d h t′ r′ i) x set-is (conflict-is ∙ e) in
-          record { conflict = y .1; into = record { mips = y .0; frame = frame-is } }
+        pub walk-stopped : (x : InvalidUse) → c ≡ some x → MipsWalked d h i (walk f 0 (mipsOf d h t₀ r₀ i)) t₀ r₀ (At x) t′ r′
+        walk-stopped x e =
+            let y = next-stop f d h i t₀ r₀ t r (w .walking) walk-count b t′ r′ (k .into .mips) x (sym (k .conflict) ∙ e) in
+            record { conflict = y .1; into = record { mips = y .0; frame = keeps-then (w .frame) (k .into .frame) } }
 
     -- what is left is passed over
     pub walk-done : walk f m (drop m (mipsOf d h t r i)) ≡ fine (drop m (mipsOf d h t r i)) → MipsWalked d h i (walk f 0 (mipsOf d h t₀ r₀ i)) t₀ r₀ Nowhere t r
-    walk-done e = let y = walk-end f (w .walking) e in record { conflict = y .1; into = record { mips = y .0; frame = w .frame } }
+    walk-done e = let y = walk-end f (w .walking .walking) e in record { conflict = y .1; into = record { mips = y .0; frame = w .frame } }

@@ -18,7 +18,7 @@ use set_storage::wide;
 use texture_mips::Met;
 ghost use mathlib.Core.Path.{_≡_};
 ghost use mathlib.Core.List.{[], _∷_};
-ghost use Prim.Native.Nat.{suc, _+_, _≤_, _<_};
+ghost use Prim.Native.Nat.{suc, _+_, _<_};
 ghost use lib.ListN.{getD, replicate};
 ghost use Rattle.model.specs.Base.{walk};
 ghost use Rattle.model.specs.Representation.{select, layerStart, layerEnd};

@@ -1,11 +1,18 @@
-// Texture: one texture of a set, in its storage: `insert`, `merge` and `update` of texture.rs, from each source.
+// Texture merge: one half of one texture of a set, in its storage: `insert` and `merge` of texture.rs, from each source.
 //
-// Place in the picture: over `set_storage`, which says where a texture lies, and `texture_mips`, which changes the ranges of one mip; under the
-// public calls. Each function changes one half (a scope's states, or a tracker's start or end) of texture i, and its contract says what
-// the model's definition makes of it (specs/Storage: `mipsOf`, `heldOf`) and that nothing else of the storage is touched (`Frame`).
+// Place in the picture: over `set_storage`, which says where a texture lies, and `texture_mips`, which changes the ranges of one mip; under
+// `texture_update`, which changes both halves of a tracker's texture, and the public calls.
 //
-//     mip      one mip: its ranges are lent on to `texture_mips`, and its new count is written
-//     every    every mip, or those of a selector
+//     mip        one mip: its ranges are borrowed by `texture_mips`, and its new count is written
+//     every      every mip, or those of a selector, up to the first conflict
+//     using      one use of the texture, for all of it or for a selector
+//     giving     the ranges of another set's texture, one after another
+//     from_set   another set's texture
+//
+// What holds: a texture's words tell its extent, and where the half is Many its ranges tile the layers; every function requires that
+// (set_storage/specs/Texture: `TextureReady`, `TextureHeld`, which `UseReady`, `SetReady` and `MergeReady` extend) and keeps it. The half
+// becomes what the model's definition gives (`HalfBecomes`, `MipsBecome`), a conflict is the model's (`HalfMerged`, `MipsWalked`), and no
+// other number of the storage changes (`HalfFrame`, `Frame`).
 pub mod every;
 pub mod from_set;
 pub mod giving;

@@ -5,7 +5,6 @@ use set_storage::locate;
 use set_storage::set_count;
 use texture_mips::Met;
 ghost use mathlib.Core.List.{[], _∷_};
-ghost use Prim.Native.Nat.{_+_, _≤_, _<_};
 ghost use lib.ListN.{getD, set};
 ghost use Rattle.model.specs.RangedStates.{range, coalesce, paint as paintOf};
 ghost use Rattle.model.specs.Texture.{mergeEvery};

@@ -17,7 +17,7 @@ use usage::unite;
 ghost use mathlib.Core.Path.{_≡_};
 ghost use mathlib.Core.Bool.{false};
 ghost use Prim.Native.Nat.{_+_, _≤_, _<_};
-ghost use lib.ListN.{getD, set};
+ghost use lib.ListN.{set};
 ghost use Rattle.model.specs.Texture.{insert, merge, single};
 ghost use Rattle.set_storage.specs.Storage.{numbersOf, heldOf, endHalf};
 ghost use Rattle.set_storage.specs.Slots.{HalfBecomes, ownWords};

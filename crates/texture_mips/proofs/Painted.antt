@@ -1,8 +1,8 @@
 -- A run that takes one state, and a mip made anew.
-use Prim.Native.Nat.{ℕ, _+_, _*_, _≤_, _<_}
+use Prim.Native.Nat.{ℕ, _+_, _*_, _≤_}
 use native.Mathlib.Omega.{arith}
 use mathlib.Core.Path.{_≡_, refl, ap, _∙_}
-use mathlib.Core.Bool.{Bool, true, false}
+use mathlib.Core.Bool.{Bool, false}
 use mathlib.Core.List.{List, [], _∷_, _++_, map}
 use lib.ListN.{length, drop}
 use lib.Seq.{take-suc-set}
@@ -10,11 +10,10 @@ use Rattle.model.specs.declared.Range.{Range}
 use Rattle.model.specs.RangedStates.{range, inState, isolate, coalesce, paint}
 use Rattle.range_states.specs.View.{view, decode, Put, Becomes, view-long, becomes-live}
 use Rattle.range_states.specs.Coalescing.{Coalesced}
-use Rattle.range_isolate.specs.Isolation.{Isolating, IsolateRoom}
-use Rattle.range_isolate.specs.Tiling.{tiles-one, isolate-room}
+use Rattle.range_isolate.specs.Isolation.{Isolating}
 use Rattle.range_isolate.specs.declared.isolation.Isolated.{Isolated}
 use Rattle.texture_mips.specs.Pass.{passed}
-use Rattle.texture_mips.specs.Paint.{Leaves, coalescedIf, spreadOn}
+use Rattle.texture_mips.specs.Paint.{Leaves}
 use Rattle.texture_mips.proofs.Passing.{Passing, finish}
 use Rattle.texture_mips.proofs.Runs.{coalesced-live, ran}
 
@@ -40,22 +39,9 @@ paint-is {a} {e} {u} st {l} {len} {i} {l₁} {l₂} is b =
       seen = ran (map (inState st)) l₁ (i .len) (x .before) (x .run) (x .after) (i .position) (i .end) l₂ (omega (arith, is .fits, is .into .long)) (becomes-live (is .into)) (is .position) (is .end) b;
     }
 
-pub join-yes : {l : List ℕ} {len c : ℕ} {l′ : List ℕ} {j : Bool} → j ≡ true → 3 * len ≤ length l → Coalesced l len c l′ → Leaves l c (coalescedIf j (decode len l)) l′
-join-yes {l} {len} e h c = record { long = c .into .long; fits = omega (arith, c .few); seen = rw e (coalesced-live c) }
-
-pub join-no : {l : List ℕ} {len : ℕ} {j : Bool} → j ≡ false → 3 * len ≤ length l → Leaves l len (coalescedIf j (decode len l)) l
-join-no e h = record { long = refl; fits = h; seen = rw e }
-
-pub update-is : (a e u st : ℕ) {l : List ℕ} (len : ℕ) {n c : ℕ} {l₁ l₂ : List ℕ} → Leaves l n (paint u a e st (decode len l)) l₁ → Leaves l₁ c (coalesce (decode n l₁)) l₂ → Leaves l c (coalesce (paint u a e st (decode len l))) l₂
-update-is a e u st len f g = record { long = g .long ∙ f .long; fits = omega (arith, g .fits, f .long); seen = g .seen ∙ rw (f .seen) }
+pub update-is : (a e u st : ℕ) {l : List ℕ} (len : ℕ) {n c : ℕ} {l₁ l₂ : List ℕ} → Leaves l n (paint u a e st (decode len l)) l₁ → Coalesced l₁ n c l₂ → Leaves l c (coalesce (paint u a e st (decode len l))) l₂
+update-is a e u st len f g = record { long = g .into .long ∙ f .long; fits = omega (arith, g .few, f .fits); seen = coalesced-live g ∙ rw (f .seen) }
 
 pub fresh-is : {l l′ : List ℕ} {layers st : ℕ} → 3 ≤ length l → Put l 0 (range 0 layers st) l′ → Leaves l 1 (range 0 layers st ∷ []) l′
 fresh-is {l} {l′} {layers} {st} h p =
     record { long = p .long; fits = omega arith; seen = rw (p .seen) (take-suc-set (view l) 0 (range 0 layers st) (view-long l 1 (omega arith))) }
-
-pub spread-room : {l l₁ : List ℕ} {layers was a e : ℕ} (u : ℕ) → 3 * layers ≤ length l → a < e → e ≤ layers → Leaves l 1 (range 0 layers was ∷ []) l₁ → IsolateRoom l₁ 1 a e u
-spread-room {l} {l₁} {layers} {was} {a} {e} u h k q f = isolate-room l₁ 1 a e u layers (omega (arith, f .long)) (omega (arith, f .long)) (rw (f .seen) (tiles-one layers was (omega arith))) k q
-
-pub spread-is : {l l₁ l₂ l₃ : List ℕ} (layers was a e u st : ℕ) {n c : ℕ} (j : Bool) → Leaves l 1 (range 0 layers was ∷ []) l₁ → Leaves l₁ n (paint u a e st (decode 1 l₁)) l₂ → Leaves l₂ c (coalescedIf j (decode n l₂)) l₃ → Leaves l c (spreadOn j layers was a e u st) l₃
-unfolding spreadOn
-spread-is layers was a e u st j f g h = record { long = h .long ∙ g .long ∙ f .long; fits = omega (arith, h .fits, g .long, f .long); seen = h .seen ∙ rw (g .seen, f .seen) }

@@ -1,26 +1,22 @@
 -- A mip that tiles its layers goes on tiling them under every function here, and has room for it with as many records as layers.
 use Prim.Native.Nat.{ℕ, suc, _+_, _*_, _≤_, _<_}
 use native.Mathlib.Omega.{arith}
-use mathlib.Core.Path.{_≡_, refl, sym, ap, _∙_}
-use mathlib.Core.Bool.{Bool}
+use mathlib.Core.Path.{_≡_, refl}
 use mathlib.Core.List.{List, [], _∷_, _++_}
 use mathlib.Core.Option.{Option, none, some}
 use lib.Dec.{eqb}
 use lib.ListN.{length}
-use lib.Seq.{length-take-le}
 use Rattle.model.specs.declared.Range.{Range}
 use Rattle.model.specs.declared.UsageFlags.{UsageFlags}
-use Rattle.model.specs.declared.InvalidUse.{InvalidUse}
-use Rattle.model.specs.Base.{Stop, walk}
+use Rattle.model.specs.Base.{walk}
 use Rattle.model.specs.StateRules.{uniteKnown}
-use Rattle.model.specs.RangedStates.{range, isolate, paint, coalesce, Tiles}
-use Rattle.model.specs.Texture.{mergeRange, settled, mergeEvery, learn}
-use Rattle.range_states.specs.View.{view, decode, view-long}
-use Rattle.range_isolate.specs.Tiling.{by-test, tiles-count, tiles-append, isolate-cuts, isolate-few, paint-tiles, coalesce-tiles, tiles-one}
-use Rattle.texture_mips.specs.declared.uniting.Merged.{Merged}
-use Rattle.texture_mips.specs.Merge.{mergeRun, Walked}
-use Rattle.texture_mips.specs.Paint.{Leaves, spreadOn}
+use Rattle.model.specs.RangedStates.{isolate, paint, coalesce, Tiles}
+use Rattle.model.specs.Texture.{mergeRange, settled, learn}
+use Rattle.range_states.specs.View.{decode}
+use Rattle.texture_mips.specs.Merge.{mergeRun}
 use Rattle.texture_mips.specs.Learn.{learnt, LearnFits, LearnRoom}
+use Rattle.model.specs.BoolLaws.{by-test}
+use Rattle.model.specs.RangeLaws.{tiles-append, isolate-cuts, isolate-few, paint-tiles, coalesce-tiles}
 
 -- ---- merging: a range keeps its layers
 walk-tiles : (p : UsageFlags) (k new i : ℕ) (s : List Range) (a e : ℕ) → Tiles a s e → Tiles a (walk (λ (j : ℕ). mergeRange p k new) i s .value) e
@@ -44,21 +40,9 @@ run-tiles p k a e new s w h g t =
     settled-tiles (v .conflict) (i .before ++ (v .value ++ i .after)) 0 w
     (tiles-append (i .before) (v .value ++ i .after) 0 a w (c .before) (tiles-append (v .value) (i .after) a e w (walk-tiles p k new 0 (i .run) a e (c .run)) (c .after)))
 
-pub every-tiles : (p : UsageFlags) (new k : ℕ) (s : List Range) (w : ℕ) → Tiles 0 s w → Tiles 0 (mergeEvery p new k s .value) w
-unfolding mergeEvery
-every-tiles p new k s w t =
-    let v = walk (λ (j : ℕ). mergeRange p k new) 0 s in
-    settled-tiles (v .conflict) (v .value) 0 w (walk-tiles p k new 0 s 0 w t)
-
 -- ---- painting
 pub update-tiles : (u a e st : ℕ) (s : List Range) (w : ℕ) → a < e → e ≤ w → Tiles 0 s w → Tiles 0 (coalesce (paint u a e st s)) w
 update-tiles u a e st s w h g t = coalesce-tiles (paint u a e st s) 0 w (paint-tiles s 0 a e u st w (omega arith) h g t)
-
-pub spread-tiles : (j : Bool) (layers was a e u st : ℕ) → a < e → e ≤ layers → Tiles 0 (spreadOn j layers was a e u st) layers
-unfolding spreadOn
-spread-tiles j layers was a e u st h g =
-    let t = paint-tiles (range 0 layers was ∷ []) 0 a e u st layers (omega arith) h g (tiles-one layers was (omega arith)) in
-    by-test (λ (x : List Range). Tiles 0 x layers) j (λ b. coalesce-tiles (paint u a e st (range 0 layers was ∷ [])) 0 layers t) (λ b. t)
 
 -- ---- learning: the ranges of the end lie within the layers
 -- each range has layers, and none past w
@@ -93,14 +77,3 @@ tiles-within (r ∷ s) a e w h t = (omega arith, omega (arith, past s (r .end) e
     past : (s : List Range) (a e : ℕ) → Tiles a s e → a ≤ e
     past [] a e t = omega arith
     past (x ∷ s) a e t = omega (arith, past s (x .end) e (t .2))
-
--- ---- the told count is the number of ranges, so it is at most the layers
-pub leaves-count : (l : List ℕ) (n : ℕ) (xs : List Range) (l′ : List ℕ) → Leaves l n xs l′ → length xs ≡ n
-leaves-count l n xs l′ h = ap length (sym (h .seen)) ∙ length-take-le n (view l′) (view-long l′ n (omega (arith, h .fits, h .long)))
-
-pub leaves-few : (l : List ℕ) (n : ℕ) (xs : List Range) (l′ : List ℕ) (w : ℕ) → Leaves l n xs l′ → Tiles 0 xs w → n ≤ w
-leaves-few l n xs l′ w h t = omega (arith, leaves-count l n xs l′ h, tiles-count xs 0 w t)
-
-pub walked-few : (new : ℕ) (v : ℕ → Stop InvalidUse (List Range)) (l : List ℕ) (r : Merged) (l′ : List ℕ) (k w : ℕ) → Walked new v l r l′ → Tiles 0 (v k .value) w → r .len ≤ w
-walked-few new v l r l′ k w h t =
-    leaves-few l (r .len) (v k .value) l′ w (record { long = h .long; fits = h .fits; seen = h .seen k }) t

@@ -5,12 +5,12 @@ use range_states::coalesce;
 use range_states::get;
 use range_states::put;
 ghost use mathlib.Core.List.{[], _∷_, _++_, map};
-ghost use Prim.Native.Nat.{_*_, _≤_, _<_};
+ghost use Prim.Native.Nat.{_*_, _≤_};
 ghost use lib.ListN.{length, drop};
 ghost use Rattle.model.specs.RangedStates.{range, inState, coalesce as coalesceOf, paint as paintOf};
 ghost use Rattle.range_states.specs.View.{decode, Becomes};
 ghost use Rattle.range_isolate.specs.Isolation.{IsolateRoom};
-ghost use Rattle.texture_mips.specs.Paint.{Leaves, coalescedIf, spreadOn};
+ghost use Rattle.texture_mips.specs.Paint.{Leaves};
 
 // The ranges from `from` up to `to` take a state.
 pub fn set_run(s: &mut [u32], from: usize, to: usize, state: u32)
@@ -44,24 +44,13 @@ pub fn paint(s: &mut [u32], len: usize, start: u32, end: u32, unknown: u32, stat
     i.len
 }
 
-// `coalesce`, where asked for: a first insert does not.
-pub fn coalesce_if(s: &mut [u32], len: usize, join: bool) -> usize
-    requires { ⌜ 3 * len ≤ length (now s) ⌝ }
-    ensures { λ r. ⌜ Leaves (now (s .entry)) r (coalescedIf join (decode len (now (s .entry)))) (now (s .exit)) ⌝ }
-{
-    if join {
-        return coalesce(s, len);
-    }
-    len
-}
-
 // `update` on a mip of the end: the layers of a piece take its state, and the mip is coalesced.
 pub fn update(s: &mut [u32], len: usize, start: u32, end: u32, unknown: u32, state: u32) -> usize
     requires { ⌜ IsolateRoom (now s) len start end unknown ⌝ }
     ensures { λ r. ⌜ Leaves (now (s .entry)) r (coalesceOf (paintOf unknown start end state (decode len (now (s .entry))))) (now (s .exit)) ⌝ }
 {
     let n = paint(s, len, start, end, unknown, state);
-    coalesce_if(s, n, true)
+    coalesce(s, n)
 }
 
 // One range over all layers.
@@ -78,23 +67,4 @@ pub fn fresh(s: &mut [u32], layers: u32, state: u32)
             state,
         },
     );
-}
-
-// One range over all layers, of which those from `start` to `end` take a state; coalesced or not.
-pub fn spread(
-    s: &mut [u32],
-    layers: u32,
-    was: u32,
-    start: u32,
-    end: u32,
-    unknown: u32,
-    state: u32,
-    join: bool,
-) -> usize
-    requires { ⌜ (3 * layers ≤ length (now s)) × ((start < end) × (end ≤ layers)) ⌝ }
-    ensures { λ r. ⌜ Leaves (now (s .entry)) r (spreadOn join layers was start end unknown state) (now (s .exit)) ⌝ }
-{
-    fresh(s, layers, was);
-    let n = paint(s, 1, start, end, unknown, state);
-    coalesce_if(s, n, join)
 }

@@ -1,5 +1,5 @@
 -- `update` of one use, case by case: what the code leaves is what the model's update gives.
-use Prim.Native.Nat.{ℕ, _+_}
+use Prim.Native.Nat.{ℕ}
 use native.Mathlib.Omega.{arith}
 use mathlib.Core.Path.{_≡_, refl, sym, ap, subst, _∙_}
 use mathlib.Core.List.{List}
@@ -15,7 +15,8 @@ use Rattle.set_storage.specs.Storage.{numbersOf, startHalf, endHalf, mipsOf, he
 use Rattle.set_storage.specs.Frames.{Measured, MipsBecome}
 use Rattle.set_storage.specs.Slots.{HalfBecomes, become-single, become-many, held-single, held-many, half-low}
 use Rattle.texture_merge.specs.Uses.{brokenUp}
-use Rattle.texture_update.specs.Both.{BothBecome, BothMips, low-of, measured-low, start-then-end, end-alone}
+use Rattle.set_storage.specs.Texture.{measured-low}
+use Rattle.texture_update.specs.Both.{BothBecome, BothMips, start-then-end, end-alone, mips-become}
 use Rattle.texture_update.specs.Update.{pieceOf, UpdateReady, Selecting, complex-is, state-single, state-kept, state-learnt, use-single, use-kept, use-learnt}
 
 module _ {t s e : List ℕ} {i : ℕ} {sh : Extent} {p : UsageFlags} {new : ℕ} (r : UpdateReady t s e i sh p new) where
@@ -43,25 +44,25 @@ module _ {t s e : List ℕ} {i : ℕ} {sh : Extent} {p : UsageFlags} {new : ℕ}
     pub ended : {y w : Held} {t′ e′ : List ℕ} → heldOf (numbersOf t) endHalf t e i ≡ y → update p sh (record { start = heldOf (numbersOf t) startHalf t s i; end = y }) g ≡ record { start = heldOf (numbersOf t) startHalf t s i; end = w } → HalfBecomes (numbersOf t) endHalf i w t e t′ e′
         → BothBecome (numbersOf t) i (update p sh (endsOf (numbersOf t) t s e i) g) t s e t′ s e′
     ended {y} {w} {t′} {e′} b u h =
-        subst (λ (x : Ends Held). BothBecome (numbersOf t) i x t s e t′ s e′) (held-is (record { start = heldOf (numbersOf t) startHalf t s i; end = w }) refl b u) (end-alone (r .starts) (r .ends) (r .texture) h)
+        subst (λ (x : Ends Held). BothBecome (numbersOf t) i x t s e t′ s e′) (held-is (record { start = heldOf (numbersOf t) startHalf t s i; end = w }) refl b u) (end-alone (r .start .ready .measured) (r .end .ready .measured) (r .start .ready .index) h)
 
   -- ---- one state for all
   pub all-single : (getD t (stateAt endHalf i) 0 ≡ p .complex → ⊥) → BothBecome (numbersOf t) i (update p sh (endsOf (numbersOf t) t s e i) (givenSingle new)) t s e (set t (stateAt endHalf i) new) s e
-  all-single n = ended (givenSingle new) (end-single n) (state-single p sh new (heldOf (numbersOf t) startHalf t s i) (getD t (stateAt endHalf i) 0)) (become-single (r .ends) (r .texture) plain)
+  all-single n = ended (givenSingle new) (end-single n) (state-single p sh new (heldOf (numbersOf t) startHalf t s i) (getD t (stateAt endHalf i) 0)) (become-single (r .end .ready .measured) (r .end .ready .index) plain)
 
   pub all-kept : getD t (stateAt endHalf i) 0 ≡ p .complex → (getD t (stateAt startHalf i) 0 ≡ p .complex → ⊥) → BothBecome (numbersOf t) i (update p sh (endsOf (numbersOf t) t s e i) (givenSingle new)) t s e (set t (stateAt endHalf i) new) s e
   all-kept c n =
-      ended (givenSingle new) (end-many c) (rw (start-single n) (state-kept p sh new (getD t (stateAt startHalf i) 0) (mipsOf (numbersOf t) endHalf t e i))) (become-single (r .ends) (r .texture) plain)
+      ended (givenSingle new) (end-many c) (rw (start-single n) (state-kept p sh new (getD t (stateAt startHalf i) 0) (mipsOf (numbersOf t) endHalf t e i))) (become-single (r .end .ready .measured) (r .end .ready .index) plain)
 
   pub all-learnt : {t₁ s′ : List ℕ} → getD t (stateAt endHalf i) 0 ≡ p .complex → getD t (stateAt startHalf i) 0 ≡ p .complex → MipsBecome (numbersOf t) startHalf i (learnAll (λ k x. x) (p .unknown) new 0 (mipsOf (numbersOf t) endHalf t e i) (mipsOf (numbersOf t) startHalf t s i)) t s t₁ s′
       → BothBecome (numbersOf t) i (update p sh (endsOf (numbersOf t) t s e i) (givenSingle new)) t s e (set t₁ (stateAt endHalf i) new) s′ e
   all-learnt {t₁} {s′} c d b =
-      let a = become-many (r .starts) (r .texture) (d ∙ complex-is r) b in
-      let low = half-low (r .starts) (r .texture) (a .frame) in
-      let m : Measured (numbersOf t) endHalf t₁ e = measured-low low refl (a .frame .words .long) (r .ends) in
+      let a = become-many (r .start .ready .measured) (r .start .ready .index) (d ∙ complex-is r) b in
+      let low = half-low (r .start .ready .measured) (r .start .ready .index) (a .frame) in
+      let m : Measured (numbersOf t) endHalf t₁ e = measured-low low refl (a .frame .words .long) (r .end .ready .measured) in
       subst (λ (x : Ends Held). BothBecome (numbersOf t) i x t s e (set t₁ (stateAt endHalf i) new) s′ e)
       (held-is (givenSingle new) _ (start-many d) (end-many c) (state-learnt p sh new (mipsOf (numbersOf t) startHalf t s i) (mipsOf (numbersOf t) endHalf t e i)))
-      (start-then-end (r .starts) (r .ends) (r .texture) a (become-single m (r .texture) (λ z. plain (z ∙ low 5 (omega arith)))))
+      (start-then-end (r .start .ready .measured) (r .end .ready .measured) (r .start .ready .index) a (become-single m (r .end .ready .index) (λ z. plain (z ∙ low 5 (omega arith)))))
 
   -- ---- a selector with a state
   module _ {q : Selector} (x : Selecting sh q p new) where
@@ -74,16 +75,12 @@ module _ {t s e : List ℕ} {i : ℕ} {sh : Extent} {p : UsageFlags} {new : ℕ}
     pub part-kept : {t′ e′ : List ℕ} → getD t (stateAt endHalf i) 0 ≡ p .complex → (getD t (stateAt startHalf i) 0 ≡ p .complex → ⊥) → MipsBecome (numbersOf t) endHalf i painted t e t′ e′ → BothBecome (numbersOf t) i (update p sh (endsOf (numbersOf t) t s e i) (pieceOf q new)) t s e t′ s e′
     part-kept c n b =
         ended (pieceOf q new) (end-many c) (rw (start-single n) (use-kept p sh new q (x .known) (getD t (stateAt startHalf i) 0) (mipsOf (numbersOf t) endHalf t e i)))
-        (become-many (r .ends) (r .texture) (c ∙ complex-is r) b)
+        (become-many (r .end .ready .measured) (r .end .ready .index) (c ∙ complex-is r) b)
 
     pub part-learnt : {t′ s′ e′ : List ℕ} → getD t (stateAt endHalf i) 0 ≡ p .complex → getD t (stateAt startHalf i) 0 ≡ p .complex
         → BothMips (numbersOf t) i (learnAll (metBy (p .unknown) (record { selector = q; state = new })) (p .unknown) new 0 (mipsOf (numbersOf t) endHalf t e i) (mipsOf (numbersOf t) startHalf t s i)) painted t s e t′ s′ e′
         → BothBecome (numbersOf t) i (update p sh (endsOf (numbersOf t) t s e i) (pieceOf q new)) t s e t′ s′ e′
     part-learnt {t′} {s′} {e′} c d b =
-        let k : getD t′ complexAt 0 ≡ getD t complexAt 0 = low-of (r .starts) (r .ends) (r .texture) (b .frame) 5 (omega arith) in
-        let hs = held-many (numbersOf t) startHalf t′ s′ i _ (b .start-word ∙ d ∙ complex-is r ∙ sym k) (b .starts) in
-        let he = held-many (numbersOf t) endHalf t′ e′ i _ (b .end-word ∙ c ∙ complex-is r ∙ sym k) (b .ends) in
-        record {
-          ends = rw (hs, he) (held-is (pieceOf q new) _ (start-many d) (end-many c) (use-learnt p sh new q (x .known) (mipsOf (numbersOf t) startHalf t s i) (mipsOf (numbersOf t) endHalf t e i)));
-          frame = b .frame;
-        }
+        subst (λ (y : Ends Held). BothBecome (numbersOf t) i y t s e t′ s′ e′)
+        (held-is (pieceOf q new) _ (start-many d) (end-many c) (use-learnt p sh new q (x .known) (mipsOf (numbersOf t) startHalf t s i) (mipsOf (numbersOf t) endHalf t e i)))
+        (mips-become (r .start .ready .measured) (r .end .ready .measured) (r .start .ready .index) (d ∙ complex-is r) (c ∙ complex-is r) b)

@@ -1,25 +1,27 @@
 -- The start learns from the end, mip by mip: what each step needs holds, and what it leaves is the next place of the loop.
-use Prim.Native.Nat.{ℕ, _+_, _-_, _≤_, _<_}
+use Prim.Native.Nat.{ℕ, _+_, _≤_, _<_}
 use native.Mathlib.Omega.{arith}
-use mathlib.Core.Path.{_≡_, refl, sym, ap, subst, _∙_}
-use mathlib.Core.Logic.{_⊎_, inl, inr}
-use mathlib.Core.List.{List, []}
+use mathlib.Core.Path.{_≡_, refl, ap, subst, _∙_}
+use mathlib.Core.Logic.{inl}
+use mathlib.Core.List.{List}
 use lib.ListN.{length, getD, set}
 use Rattle.model.specs.declared.Range.{Range}
+use Rattle.model.specs.declared.InvalidUse.{InvalidUse}
+use Rattle.model.specs.Base.{Stop, fine}
 use Rattle.model.specs.Sets.{Numbers}
 use Rattle.model.specs.Texture.{learn, learnAll}
 use Rattle.range_states.specs.View.{decode}
 use Rattle.texture_mips.specs.Learn.{LearnRoom}
 use Rattle.texture_mips.specs.Kept.{learn-room, tiles-within}
 use Rattle.set_storage.specs.Storage.{numbersOf, startHalf, endHalf, mipsIn, mipOf, mipsOf, layersAt}
-use Rattle.set_storage.specs.Frames.{MipsBecome, half-of, mip-at, mips-long, mips-top}
+use Rattle.set_storage.specs.Frames.{MipsBecome, half-of, mips-top}
 use Rattle.set_storage.specs.Locate.{LocatedAt}
 use Rattle.set_storage.specs.declared.Located.{Located}
 use Rattle.texture_merge.specs.Ready.{lentPart, lent-fits, lent-layers, lent-tiled}
-use Rattle.texture_merge.specs.Editing.{Editing, editing-measured, editing-word}
-use Rattle.texture_merge.proofs.Laps.{lap-piece, lap-turn}
+use Rattle.texture_merge.specs.Walks.{MipWalk, walk-measured, walk-word}
+use Rattle.texture_merge.proofs.Laps.{lap-tiled, lap-on, lap-end}
 use Rattle.texture_update.specs.Both.{away-mip, tiled-low}
-use Rattle.texture_update.specs.Learning.{PairTiled, BothReady, learned-is}
+use Rattle.texture_update.specs.Learning.{PairTiled, BothReady, walk-learn}
 
 -- one mip: the room that the start's part needs
 pub lesson-room : {t s e : List ℕ} {i m : ℕ} → PairTiled t s e i m → {x y : Located} → LocatedAt t startHalf i m (length s) x → LocatedAt t endHalf i m (length e) y → (u new : ℕ) → LearnRoom (lentPart x s) (x .len) u new (decode (y .len) (lentPart y e))
@@ -28,39 +30,28 @@ lesson-room {t} {s} {e} {i} {m} q {x} {y} l k u new =
     (tiles-within (decode (y .len) (lentPart y e)) 0 (getD t (layersAt i) 0) (getD t (layersAt i) 0) (omega arith) (lent-tiled (q .end) k)) (lent-tiled (q .start) l)
 
 -- what the start's mip k learns from mip k of the end
-abbrev pub lesson : ℕ → ℕ → List ℕ → List ℕ → ℕ → ℕ → List Range → List Range
-lesson u new t e i k x = learn u new (mipOf (numbersOf t) endHalf t e i k) x
+abbrev pub lesson : ℕ → ℕ → List ℕ → List ℕ → ℕ → ℕ → List Range → Stop InvalidUse (List Range)
+lesson u new t e i k x = fine (learn u new (mipOf (numbersOf t) endHalf t e i k) x)
 
-module _ (u new : ℕ) {t₀ s₀ e : List ℕ} {i m : ℕ} {t s : List ℕ} (q : BothReady t₀ s₀ e i) (w : Editing (lesson u new t₀ e i) (numbersOf t₀) startHalf i 0 t₀ s₀ m t s) where
+module _ (u new : ℕ) {t₀ s₀ e : List ℕ} {i m : ℕ} {t s : List ℕ} (q : BothReady t₀ s₀ e i) (w : MipWalk (lesson u new t₀ e i) (numbersOf t₀) startHalf i t₀ s₀ m t s) where
   module _ (b : m < mipsIn (numbersOf t₀) t₀ i) where
     away : mipOf (numbersOf t₀) endHalf t e i m ≡ mipOf (numbersOf t₀) endHalf t₀ e i m
     away = away-mip (q .start .measured) (q .start .texture) (half-of (w .frame)) endHalf (inl (omega arith)) e m (omega (arith, mips-top (numbersOf t₀) t₀ i))
 
     pub lesson-tiled : PairTiled t s e i m
     lesson-tiled = record {
-      start = lap-piece (q .start) w 0 (getD t₀ (layersAt i) 0) b (q .start .some) (omega arith) .tiled;
-      end = tiled-low (editing-word (q .start .measured) (q .start .texture) w) refl (w .frame .words .long) i m (q .end) b away;
+      start = lap-tiled (q .start) w b;
+      end = tiled-low (walk-word (lesson u new t₀ e i) (numbersOf t₀) startHalf i t₀ s₀ (q .start .measured) (q .start .texture) w) refl (w .frame .words .long) i m (q .end) b away;
     }
 
-    pub lesson-turn : {t′ s′ : List ℕ} → MipsBecome (numbersOf t) startHalf i (set (mipsOf (numbersOf t) startHalf t s i) m (learn u new (mipOf (numbersOf t) endHalf t e i m) (mipOf (numbersOf t) startHalf t s i m))) t s t′ s′ → Editing (lesson u new t₀ e i) (numbersOf t₀) startHalf i 0 t₀ s₀ (m + 1) t′ s′
-    lesson-turn {t′} {s′} x =
-        let n : numbersOf t ≡ numbersOf t₀ = editing-measured (q .start .measured) (q .start .texture) w .dims in
+    pub lesson-turn : {t′ s′ : List ℕ} → MipsBecome (numbersOf t) startHalf i (set (mipsOf (numbersOf t) startHalf t s i) m (learn u new (mipOf (numbersOf t) endHalf t e i m) (mipOf (numbersOf t) startHalf t s i m))) t s t′ s′ → MipWalk (lesson u new t₀ e i) (numbersOf t₀) startHalf i t₀ s₀ (m + 1) t′ s′
+    lesson-turn x =
+        let n : numbersOf t ≡ numbersOf t₀ = walk-measured (lesson u new t₀ e i) (numbersOf t₀) startHalf i t₀ s₀ (q .start .measured) (q .start .texture) w .dims in
         let k : mipOf (numbersOf t) endHalf t e i m ≡ mipOf (numbersOf t₀) endHalf t₀ e i m = ap (λ (d : Numbers). mipOf d endHalf t e i m) n ∙ away in
-        lap-turn (q .start .measured) (q .start .texture) w b
-        (subst (λ (y : List Range). MipsBecome (numbersOf t) startHalf i (set (mipsOf (numbersOf t) startHalf t s i) m (learn u new y (mipOf (numbersOf t) startHalf t s i m))) t s t′ s′) k x)
+        lap-on (q .start .measured) (q .start .texture) w b (λ y. fine (learn u new (mipOf (numbersOf t) endHalf t e i m) y)) (λ y. rw k) (record { conflict = refl; into = x }) refl
 
-  pub lesson-end : m ≡ mipsIn (numbersOf t₀) t₀ i → MipsBecome (numbersOf t₀) startHalf i (learnAll (λ k x. x) u new 0 (mipsOf (numbersOf t₀) endHalf t₀ e i) (mipsOf (numbersOf t₀) startHalf t₀ s₀ i)) t₀ s₀ t s
-  lesson-end z =
-      let o : m - 0 ≡ m = omega arith in
-      let a = mips-long (numbersOf t₀) startHalf t₀ s₀ i in
-      let c = mips-long (numbersOf t₀) endHalf t₀ e i in
-      record {
-        mips = w .mips ∙ rw o (learned-is (λ k x. x) u new (lesson u new t₀ e i) 0 m (mipsOf (numbersOf t₀) endHalf t₀ e i) (mipsOf (numbersOf t₀) startHalf t₀ s₀ i) (c ∙ sym a)
-            (λ j x _ l k. ap (λ (y : List Range). learn u new y x) (sym (mip-at (numbersOf t₀) endHalf t₀ e i j [] (omega arith))))
-            (λ j o k. absurd (nowhere j o (omega arith))));
-        frame = w .frame;
-      }
-    where
-      nowhere : (j : ℕ) → (j < 0) ⊎ (0 + m ≤ j) → j < m → ⊥
-      nowhere j (inl x) l = omega arith
-      nowhere j (inr x) l = omega arith
+  pub lesson-end : mipsIn (numbersOf t₀) t₀ i ≤ m → MipsBecome (numbersOf t₀) startHalf i (learnAll (λ k x. x) u new 0 (mipsOf (numbersOf t₀) endHalf t₀ e i) (mipsOf (numbersOf t₀) startHalf t₀ s₀ i)) t₀ s₀ t s
+  lesson-end b =
+      subst (λ (x : Stop InvalidUse (List (List Range))). MipsBecome (numbersOf t₀) startHalf i (x .value) t₀ s₀ t s)
+      (walk-learn (λ k x. x) u new (mipOf (numbersOf t₀) endHalf t₀ e i) (mipOf (numbersOf t₀) startHalf t₀ s₀ i) 0 (mipsIn (numbersOf t₀) t₀ i))
+      (lap-end (q .start .measured) (q .start .texture) w b .into)

@@ -1,7 +1,7 @@
 -- An update of one mip of both halves: the run that was isolated is what the start learns by, and what is painted.
 use Prim.Native.Nat.{ℕ}
 use native.Mathlib.Omega.{arith}
-use mathlib.Core.Path.{_≡_, refl, sym, ap, subst, _∙_}
+use mathlib.Core.Path.{_≡_, sym, ap, subst, _∙_}
 use mathlib.Core.List.{List, _++_, map}
 use lib.ListN.{drop, take-append-drop}
 use lib.Seq.{take-take}
@@ -15,7 +15,7 @@ use Rattle.range_isolate.specs.declared.isolation.Isolated.{Isolated}
 use Rattle.texture_mips.specs.Learn.{LearnRoom}
 use Rattle.texture_mips.specs.Paint.{Leaves}
 use Rattle.texture_mips.proofs.Runs.{the-run}
-use Rattle.texture_mips.proofs.Painted.{paint-is, update-is, join-yes}
+use Rattle.texture_mips.proofs.Painted.{paint-is, update-is}
 use Rattle.texture_update.specs.Pair.{PairLeft}
 
 module _ {a z u : ℕ} {e : List ℕ} {elen : ℕ} {i : Isolated} {e₁ : List ℕ} (is : Isolating e elen a z u i e₁) where
@@ -38,5 +38,5 @@ module _ {a z u : ℕ} {e : List ℕ} {elen : ℕ} {i : Isolated} {e₁ : List �
       let p = paint-is new is b in
       record {
         start = subst (λ (x : List Range). Leaves s n (learn u new x (decode slen s)) s′) run-is l;
-        end = update-is a z u new elen p (join-yes refl (omega (arith, p .fits, p .long)) c);
+        end = update-is a z u new elen p c;
       }

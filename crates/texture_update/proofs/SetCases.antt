@@ -1,7 +1,7 @@
 -- `update` from a texture of another set, case by case: what the code leaves is what the model's update gives.
 use Prim.Native.Nat.{ℕ, suc, _+_}
 use native.Mathlib.Omega.{arith}
-use mathlib.Core.Path.{_≡_, refl, sym, ap, subst, _∙_}
+use mathlib.Core.Path.{_≡_, sym, ap, subst, _∙_}
 use mathlib.Core.List.{List, [], _∷_}
 use lib.ListN.{getD, set, replicate}
 use Rattle.model.specs.declared.UsageFlags.{UsageFlags}
@@ -11,30 +11,24 @@ use Rattle.model.specs.declared.InvalidUse.{InvalidUse}
 use Rattle.model.specs.Base.{Stop, passes}
 use Rattle.model.specs.Representation.{Ends}
 use Rattle.model.specs.RangedStates.{range}
-use Rattle.model.specs.Texture.{Held, single, Given, givenSingle, givenMany, piecesOf, fromHeld, spreadEnd, update}
-use Rattle.set_storage.specs.Part.{by-eq}
-use Rattle.set_storage.specs.Storage.{numbersOf, startHalf, endHalf, mipsOf, heldOf, endsOf, complexAt, layersAt, stateAt}
+use Rattle.model.specs.Texture.{Held, single, Given, givenSingle, piecesOf, fromHeld, spreadEnd, update}
+use Rattle.set_storage.specs.Storage.{numbersOf, startHalf, endHalf, mipsOf, heldOf, endsOf, layersAt, stateAt}
 use Rattle.set_storage.specs.Frames.{MipsBecome}
-use Rattle.set_storage.specs.Slots.{held-single, held-many}
 use Rattle.texture_merge.specs.declared.Stopped.{Stopped}
 use Rattle.texture_merge.specs.declared.Doing.the-variants.{Cover}
 use Rattle.texture_merge.specs.Walks.{MipsWalked}
 use Rattle.texture_merge.specs.Ready.{ManyReady}
-use Rattle.texture_merge.specs.Giving.{taken, covers, GivenTexture}
-use Rattle.texture_merge.specs.FromSet.{set-given}
-use Rattle.texture_merge.proofs.SetCases.{any-use}
-use Rattle.texture_merge.proofs.Breaking.{break-many, break-layers, break-mips, break-then}
+use Rattle.texture_merge.specs.Giving.{taken, covers, GivenTexture, many-tiled}
+use Rattle.texture_merge.specs.FromSet.{given-state, given-pieces, given-many}
+use Rattle.texture_merge.proofs.Breaking.{break-many, break-texture, break-then}
 use Rattle.texture_update.specs.Both.{BothBecome}
-use Rattle.texture_update.specs.Update.{UpdateReady, mips-are, start-many, end-many}
+use Rattle.texture_update.specs.Update.{UpdateReady, start-many, end-many}
 use Rattle.texture_update.specs.Pieces.{updates, HeldTiled, ManyTiled, PairReady}
-use Rattle.texture_update.specs.FromSet.{UpdateFromReady, from-use, from-end, pieces-single, pieces-many}
+use Rattle.texture_update.specs.FromSet.{UpdateFromReady, from-use, pieces-single, pieces-many}
 use Rattle.texture_update.proofs.Cases as cases
-use Rattle.texture_update.proofs.PieceCases.{many-tiled}
+use Rattle.model.specs.BoolLaws.{by-eq}
 
 module _ {t s e : List ℕ} {i : ℕ} {sh : Extent} {from : ℕ} {t₂ r₂ : List ℕ} {p : UsageFlags} (x : UpdateFromReady t s e i sh from t₂ r₂ p) where
-  complex-given : getD t₂ complexAt 0 ≡ p .complex
-  complex-given = ap (λ (y : UsageFlags). y .complex) (x .same-flags)
-
   abbrev gs : List (List Range)
   gs = mipsOf (numbersOf t₂) from t₂ r₂ i
 
@@ -49,13 +43,10 @@ module _ {t s e : List ℕ} {i : ℕ} {sh : Extent} {from : ℕ} {t₂ r₂ : Li
   pub state-given : {t′ s′ e′ : List ℕ} → (getD t₂ (from + i) 0 ≡ p .complex → ⊥) → BothBecome (numbersOf t) i (update p sh (endsOf (numbersOf t) t s e i) (givenSingle (getD t₂ (from + i) 0))) t s e t′ s′ e′ → BothBecome (numbersOf t) i (update p sh (endsOf (numbersOf t) t s e i) given) t s e t′ s′ e′
   state-given {t′} {s′} {e′} c b =
       subst (λ (g : Given). BothBecome (numbersOf t) i (update p sh (endsOf (numbersOf t) t s e i) g) t s e t′ s′ e′)
-      (sym (ap fromHeld (held-single (numbersOf t₂) from t₂ r₂ i (λ z. c (z ∙ complex-given))))) b
+      (sym (given-state (x .given) c)) b
 
   -- ---- the given texture is Many
   module _ (c : getD t₂ (from + i) 0 ≡ p .complex) where
-    given-many : given ≡ givenMany (piecesOf gs)
-    given-many = ap fromHeld (held-many (numbersOf t₂) from t₂ r₂ i gs (c ∙ sym complex-given) refl)
-
     -- and so is the end: it takes the pieces in turn
     module _ (m : getD t (stateAt endHalf i) 0 ≡ p .complex) where
       start-tiled : HeldTiled (getD t (layersAt i) 0) (heldOf (numbersOf t) startHalf t s i)
@@ -67,30 +58,30 @@ module _ {t s e : List ℕ} {i : ℕ} {sh : Extent} {from : ℕ} {t₂ r₂ : Li
       pub pieces-ready : PairReady t s e i p × GivenTexture t i (sh .mips) from t₂ r₂
       pieces-ready = (
         record {
-          starts = x .starts;
-          ends = x .ends;
-          texture = x .texture;
-          some = rw (x .layers) (x .some);
-          low = rw (x .layers) (x .low);
+          starts = x .start .ready .measured;
+          ends = x .end .ready .measured;
+          texture = x .start .ready .index;
+          some = rw (x .start .ready .layers) (x .start .ready .some);
+          low = rw (x .start .ready .layers) (x .start .ready .low);
           flags = x .flags;
           tiled = record { start = start-tiled; end = subst (λ (y : Held). ManyTiled (getD t (layersAt i) 0) y) (sym (cases.end-many any m)) (many-tiled (end-many any m)) };
         },
-        set-given (from-end x) c t (x .layers) (mips-are any),
+        given-many (x .given) c (x .end .ready),
       )
 
       pub pieces-done : {t′ s′ e′ : List ℕ} → BothBecome (numbersOf t) i (updates (p .unknown) (piecesOf gs) (endsOf (numbersOf t) t s e i)) t s e t′ s′ e′ → BothBecome (numbersOf t) i (update p sh (endsOf (numbersOf t) t s e i) given) t s e t′ s′ e′
       pieces-done {t′} {s′} {e′} b =
           subst (λ (y : Ends Held). BothBecome (numbersOf t) i y t s e t′ s′ e′)
-          (rw (given-many, cases.end-many any m) (sym (pieces-many p sh (piecesOf gs) (heldOf (numbersOf t) startHalf t s i) (mipsOf (numbersOf t) endHalf t e i)))) b
+          (rw (given-pieces (x .given) c, cases.end-many any m) (sym (pieces-many p sh (piecesOf gs) (heldOf (numbersOf t) startHalf t s i) (mipsOf (numbersOf t) endHalf t e i)))) b
 
     -- the end is Single: it is broken up, and covered by the pieces
     module _ {cur : ℕ} (z : cur ≡ getD t (stateAt endHalf i) 0) (n : cur ≡ p .complex → ⊥) {t₃ e₃ : List ℕ} (b : MipsBecome (numbersOf (set t (stateAt endHalf i) (p .complex))) endHalf i (replicate (sh .mips) (range 0 (sh .layers) cur ∷ [])) (set t (stateAt endHalf i) (p .complex)) e t₃ e₃) where
       pub cover-ready : ManyReady (numbersOf t₃) endHalf t₃ e₃ i (getD t₃ (layersAt i) 0) × GivenTexture t₃ i (sh .mips) from t₂ r₂
-      cover-ready = (break-many (any-use (from-end x)) cur b, set-given (from-end x) c t₃ (break-layers (any-use (from-end x)) cur b) (break-mips (any-use (from-end x)) cur b))
+      cover-ready = (break-many (x .end .ready) (x .flags) cur b, given-many (x .given) c (break-texture (x .end .ready) (x .flags) cur b))
 
       pub cover-done : {y : Stopped} {t₄ e₄ : List ℕ} → MipsWalked (numbersOf t₃) endHalf i (passes (taken (Cover cur) p) (piecesOf gs) (mipsOf (numbersOf t₃) endHalf t₃ e₃ i)) t₃ e₃ y t₄ e₄ → BothBecome (numbersOf t) i (update p sh (endsOf (numbersOf t) t s e i) given) t s e t₄ s e₄
       cover-done {y} {t₄} {e₄} w =
           let v = subst (λ (k : Stop InvalidUse (List (List Range))). MipsBecome (numbersOf t₃) endHalf i (k .value) t₃ e₃ t₄ e₄) (covers p cur (piecesOf gs) (mipsOf (numbersOf t₃) endHalf t₃ e₃ i)) (w .into) in
           cases.ended any given (cases.end-single any (λ k. n (z ∙ k)) ∙ ap single (sym z))
-          (rw given-many (pieces-single p sh (piecesOf gs) (heldOf (numbersOf t) startHalf t s i) cur))
-          (break-then (any-use (from-end x)) cur b (spreadEnd (p .unknown) cur (piecesOf gs)) v)
+          (rw (given-pieces (x .given) c) (pieces-single p sh (piecesOf gs) (heldOf (numbersOf t) startHalf t s i) cur))
+          (break-then (x .end .ready) (x .flags) cur b (spreadEnd (p .unknown) cur (piecesOf gs)) v)

@@ -1,37 +1,40 @@
 -- Both halves change, mip by mip: what each step needs holds, and what it leaves is the next place of the loop.
-use Prim.Native.Nat.{ℕ, suc, _+_, _-_, _≤_, _<_}
+use Prim.Native.Nat.{ℕ, _+_, _-_, _≤_, _<_}
 use native.Mathlib.Omega.{arith}
-use mathlib.Core.Path.{_≡_, refl, sym, ap, subst, _∙_}
-use mathlib.Core.Logic.{_⊎_, inl, inr}
+use mathlib.Core.Path.{_≡_, refl, ap, subst, _∙_}
+use mathlib.Core.Logic.{inl}
 use mathlib.Core.Bool.{Bool, true, false, _&&_}
 use mathlib.Core.List.{List, []}
-use lib.Dec.{leb, ltb}
+use lib.Dec.{leb}
 use lib.ListN.{length, getD, set}
 use borrow.Author.Tests.{le-leb, lt-leb, lt-ltb, le-ltb}
 use Rattle.model.specs.declared.Range.{Range}
 use Rattle.model.specs.declared.Selector.{Selector}
-use Rattle.model.specs.Base.{if_then_else_}
+use Rattle.model.specs.declared.InvalidUse.{InvalidUse}
+use Rattle.model.specs.Base.{Stop, fine}
 use Rattle.model.specs.Sets.{Numbers}
-use Rattle.model.specs.Representation.{mipStart, mipEnd, layerStart, layerEnd}
+use Rattle.model.specs.Representation.{mipStart, mipEnd, layerStart, layerEnd, inMips}
 use Rattle.model.specs.RangedStates.{isolate, coalesce, paint}
 use Rattle.model.specs.Texture.{learn, learnAll, metBy, onMips}
+use Rattle.model.specs.RangeLaws.{isolate-cuts}
 use Rattle.range_states.specs.View.{decode}
 use Rattle.range_isolate.specs.Isolation.{IsolateRoom}
-use Rattle.range_isolate.specs.Tiling.{isolate-cuts}
 use Rattle.texture_mips.specs.Learn.{LearnRoom}
 use Rattle.texture_mips.specs.Kept.{learn-room, tiles-within}
-use Rattle.set_storage.specs.Storage.{numbersOf, startHalf, endHalf, countAt, mipsIn, mipOf, mipsOf, layersAt, mipsAt}
-use Rattle.set_storage.specs.Frames.{MipReady, MipsBecome, half-of, mip-at, mip-put, mips-long, mips-same, mips-top}
+use Rattle.set_storage.specs.Storage.{numbersOf, startHalf, endHalf, countAt, mipsIn, mipOf, mipsOf, layersAt, mipsAt, stateAt}
+use Rattle.set_storage.specs.Frames.{MipReady, MipsBecome, half-of, mip-put, mips-long, mips-same, mips-top}
 use Rattle.set_storage.specs.Slots.{half-low}
 use Rattle.set_storage.specs.Locate.{LocatedAt}
 use Rattle.set_storage.specs.declared.Located.{Located}
-use Rattle.texture_merge.specs.Ready.{lentPart, putBack, mip-left, part-long, lent-is, lent-fits, lent-layers, lent-tiled, lent-room}
-use Rattle.texture_merge.specs.Editing.{edited, edited-past, edited-mips}
+use Rattle.texture_merge.specs.Ready.{Selects, lentPart, putBack, mip-left, part-long, lent-is, lent-fits, lent-layers, lent-tiled, lent-room}
+use Rattle.texture_merge.specs.Walking.{InPlace, place-skip, walk-rest, walk-end, among, among-under, among-over, walk-edits}
+use Rattle.texture_merge.specs.Walks.{next-mip, next-turn}
 use Rattle.texture_update.specs.declared.pair.Both.{Both}
 use Rattle.texture_update.specs.Pair.{PairLeft}
-use Rattle.set_storage.specs.Stays.{both-refl, both-then}
-use Rattle.texture_update.specs.Both.{BothMips, low-of, measured-low, tiled-low, away-mips, mips-then-mips}
-use Rattle.texture_update.specs.Learning.{PairTiled, BothReady, learned-is}
+use Rattle.set_storage.specs.Stays.{BothFrame, both-refl, both-then}
+use Rattle.set_storage.specs.Texture.{measured-low, numbers-low}
+use Rattle.texture_update.specs.Both.{BothMips, low-of, tiled-low, away-mips, mips-then-mips}
+use Rattle.texture_update.specs.Learning.{PairTiled, BothReady, walk-learn}
 
 -- ---- one mip
 module _ {t s e : List ℕ} {i m : ℕ} (q : PairTiled t s e i m) {x y : Located} (l : LocatedAt t startHalf i m (length s) x) (k : LocatedAt t endHalf i m (length e) y) (a z u new : ℕ) (az : a < z) (zl : z ≤ getD t (layersAt i) 0) where
@@ -69,97 +72,95 @@ module _ {t s e : List ℕ} {i m : ℕ} (q : PairTiled t s e i m) {x y : Located
 
 -- ---- every mip of a selector: m is the next one
 -- what the start's mip k learns by, of the end as it was
-abbrev pub taught : ℕ → ℕ → Selector → List ℕ → List ℕ → ℕ → ℕ → List Range → List Range
-taught u new q t e i k x = learn u new ((isolate (layerStart q) (layerEnd q) u (mipOf (numbersOf t) endHalf t e i k)) .run) x
+abbrev pub taught : ℕ → ℕ → Selector → List ℕ → List ℕ → ℕ → ℕ → List Range → Stop InvalidUse (List Range)
+taught u new q t e i k x = fine (learn u new (metBy u (record { selector = q; state = new }) k (mipOf (numbersOf t) endHalf t e i k)) x)
 
 abbrev pub given : ℕ → ℕ → Selector → List Range → List Range
 given u new q x = coalesce (paint u (layerStart q) (layerEnd q) new x)
 
+abbrev pub painting : ℕ → ℕ → Selector → ℕ → List Range → Stop InvalidUse (List Range)
+painting u new q = among q (λ k x. fine (given u new q x))
+
 pub record Turning (u new : ℕ) (q : Selector) (i : ℕ) (t₀ s₀ e₀ : List ℕ) (m : ℕ) (t s e : List ℕ) : Type 0 where
   pub from : mipStart q ≤ m
-  pub into : BothMips (numbersOf t₀) i (edited [] (taught u new q t₀ e₀ i) (mipStart q) (m - mipStart q) (mipsOf (numbersOf t₀) startHalf t₀ s₀ i)) (edited [] (λ k. given u new q) (mipStart q) (m - mipStart q) (mipsOf (numbersOf t₀) endHalf t₀ e₀ i)) t₀ s₀ e₀ t s e
+  pub upto : m ≤ mipEnd q
+  pub starts : InPlace [] (taught u new q t₀ e₀ i) (mipsOf (numbersOf t₀) startHalf t₀ s₀ i) m (mipsOf (numbersOf t₀) startHalf t s i)
+  pub ends : InPlace [] (painting u new q) (mipsOf (numbersOf t₀) endHalf t₀ e₀ i) m (mipsOf (numbersOf t₀) endHalf t e i)
+  pub start-word : getD t (stateAt startHalf i) 0 ≡ getD t₀ (stateAt startHalf i) 0
+  pub end-word : getD t (stateAt endHalf i) 0 ≡ getD t₀ (stateAt endHalf i) 0
+  pub frame : BothFrame (numbersOf t₀) i t₀ s₀ e₀ t s e
 
-pub turn-start : (u new : ℕ) (q : Selector) (i : ℕ) (t s e : List ℕ) → Turning u new q i t s e (mipStart q) t s e
-unfolding edited
-turn-start u new q i t s e =
-    let z : mipStart q - mipStart q ≡ 0 = omega arith in
-    record { from = omega arith; into = rw z record { starts = refl; ends = refl; start-word = refl; end-word = refl; frame = both-refl t s e } }
-
--- the mips from m on are as they were, and one more is edited
-module _ (f : ℕ → List Range → List Range) (d : Numbers) (h i a m : ℕ) (t₀ r₀ t r : List ℕ) (from : a ≤ m) (n : mipsIn d t i ≡ mipsIn d t₀ i) (b : m < mipsIn d t₀ i) (w : mipsOf d h t r i ≡ edited [] f a (m - a) (mipsOf d h t₀ r₀ i)) where
-  here : mipOf d h t r i m ≡ mipOf d h t₀ r₀ i m
-  here = sym (mip-at d h t r i m [] (rw n b)) ∙ rw w (edited-past [] f a (m - a) (mipsOf d h t₀ r₀ i) m (omega arith)) ∙ mip-at d h t₀ r₀ i m [] b
-
-  onward : (xs : List Range) → xs ≡ f m (mipOf d h t₀ r₀ i m) → set (mipsOf d h t r i) m xs ≡ edited [] f a (m + 1 - a) (mipsOf d h t₀ r₀ i)
-  unfolding edited
-  onward xs x =
-      let k : m + 1 - a ≡ suc (m - a) = omega arith in
-      let o : a + (m - a) ≡ m = omega arith in
-      let y : xs ≡ f m (getD (mipsOf d h t₀ r₀ i) m []) = x ∙ ap (f m) (sym (mip-at d h t₀ r₀ i m [] b)) in
-      rw (k, o, y, w)
-
-module _ {u new : ℕ} {q : Selector} {i : ℕ} {t₀ s₀ e₀ : List ℕ} {m : ℕ} {t s e : List ℕ} (p : BothReady t₀ s₀ e₀ i) (w : Turning u new q i t₀ s₀ e₀ m t s e) where
-  low : (x : ℕ) → x < startHalf → getD t x 0 ≡ getD t₀ x 0
-  low = low-of (p .start .measured) (p .end .measured) (p .start .texture) (w .into .frame)
-
-  count : mipsIn (numbersOf t₀) t i ≡ mipsIn (numbersOf t₀) t₀ i
-  count = mips-same (numbersOf t₀) t₀ t i (low (mipsAt i) (omega (arith, p .start .measured .textures, p .start .texture)))
-
-  pub turn-layers : getD t (layersAt i) 0 ≡ getD t₀ (layersAt i) 0
-  turn-layers = low (layersAt i) (omega (arith, p .start .measured .textures, p .start .texture))
-
-  module _ (b : m < mipsIn (numbersOf t₀) t₀ i) where
-    start-here : mipOf (numbersOf t₀) startHalf t s i m ≡ mipOf (numbersOf t₀) startHalf t₀ s₀ i m
-    start-here = here (taught u new q t₀ e₀ i) (numbersOf t₀) startHalf i (mipStart q) m t₀ s₀ t s (w .from) count b (w .into .starts)
-
-    end-here : mipOf (numbersOf t₀) endHalf t e i m ≡ mipOf (numbersOf t₀) endHalf t₀ e₀ i m
-    end-here = here (λ k. given u new q) (numbersOf t₀) endHalf i (mipStart q) m t₀ e₀ t e (w .from) count b (w .into .ends)
-
-    pub turn-tiled : PairTiled t s e i m
-    turn-tiled = record {
-      start = tiled-low low (w .into .frame .starts .long) (w .into .frame .words .long) i m (p .start) b start-here;
-      end = tiled-low low (w .into .frame .ends .long) (w .into .frame .words .long) i m (p .end) b end-here;
-    }
-
-    pub turn-on : {t′ s′ e′ : List ℕ} → BothMips (numbersOf t) i (set (mipsOf (numbersOf t) startHalf t s i) m (learn u new ((isolate (layerStart q) (layerEnd q) u (mipOf (numbersOf t) endHalf t e i m)) .run) (mipOf (numbersOf t) startHalf t s i m))) (set (mipsOf (numbersOf t) endHalf t e i) m (given u new q (mipOf (numbersOf t) endHalf t e i m))) t s e t′ s′ e′ → Turning u new q i t₀ s₀ e₀ (m + 1) t′ s′ e′
-    turn-on {t′} {s′} {e′} x =
-        let n : numbersOf t ≡ numbersOf t₀ = measured-low {h = startHalf} {t₀ = t₀} {r₀ = s₀} {t = t} {r = s} low (w .into .frame .starts .long) (w .into .frame .words .long) (p .start .measured) .dims in
-        let y : BothMips (numbersOf t₀) i (set (mipsOf (numbersOf t₀) startHalf t s i) m (learn u new ((isolate (layerStart q) (layerEnd q) u (mipOf (numbersOf t₀) endHalf t e i m)) .run) (mipOf (numbersOf t₀) startHalf t s i m))) (set (mipsOf (numbersOf t₀) endHalf t e i) m (given u new q (mipOf (numbersOf t₀) endHalf t e i m))) t s e t′ s′ e′ =
-        subst (λ (d : Numbers). BothMips d i (set (mipsOf d startHalf t s i) m (learn u new ((isolate (layerStart q) (layerEnd q) u (mipOf d endHalf t e i m)) .run) (mipOf d startHalf t s i m))) (set (mipsOf d endHalf t e i) m (given u new q (mipOf d endHalf t e i m))) t s e t′ s′ e′) n x in
-        let k = w .from in
-        record {
-          from = omega arith;
-          into = record {
-            starts = y .starts ∙ onward (taught u new q t₀ e₀ i) (numbersOf t₀) startHalf i (mipStart q) m t₀ s₀ t s (w .from) count b (w .into .starts) _ (rw (end-here, start-here));
-            ends = y .ends ∙ onward (λ k. given u new q) (numbersOf t₀) endHalf i (mipStart q) m t₀ e₀ t e (w .from) count b (w .into .ends) _ (rw end-here);
-            start-word = y .start-word ∙ w .into .start-word;
-            end-word = y .end-word ∙ w .into .end-word;
-            frame = both-then (w .into .frame) (y .frame);
-          };
-        }
-
+module _ (u new : ℕ) {q : Selector} {i : ℕ} {t₀ s₀ e₀ : List ℕ} (p : BothReady t₀ s₀ e₀ i) (k : Selects (numbersOf t₀) t₀ i q) where
   -- a mip that the selector does not name learns nothing
-  outside : (j : ℕ) (x : List Range) → (j < mipStart q) ⊎ (mipEnd q ≤ j) → metBy u (record { selector = q; state = new }) j x ≡ []
-  outside j x (inl o) = rw (lt-leb (mipStart q) j o)
-  outside j x (inr o) = go (leb (mipStart q) j)
-    where
-      go : (b : Bool) → (if b && ltb j (mipEnd q) then (isolate (layerStart q) (layerEnd q) u x) .run else []) ≡ []
-      go true = rw (le-ltb j (mipEnd q) o)
-      go false = refl
+  untaught : (j : ℕ) (x : List Range) → inMips q j ≡ false → taught u new q t₀ e₀ i j x ≡ fine x
+  unfolding learn
+  untaught j x o = rw o
 
-  pub turn-end : m ≡ mipEnd q → mipEnd q ≤ mipsIn (numbersOf t₀) t₀ i → BothMips (numbersOf t₀) i (learnAll (metBy u (record { selector = q; state = new })) u new 0 (mipsOf (numbersOf t₀) endHalf t₀ e₀ i) (mipsOf (numbersOf t₀) startHalf t₀ s₀ i)) (onMips q (given u new q) 0 (mipsOf (numbersOf t₀) endHalf t₀ e₀ i)) t₀ s₀ e₀ t s e
-  turn-end z b =
-      let k = w .from in
-      let n : mipStart q + (m - mipStart q) ≡ mipEnd q = omega arith in
-      let ls = mips-long (numbersOf t₀) startHalf t₀ s₀ i in
-      let le = mips-long (numbersOf t₀) endHalf t₀ e₀ i in
-      record {
-        starts = w .into .starts
-            ∙ learned-is (metBy u (record { selector = q; state = new })) u new (taught u new q t₀ e₀ i) (mipStart q) (m - mipStart q) (mipsOf (numbersOf t₀) endHalf t₀ e₀ i) (mipsOf (numbersOf t₀) startHalf t₀ s₀ i) (le ∙ sym ls)
-            (λ j x o c l. rw (le-leb (mipStart q) j o, lt-ltb j (mipEnd q) (omega arith), mip-at (numbersOf t₀) endHalf t₀ e₀ i j [] (omega arith)))
-            (λ j o l. outside j (getD (mipsOf (numbersOf t₀) endHalf t₀ e₀ i) j []) (rw n at o));
-        ends = w .into .ends ∙ edited-mips q (given u new q) (m - mipStart q) (mipsOf (numbersOf t₀) endHalf t₀ e₀ i) n (omega arith);
-        start-word = w .into .start-word;
-        end-word = w .into .end-word;
-        frame = w .into .frame;
+  pub turn-start : Turning u new q i t₀ s₀ e₀ (mipStart q) t₀ s₀ e₀
+  turn-start = record {
+    from = omega arith;
+    upto = omega (arith, k .mips);
+    starts = place-skip [] (taught u new q t₀ e₀ i) _ (mipStart q) (rw (mips-long (numbersOf t₀) startHalf t₀ s₀ i) (omega (arith, k .mips, k .in-mips))) (λ j x a. untaught j x (rw (lt-leb (mipStart q) j a)));
+    ends = place-skip [] (painting u new q) _ (mipStart q) (rw (mips-long (numbersOf t₀) endHalf t₀ e₀ i) (omega (arith, k .mips, k .in-mips))) (λ j x a. among-under q (λ k x. fine (given u new q x)) j x a);
+    start-word = refl;
+    end-word = refl;
+    frame = both-refl t₀ s₀ e₀;
+  }
+
+  module _ {m : ℕ} {t s e : List ℕ} (w : Turning u new q i t₀ s₀ e₀ m t s e) where
+    low : (x : ℕ) → x < startHalf → getD t x 0 ≡ getD t₀ x 0
+    low = low-of (p .start .measured) (p .end .measured) (p .start .texture) (w .frame)
+
+    count : mipsIn (numbersOf t₀) t i ≡ mipsIn (numbersOf t₀) t₀ i
+    count = mips-same (numbersOf t₀) t₀ t i (low (mipsAt i) (omega (arith, p .start .measured .textures, p .start .texture)))
+
+    pub turn-layers : getD t (layersAt i) 0 ≡ getD t₀ (layersAt i) 0
+    turn-layers = low (layersAt i) (omega (arith, p .start .measured .textures, p .start .texture))
+
+    module _ (b : m < mipEnd q) where
+      inside : m < mipsIn (numbersOf t₀) t₀ i
+      inside = omega (arith, k .in-mips)
+
+      named : inMips q m ≡ true
+      named = rw (le-leb (mipStart q) m (w .from), lt-ltb m (mipEnd q) b)
+
+      end-here : mipOf (numbersOf t₀) endHalf t e i m ≡ mipOf (numbersOf t₀) endHalf t₀ e₀ i m
+      end-here = next-mip (painting u new q) (numbersOf t₀) endHalf i t₀ e₀ t e (w .ends) count inside
+
+      pub turn-tiled : PairTiled t s e i m
+      turn-tiled = record {
+        start = tiled-low low (w .frame .starts .long) (w .frame .words .long) i m (p .start) inside (next-mip (taught u new q t₀ e₀ i) (numbersOf t₀) startHalf i t₀ s₀ t s (w .starts) count inside);
+        end = tiled-low low (w .frame .ends .long) (w .frame .words .long) i m (p .end) inside end-here;
       }
+
+      pub turn-on : {t′ s′ e′ : List ℕ} → BothMips (numbersOf t) i (set (mipsOf (numbersOf t) startHalf t s i) m (learn u new ((isolate (layerStart q) (layerEnd q) u (mipOf (numbersOf t) endHalf t e i m)) .run) (mipOf (numbersOf t) startHalf t s i m))) (set (mipsOf (numbersOf t) endHalf t e i) m (given u new q (mipOf (numbersOf t) endHalf t e i m))) t s e t′ s′ e′ → Turning u new q i t₀ s₀ e₀ (m + 1) t′ s′ e′
+      turn-on {t′} {s′} {e′} x =
+          let y : BothMips (numbersOf t₀) i (set (mipsOf (numbersOf t₀) startHalf t s i) m (learn u new ((isolate (layerStart q) (layerEnd q) u (mipOf (numbersOf t₀) endHalf t e i m)) .run) (mipOf (numbersOf t₀) startHalf t s i m))) (set (mipsOf (numbersOf t₀) endHalf t e i) m (given u new q (mipOf (numbersOf t₀) endHalf t e i m))) t s e t′ s′ e′ =
+          subst (λ (d : Numbers). BothMips d i (set (mipsOf d startHalf t s i) m (learn u new ((isolate (layerStart q) (layerEnd q) u (mipOf d endHalf t e i m)) .run) (mipOf d startHalf t s i m))) (set (mipsOf d endHalf t e i) m (given u new q (mipOf d endHalf t e i m))) t s e t′ s′ e′) (numbers-low t₀ t low) x in
+          record {
+            from = omega (arith, w .from);
+            upto = omega arith;
+            starts = next-turn (taught u new q t₀ e₀ i) (numbersOf t₀) startHalf i t₀ s₀ t s (w .starts) count inside t′ s′ (rw (named, ← end-here) (y .starts)) refl;
+            ends = next-turn (painting u new q) (numbersOf t₀) endHalf i t₀ e₀ t e (w .ends) count inside t′ e′ (rw named (y .ends)) (rw named);
+            start-word = y .start-word ∙ w .start-word;
+            end-word = y .end-word ∙ w .end-word;
+            frame = both-then (w .frame) (y .frame);
+          }
+
+    past : (j : ℕ) → mipEnd q ≤ j → inMips q j ≡ false
+    past j o = rw (le-ltb j (mipEnd q) o) (go (leb (mipStart q) j))
+      where
+        go : (b : Bool) → (b && false) ≡ false
+        go true = refl
+        go false = refl
+
+    pub turn-end : mipEnd q ≤ m → BothMips (numbersOf t₀) i (learnAll (metBy u (record { selector = q; state = new })) u new 0 (mipsOf (numbersOf t₀) endHalf t₀ e₀ i) (mipsOf (numbersOf t₀) startHalf t₀ s₀ i)) (onMips q (given u new q) 0 (mipsOf (numbersOf t₀) endHalf t₀ e₀ i)) t₀ s₀ e₀ t s e
+    turn-end b = record {
+      starts = walk-end (taught u new q t₀ e₀ i) (w .starts .walking) (walk-rest (taught u new q t₀ e₀ i) m _ (λ j x a. untaught j x (past j (omega arith)))) .0
+          ∙ ap (λ (x : Stop InvalidUse (List (List Range))). x .value) (walk-learn (metBy u (record { selector = q; state = new })) u new (mipOf (numbersOf t₀) endHalf t₀ e₀ i) (mipOf (numbersOf t₀) startHalf t₀ s₀ i) 0 (mipsIn (numbersOf t₀) t₀ i));
+      ends = walk-end (painting u new q) (w .ends .walking) (walk-rest (painting u new q) m _ (λ j x a. among-over q (λ k x. fine (given u new q x)) j x (omega arith))) .0
+          ∙ ap (λ (x : Stop InvalidUse (List (List Range))). x .value) (walk-edits q (given u new q) 0 (mipsOf (numbersOf t₀) endHalf t₀ e₀ i));
+      start-word = w .start-word;
+      end-word = w .end-word;
+      frame = w .frame;
+    }

@@ -1,5 +1,5 @@
 -- A change of both halves of one texture of a tracker: what it leaves as it was, and how changes follow one another.
-use Prim.Native.Nat.{ℕ, _+_, _*_, _≤_, _<_}
+use Prim.Native.Nat.{ℕ, _+_, _≤_, _<_}
 use native.Mathlib.Omega.{arith}
 use mathlib.Core.Path.{_≡_, refl, sym, subst, _∙_}
 use mathlib.Core.Logic.{_⊎_, inl, inr}
@@ -9,13 +9,13 @@ use Rattle.model.specs.declared.Range.{Range}
 use Rattle.model.specs.Sets.{Numbers}
 use Rattle.model.specs.Representation.{Ends}
 use Rattle.model.specs.RangedStates.{Tiles}
-use Rattle.model.specs.Texture.{Held}
-use Rattle.set_storage.specs.Part.{by-lt}
+use Rattle.model.specs.Texture.{Held, many}
 use Rattle.set_storage.specs.Lists.{list-ext}
-use Rattle.set_storage.specs.Storage.{numbersOf, startHalf, endHalf, countAt, mipPart, mipOf, mipsIn, mipsOf, heldOf, endsOf, layersAt, mipsAt, stateAt}
+use Rattle.set_storage.specs.Storage.{numbersOf, startHalf, endHalf, countAt, mipOf, mipsIn, mipsOf, heldOf, endsOf, complexAt, layersAt, mipsAt, stateAt}
 use Rattle.set_storage.specs.Stays.{HalfFrame, BothFrame, stays-refl, stays-at, stays-more, both-then}
 use Rattle.set_storage.specs.Frames.{Measured, MipsBecome, frame-below, frame-above, half-of, half-below, half-above, mips-top, mips-same}
-use Rattle.set_storage.specs.Slots.{HalfBecomes, mip-ext, half-low, half-away}
+use Rattle.set_storage.specs.Slots.{HalfBecomes, mip-ext, half-low, half-away, held-many}
+use Rattle.set_storage.specs.Texture.{measured-low}
 use Rattle.texture_merge.specs.Ready.{MipTiled, ManyReady}
 
 -- ---- Only the states, the counts and the ranges of texture i may differ: a change of one half
@@ -25,23 +25,11 @@ both-start e f = record { words = stays-more (λ j z. z) (λ j x o. o .start) (f
 pub both-end : {d : Numbers} {i : ℕ} {t e t′ e′ : List ℕ} (s : List ℕ) → HalfFrame d endHalf i t e t′ e′ → BothFrame d i t s e t′ s e′
 both-end s f = record { words = stays-more (λ j z. z) (λ j x o. o .end) (f .words); starts = stays-refl s; ends = f .ranges }
 
--- ---- What is measured or tiled stays so, where the words below the halves and the lengths do
+-- ---- A mip that is tiled stays so, where the words below the halves, the lengths and its ranges do
 module _ {h : ℕ} {t₀ r₀ t r : List ℕ} (low : (x : ℕ) → x < startHalf → getD t x 0 ≡ getD t₀ x 0) (long : length r ≡ length r₀) (table : length t ≡ length t₀) where
-  pub measured-low : {d : Numbers} → Measured d h t₀ r₀ → Measured d h t r
-  measured-low {d} s = record {
-    dims = rw (low 0 (omega arith), low 1 (omega arith), low 2 (omega arith)) (s .dims);
-    textures = s .textures;
-    mips = s .mips;
-    some = s .some;
-    layers = s .layers;
-    fits = rw long (s .fits);
-    half = s .half;
-    table = table ∙ s .table;
-  }
-
   pub tiled-low : (i m : ℕ) → ManyReady (numbersOf t₀) h t₀ r₀ i (getD t₀ (layersAt i) 0) → m < mipsIn (numbersOf t₀) t₀ i → mipOf (numbersOf t₀) h t r i m ≡ mipOf (numbersOf t₀) h t₀ r₀ i m → MipTiled (numbersOf t) h t r i m (getD t (layersAt i) 0)
   tiled-low i m q b e =
-      let s = measured-low (q .measured) in
+      let s = measured-low low long table (q .measured) in
       let l : getD t (layersAt i) 0 ≡ getD t₀ (layersAt i) 0 = low (layersAt i) (omega (arith, q .measured .textures, q .texture)) in
       let n : mipsIn (numbersOf t₀) t i ≡ mipsIn (numbersOf t₀) t₀ i = mips-same (numbersOf t₀) t₀ t i (low (mipsAt i) (omega (arith, q .measured .textures, q .texture))) in
       subst (λ (x : Numbers). MipTiled x h t r i m (getD t (layersAt i) 0)) (sym (s .dims))
@@ -104,4 +92,14 @@ module _ {d : Numbers} {i : ℕ} {t s e : List ℕ} (ms : Measured d startHalf t
         start-word = frame-below (b .frame) (stateAt startHalf i) (omega arith) ∙ frame-below (a .frame) (stateAt startHalf i) (omega (arith, ms .textures));
         end-word = frame-below (b .frame) (stateAt endHalf i) (omega (arith, ms .textures)) ∙ frame-above (a .frame) (stateAt endHalf i) (omega (arith, ms .textures));
         frame = both-then (both-start e (half-of (a .frame))) (both-end s′ (half-of (b .frame)));
+      }
+
+  -- two Many halves whose mips became ss and es
+  pub mips-become : {ss es : List (List Range)} {t′ s′ e′ : List ℕ} → getD t (stateAt startHalf i) 0 ≡ getD t complexAt 0 → getD t (stateAt endHalf i) 0 ≡ getD t complexAt 0
+      → BothMips d i ss es t s e t′ s′ e′ → BothBecome d i (record { start = many ss; end = many es }) t s e t′ s′ e′
+  mips-become {ss} {es} {t′} {s′} {e′} a z b =
+      let k : getD t′ complexAt 0 ≡ getD t complexAt 0 = low-of (b .frame) 5 (omega arith) in
+      record {
+        ends = rw (held-many d startHalf t′ s′ i ss (b .start-word ∙ a ∙ sym k) (b .starts), held-many d endHalf t′ e′ i es (b .end-word ∙ z ∙ sym k) (b .ends));
+        frame = b .frame;
       }

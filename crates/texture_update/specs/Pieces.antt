@@ -12,7 +12,8 @@ use Rattle.model.specs.Base.{if_then_else_}
 use Rattle.model.specs.Representation.{Ends, layerStart, layerEnd, inMips}
 use Rattle.model.specs.RangedStates.{isolate, coalesce, paint, Tiles}
 use Rattle.model.specs.Texture.{Held, single, many, Piece, onMips, learnAll, learnHeld, metBy, updateAll}
-use Rattle.range_isolate.specs.Tiling.{by-test, isolate-cuts}
+use Rattle.model.specs.BoolLaws.{by-test}
+use Rattle.model.specs.RangeLaws.{isolate-cuts}
 use Rattle.texture_mips.specs.Kept.{Within, learn-tiles, tiles-within, update-tiles}
 use Rattle.set_storage.specs.Storage.{numbersOf, flagsOf, startHalf, endHalf, endsOf, layerLimitAt, layersAt, texturesAt}
 use Rattle.set_storage.specs.Frames.{Measured}

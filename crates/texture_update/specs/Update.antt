@@ -1,6 +1,5 @@
 -- `update` of one texture of a tracker: what the code needs, and the model's `update` of one use, case by case.
-use Prim.Native.Nat.{ℕ, _+_, _≤_, _<_}
-use native.Mathlib.Nat.{min-eq-left}
+use Prim.Native.Nat.{ℕ}
 use mathlib.Core.Path.{_≡_, refl, ap, _∙_}
 use mathlib.Core.Bool.{false, false≢true}
 use mathlib.Core.List.{List, [], _∷_}
@@ -10,12 +9,12 @@ use Rattle.model.specs.declared.UsageFlags.{UsageFlags}
 use Rattle.model.specs.declared.Extent.{Extent}
 use Rattle.model.specs.declared.Selector.{Selector}
 use Rattle.model.specs.declared.Range.{Range}
-use Rattle.model.specs.Representation.{mipStart, mipEnd, layerStart, layerEnd}
-use Rattle.model.specs.RangedStates.{coalesce, paint, Tiles}
+use Rattle.model.specs.Representation.{layerStart, layerEnd}
+use Rattle.model.specs.RangedStates.{coalesce, paint}
 use Rattle.model.specs.Texture.{Held, single, many, Given, givenSingle, givenMany, onMips, learnAll, metBy, spreadEnd, updateAll, update}
-use Rattle.set_storage.specs.Storage.{numbersOf, flagsOf, startHalf, endHalf, mipsIn, mipOf, complexAt, layerLimitAt, layersAt, mipLimitAt, mipsAt, stateAt, texturesAt}
-use Rattle.set_storage.specs.Frames.{Measured}
-use Rattle.texture_merge.specs.Ready.{ManyReady, Selects}
+use Rattle.set_storage.specs.Storage.{numbersOf, flagsOf, startHalf, endHalf, complexAt, layersAt, stateAt}
+use Rattle.set_storage.specs.Texture.{TextureHeld, SelectorWithin}
+use Rattle.texture_merge.specs.Ready.{ManyReady, many-of}
 use Rattle.texture_merge.specs.Uses.{UseReady, brokenUp}
 use Rattle.texture_update.specs.Learning.{BothReady}
 
@@ -25,77 +24,31 @@ pieceOf q new = givenMany (record { selector = q; state = new } ∷ [])
 
 -- ---- What the checks and the test of the set have shown
 pub record UpdateReady (t s e : List ℕ) (i : ℕ) (sh : Extent) (p : UsageFlags) (new : ℕ) : Type 0 where
-  pub starts : Measured (numbersOf t) startHalf t s
-  pub ends : Measured (numbersOf t) endHalf t e
-  pub texture : i < getD t texturesAt 0
-  pub mips : getD t (mipsAt i) 0 ≡ sh .mips
-  pub layers : getD t (layersAt i) 0 ≡ sh .layers
-  pub top : sh .mips ≤ getD t mipLimitAt 0
-  pub low : sh .layers ≤ getD t layerLimitAt 0
-  pub some : 0 < sh .layers
+  pub start : TextureHeld (numbersOf t) startHalf t s i sh
+  pub end : TextureHeld (numbersOf t) endHalf t e i sh
   pub flags : p ≡ flagsOf t
   pub plain : new ≡ p .complex → ⊥
-  pub start-tiled : getD t (stateAt startHalf i) 0 ≡ getD t complexAt 0 → (k : ℕ) → k < sh .mips → Tiles 0 (mipOf (numbersOf t) startHalf t s i k) (sh .layers)
-  pub end-tiled : getD t (stateAt endHalf i) 0 ≡ getD t complexAt 0 → (k : ℕ) → k < sh .mips → Tiles 0 (mipOf (numbersOf t) endHalf t e i k) (sh .layers)
 
 -- a selector within the texture, with a state that is not UNKNOWN
 pub record Selecting (sh : Extent) (q : Selector) (p : UsageFlags) (new : ℕ) : Type 0 where
-  pub order : mipStart q < mipEnd q
-  pub in-mips : mipEnd q ≤ sh .mips
-  pub span : layerStart q < layerEnd q
-  pub in-layers : layerEnd q ≤ sh .layers
+  pub selector : SelectorWithin sh q
   pub known : new ≡ p .unknown → ⊥
 
 module _ {t s e : List ℕ} {i : ℕ} {sh : Extent} {p : UsageFlags} {new : ℕ} (r : UpdateReady t s e i sh p new) where
   pub complex-is : p .complex ≡ getD t complexAt 0
   complex-is = ap (λ (y : UsageFlags). y .complex) (r .flags)
 
-  pub mips-are : mipsIn (numbersOf t) t i ≡ sh .mips
-  unfolding mipsIn
-  mips-are = rw (r .mips) (min-eq-left (r .top))
-
   pub start-many : getD t (stateAt startHalf i) 0 ≡ p .complex → ManyReady (numbersOf t) startHalf t s i (getD t (layersAt i) 0)
-  start-many c = record {
-    measured = r .starts;
-    texture = r .texture;
-    some = rw (r .layers) (r .some);
-    low = rw (r .layers) (r .low);
-    tiled = λ k l. rw (r .layers) (r .start-tiled (c ∙ complex-is) k (rw mips-are at l));
-  }
+  start-many c = many-of (r .start) (c ∙ complex-is) _ (r .start .ready .layers)
 
   pub end-many : getD t (stateAt endHalf i) 0 ≡ p .complex → ManyReady (numbersOf t) endHalf t e i (getD t (layersAt i) 0)
-  end-many c = record {
-    measured = r .ends;
-    texture = r .texture;
-    some = rw (r .layers) (r .some);
-    low = rw (r .layers) (r .low);
-    tiled = λ k l. rw (r .layers) (r .end-tiled (c ∙ complex-is) k (rw mips-are at l));
-  }
+  end-many c = many-of (r .end) (c ∙ complex-is) _ (r .end .ready .layers)
 
   pub both-many : getD t (stateAt startHalf i) 0 ≡ p .complex → getD t (stateAt endHalf i) 0 ≡ p .complex → BothReady t s e i
   both-many a b = record { start = start-many a; end = end-many b }
 
-  module _ {q : Selector} (x : Selecting sh q p new) where
-    pub selects : Selects (numbersOf t) t i q
-    selects = record { mips = x .order; layers = x .span; in-mips = rw mips-are (x .in-mips); in-layers = rw (r .layers) (x .in-layers) }
-
-    pub end-use : UseReady (numbersOf t) endHalf t e i sh false q p new
-    end-use = record {
-      measured = r .ends;
-      texture = r .texture;
-      mips = r .mips;
-      layers = r .layers;
-      top = r .top;
-      low = r .low;
-      some = r .some;
-      flags = r .flags;
-      order = x .order;
-      in-mips = x .in-mips;
-      span = x .span;
-      in-layers = x .in-layers;
-      whole = λ z. absurd (false≢true z);
-      plain = r .plain;
-    }
+  pub end-use : {q : Selector} → Selecting sh q p new → UseReady (numbersOf t) endHalf t e i sh false q p new
+  end-use x = record { texture = r .end .ready; selector = x .selector; flags = r .flags; whole = λ z. absurd (false≢true z); plain = r .plain }
 
 -- ---- The model's update, case by case: one state for all
 module _ (p : UsageFlags) (sh : Extent) (new : ℕ) where

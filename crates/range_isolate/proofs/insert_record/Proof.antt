@@ -51,20 +51,13 @@ Inv-loop s₀ len at start end state k₀ s k = Shifting s₀ len at s k
 abbrev μ-loop : tie.MeasureT-loop
 μ-loop s₀ len at start end state k₀ s k = k
 
-loop-holds : tie.Need-loop-holds Inv-loop μ-loop
-loop-holds c = search start-of
-
 loop-again : tie.Need-loop-again Inv-loop μ-loop
 loop-again c =
     let body = c .before .before .before .before .before .before in
     let head = body .before in
     turn (head .before .before .pre .1) (head .loop .inv) (body .loop-test .taken) (c .before .before .before .before .get .ensures) (c .before .before .put .ensures)
 
-returns : tie.Need-returns Inv-loop μ-loop
-returns c = search finish
-
 pub insert-record-spec : {M : Type 1} → statement M
-insert-record-spec =
-    tie.close
-    (tie.spec Inv-loop μ-loop loop-holds (λ c. search needs) (λ c κs. search needs) (λ c κs. search needs)
-    (λ c. search needs) (λ c. search needs) loop-again (λ c κs. search needs) (λ c. search needs) returns)
+insert-record-spec = tie.close (tie.spec Inv-loop μ-loop (λ c. search start-of) (λ c. search needs)
+    (λ c κs. search needs) (λ c κs. search needs) (λ c. search needs) (λ c. search needs) loop-again
+    (λ c κs. search needs) (λ c. search needs) (λ c. search finish))

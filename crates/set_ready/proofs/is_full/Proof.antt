@@ -3,9 +3,6 @@ use borrow.Author.Tests.{eq-eqb, ne-eqb}
 use Rattle.set_ready.proofs.is_full.Statement.{statement}
 use Rattle.set_ready.proofs.is_full.Tie as tie
 
-returns : tie.Need-returns
-returns c = rw (ne-eqb _ _ (c .if1 .taken))
-
 returns-2 : tie.Need-returns-2
 returns-2 c = rw (eq-eqb _ _ (c .before .before .before .if1 .left), ne-eqb _ _ (c .if2 .taken))
 
@@ -16,6 +13,4 @@ returns-4 : tie.Need-returns-4
 returns-4 c = rw (eq-eqb _ _ (c .before .before .before .before .before .before .before .if1 .left), eq-eqb _ _ (c .before .before .before .before .if2 .left), eq-eqb _ _ (c .before .before .if3 .left))
 
 pub is-full-spec : {M : Type 1} → statement M
-is-full-spec =
-    tie.close
-    (tie.spec returns returns-2 returns-3 returns-4)
+is-full-spec = tie.close (tie.spec (λ c. rw (ne-eqb _ _ (c .if1 .taken))) returns-2 returns-3 returns-4)

@@ -8,23 +8,10 @@ use Rattle.set_storage.proofs.base.Tie as tie
 known : (c : tie.Start) → Places (c .args .i) (c .args .m) (c .args .mips) (c .args .layers) (c .args .room)
 known c = let w = c .pre in places-fit _ _ (w .count) _ _ _ (w .texture) (w .mip) (w .some) (w .fits)
 
-mul-result : tie.Need-mul-result
-mul-result c = omega (arith, known c)
-
-add-result : tie.Need-add-result
-add-result c = omega (arith, known c)
-
-mul-result-2 : tie.Need-mul-result-2
-mul-result-2 c = omega (arith, known c)
-
-mul-result-3 : tie.Need-mul-result-3
-mul-result-3 c = omega (arith, known c)
-
 returns : tie.Need-returns
 unfolding baseOf
 returns c = (refl, known c .end)
 
 pub base-spec : {M : Type 1} → statement M
-base-spec =
-    tie.close
-    (tie.spec mul-result add-result mul-result-2 mul-result-3 returns)
+base-spec = tie.close (tie.spec (λ c. omega (arith, known c)) (λ c. omega (arith, known c))
+    (λ c. omega (arith, known c)) (λ c. omega (arith, known c)) returns)

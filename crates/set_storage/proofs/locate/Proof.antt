@@ -18,8 +18,6 @@ returns c =
     record { base = b; size = omega (arith, w); order = omega arith; end = omega (arith, k .ensures .1, w); len = c .wide3 .ensures .0 }
 
 pub locate-spec : {M : Type 1} → statement M
-locate-spec =
-    tie.close
-    (tie.spec (λ c. search needs) (λ c κs. search needs) (λ c. search needs) (λ c κs. search needs) base-requires
-    (λ c. search needs) (λ c. search needs) (λ c. search needs) (λ c. search needs) (λ c. search needs)
+locate-spec = tie.close (tie.spec (λ c. search needs) (λ c κs. search needs) (λ c. search needs) (λ c κs. search needs)
+    base-requires (λ c. search needs) (λ c. search needs) (λ c. search needs) (λ c. search needs) (λ c. search needs)
     (λ c. search needs) (λ c. search needs) (λ c. search needs) (λ c κs. search needs) returns)

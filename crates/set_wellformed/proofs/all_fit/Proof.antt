@@ -18,10 +18,6 @@ returns-2 c = scope-all ((c .before .before .before .before .before .args) .tabl
 slots-fit-requires : tie.Need-slots-fit-requires
 slots-fit-requires c κs = ((c .before .before .before .before .before .pre .0), ((c .before .before .before .before .before .pre .1), (sym (c .before .before .before .scope-words .ensures .fit) ∙ not-false _ (c .before .if1 .left))))
 
-returns-3 : tie.Need-returns-3
-returns-3 c = (c .slots-fit .ensures)
-
 pub all-fit-spec : {M : Type 1} → statement M
-all-fit-spec =
-    tie.close
-    (tie.spec scope-words-requires returns returns-2 slots-fit-requires returns-3)
+all-fit-spec = tie.close (tie.spec scope-words-requires returns returns-2 slots-fit-requires
+    (λ c. (c .slots-fit .ensures)))

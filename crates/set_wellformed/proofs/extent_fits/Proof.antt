@@ -3,10 +3,6 @@ use borrow.Author.Needs.{needs}
 use Rattle.set_wellformed.proofs.extent_fits.Statement.{statement}
 use Rattle.set_wellformed.proofs.extent_fits.Tie as tie
 
-returns : tie.Need-returns
-returns c = rw (c .before .outside .ensures, c .outside2 .ensures)
-
 pub extent-fits-spec : {M : Type 1} → statement M
-extent-fits-spec =
-    tie.close
-    (tie.spec (λ c κs. search needs) (λ c κs. search needs) returns)
+extent-fits-spec = tie.close (tie.spec (λ c κs. search needs) (λ c κs. search needs)
+    (λ c. rw (c .before .outside .ensures, c .outside2 .ensures)))

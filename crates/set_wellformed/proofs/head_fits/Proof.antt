@@ -23,8 +23,6 @@ unfolding headFits
 returns-3 c = rw (sym (c .before .before .before .before .before .before .before .before .numbers-fit .ensures) ∙ not-false _ (c .before .before .before .before .before .before .before .if1 .left), rw (c .before .before .before .before .before .before .flags-of .ensures) at (sym (c .before .before .before .before .before .flags-fit .ensures) ∙ not-false _ (c .before .before .before .before .if2 .left))) (c .room-fits .ensures)
 
 pub head-fits-spec : {M : Type 1} → statement M
-head-fits-spec =
-    tie.close
-    (tie.spec (λ c. search needs) (λ c. search needs) (λ c. search needs) (λ c κs. search needs) returns
-    (λ c κs. search needs) (λ c κs. search needs) returns-2 (λ c. search needs) (λ c. search needs) (λ c. search needs)
-    room-fits-requires returns-3)
+head-fits-spec = tie.close (tie.spec (λ c. search needs) (λ c. search needs) (λ c. search needs) (λ c κs. search needs)
+    returns (λ c κs. search needs) (λ c κs. search needs) returns-2 (λ c. search needs) (λ c. search needs)
+    (λ c. search needs) room-fits-requires returns-3)

@@ -16,10 +16,8 @@ returns-2 : tie.Need-returns-2
 returns-2 c = let n = rw (c .before .before .before .before .before .before .before .before .before .before .wide .ensures .0) at (c .before .before .before .before .wide4 .ensures .0) in let b = rw ((c .before .before .before .before .before .before .before .before .before .before .wide .ensures .0), (c .before .before .before .before .before .before .before .before .wide2 .ensures .0), (c .before .before .before .before .before .before .wide3 .ensures .0)) at (c .before .before .base .ensures .0) in let a = (c .before .before .before .before .before .before .before .before .before .before .before .before .args) in rw (mip-seen (numbersOf (a .table .now)) (a .half) (a .table .now) (a .ranges .now) (a .i) (a .m) _ _ _ n (c .before .before .before .before .before .before .wide3 .ensures .0) (c .before .before .before .if1 .left) b) (c .ranges-fit .ensures)
 
 pub mip-fits-spec : {M : Type 1} → statement M
-mip-fits-spec =
-    tie.close
-    (tie.spec (λ c κs. search needs) (λ c. search needs) (λ c κs. search needs) (λ c. search needs)
-    (λ c κs. search needs) (λ c. search needs) (λ c. search needs) (λ c. search needs) (λ c. search needs)
-    (λ c. search needs) (λ c. search needs) (λ c κs. search needs) returns base-requires (λ c. search needs)
+mip-fits-spec = tie.close (tie.spec (λ c κs. search needs) (λ c. search needs) (λ c κs. search needs)
+    (λ c. search needs) (λ c κs. search needs) (λ c. search needs) (λ c. search needs) (λ c. search needs)
+    (λ c. search needs) (λ c. search needs) (λ c. search needs) (λ c κs. search needs) returns base-requires
     (λ c. search needs) (λ c. search needs) (λ c. search needs) (λ c. search needs) (λ c. search needs)
-    (λ c κs. search needs) returns-2)
+    (λ c. search needs) (λ c κs. search needs) returns-2)

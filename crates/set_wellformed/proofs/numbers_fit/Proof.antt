@@ -7,6 +7,4 @@ returns : tie.Need-returns
 returns c = rw (c .before .before .outside .ensures, c .before .outside2 .ensures, c .outside3 .ensures)
 
 pub numbers-fit-spec : {M : Type 1} → statement M
-numbers-fit-spec =
-    tie.close
-    (tie.spec (λ c κs. search needs) (λ c κs. search needs) (λ c κs. search needs) returns)
+numbers-fit-spec = tie.close (tie.spec (λ c κs. search needs) (λ c κs. search needs) (λ c κs. search needs) returns)

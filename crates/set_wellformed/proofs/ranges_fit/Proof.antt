@@ -13,9 +13,6 @@ Inv-loop s len p layers at₀ k₀ at k = Tiling p layers s len at k
 abbrev μ-loop : tie.MeasureT-loop
 μ-loop s len p layers at₀ k₀ at k = len - k
 
-loop-holds : tie.Need-loop-holds Inv-loop μ-loop
-loop-holds c = tiling-start _ _ _ _
-
 returns : tie.Need-returns Inv-loop μ-loop
 returns c = bad-start (c .before .before .before .before .before .before .pre) (c .before .before .before .before .loop .inv) (c .before .before .before .loop-test .taken) (c .before .before .get .ensures) (c .if1 .taken)
 
@@ -28,11 +25,7 @@ returns-3 c = bad-state (c .before .before .before .before .before .before .befo
 loop-again : tie.Need-loop-again Inv-loop μ-loop
 loop-again c = tiling-turn (c .before .before .before .before .before .before .before .before .before .before .pre) (c .before .before .before .before .before .before .before .before .loop .inv) (c .before .before .before .before .before .before .before .loop-test .taken) (c .before .before .before .before .before .before .get .ensures) (c .before .before .before .before .if1 .left) (c .before .before .if2 .left) (sym (c .before .state-fits .ensures) ∙ not-false _ (c .if3 .left))
 
-returns-4 : tie.Need-returns-4 Inv-loop μ-loop
-returns-4 c = tiling-end (c .before .loop .inv) (c .loop-test .left)
-
 pub ranges-fit-spec : {M : Type 1} → statement M
-ranges-fit-spec =
-    tie.close
-    (tie.spec Inv-loop μ-loop loop-holds (λ c κs. search needs) returns returns-2 (λ c κs. search needs) returns-3
-    (λ c. search needs) (λ c. search needs) loop-again returns-4)
+ranges-fit-spec = tie.close (tie.spec Inv-loop μ-loop (λ c. tiling-start _ _ _ _) (λ c κs. search needs) returns
+    returns-2 (λ c κs. search needs) returns-3 (λ c. search needs) (λ c. search needs) loop-again
+    (λ c. tiling-end (c .before .loop .inv) (c .loop-test .left)))

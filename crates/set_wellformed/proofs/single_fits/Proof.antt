@@ -3,10 +3,6 @@ use borrow.Author.Needs.{needs}
 use Rattle.set_wellformed.proofs.single_fits.Statement.{statement}
 use Rattle.set_wellformed.proofs.single_fits.Tie as tie
 
-returns : tie.Need-returns
-returns c = rw (c .before .state-fits .ensures, c .meets .ensures)
-
 pub single-fits-spec : {M : Type 1} → statement M
-single-fits-spec =
-    tie.close
-    (tie.spec (λ c κs. search needs) (λ c κs. search needs) returns)
+single-fits-spec = tie.close (tie.spec (λ c κs. search needs) (λ c κs. search needs)
+    (λ c. rw (c .before .state-fits .ensures, c .meets .ensures)))

@@ -3,10 +3,6 @@ use borrow.Author.Needs.{needs}
 use Rattle.set_wellformed.proofs.state_fits.Statement.{statement}
 use Rattle.set_wellformed.proofs.state_fits.Tie as tie
 
-returns : tie.Need-returns
-returns c = rw (c .before .incompatible .ensures, c .meets .ensures)
-
 pub state-fits-spec : {M : Type 1} → statement M
-state-fits-spec =
-    tie.close
-    (tie.spec (λ c κs. search needs) (λ c κs. search needs) returns)
+state-fits-spec = tie.close (tie.spec (λ c κs. search needs) (λ c κs. search needs)
+    (λ c. rw (c .before .incompatible .ensures, c .meets .ensures)))

@@ -12,9 +12,6 @@ Inv-loop s len pos at end n₀ k₀ a₀ n k a = Counting s len pos at end n k a
 abbrev μ-loop : tie.MeasureT-loop
 μ-loop s len pos at end n₀ k₀ a₀ n k a = len - k
 
-loop-holds : tie.Need-loop-holds Inv-loop μ-loop
-loop-holds c = search start-of
-
 returns : tie.Need-returns Inv-loop μ-loop
 returns c = stop ((c .before .before .before .before .before .before .pre) .1) (c .before .before .before .before .loop .inv) (c .before .before .before .loop-test .taken) (c .before .before .get .ensures) (omega arith)
 
@@ -30,12 +27,7 @@ returns-2 c = last ((c .before .before .before .before .before .before .before .
 loop-again : tie.Need-loop-again Inv-loop μ-loop
 loop-again c = turn ((c .before .before .before .before .before .before .before .before .pre) .1) (c .before .before .before .before .before .before .loop .inv) (c .before .before .before .before .before .loop-test .taken) (c .before .before .before .before .get .ensures) (omega arith) (c .if2 .left) (c .before .gap-count .ensures)
 
-returns-3 : tie.Need-returns-3 Inv-loop μ-loop
-returns-3 c = search finish
-
 pub added-spec : {M : Type 1} → statement M
-added-spec =
-    tie.close
-    (tie.spec Inv-loop μ-loop loop-holds (λ c κs. search needs) (λ c. search needs) (λ c κs. search needs)
-    (λ c. search needs) returns (λ c κs. search needs) add-n (λ c κs. search needs) add-result-2 returns-2
-    (λ c. search needs) loop-again (λ c. search needs) returns-3)
+added-spec = tie.close (tie.spec Inv-loop μ-loop (λ c. search start-of) (λ c κs. search needs) (λ c. search needs)
+    (λ c κs. search needs) (λ c. search needs) returns (λ c κs. search needs) add-n (λ c κs. search needs) add-result-2
+    returns-2 (λ c. search needs) loop-again (λ c. search needs) (λ c. search finish))

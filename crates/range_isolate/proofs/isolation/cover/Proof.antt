@@ -39,9 +39,6 @@ Inv-loop s₀ len pos at end default n₀ p₀ a₀ s n p a = Onward s₀ len po
 abbrev μ-loop : tie.MeasureT-loop
 μ-loop s₀ len pos at end default n₀ p₀ a₀ s n p a = n - p
 
-loop-holds : tie.Need-loop-holds Inv-loop μ-loop
-loop-holds c = search start-of
-
 fill-gap-requires : tie.Need-fill-gap-requires Inv-loop μ-loop
 fill-gap-requires c κs = let j = c .before .before .before .before .before .loop .inv in (j .low, room-gap (j .room) (j .low) (c .before .before .before .before .loop-test .taken) (c .before .before .get .ensures) (c .before .if1 .left))
 
@@ -73,9 +70,7 @@ returns-2 c =
     j .on _ _ (⊎-elim (λ w. cover-end (j .room) (omega arith) b) (λ w. cover-before (j .room) (w .0 .taken) (w .2 .ensures) (w .3 .taken) b) (c .before .before .before .before .loop-test .came))
 
 pub cover-spec : {M : Type 1} → statement M
-cover-spec =
-    tie.close
-    (tie.spec Inv-loop μ-loop loop-holds (λ c κs. search needs) fill-gap-requires (λ c. search needs)
-    (λ c. search needs) (λ c κs. search needs) cut-end-requires (λ c. search needs) (λ c. search needs)
-    (λ c. search needs) returns (λ c. search needs) (λ c. search needs) loop-again insert-record-requires
-    (λ c. search needs) (λ c. search needs) (λ c. search needs) returns-2)
+cover-spec = tie.close (tie.spec Inv-loop μ-loop (λ c. search start-of) (λ c κs. search needs) fill-gap-requires
+    (λ c. search needs) (λ c. search needs) (λ c κs. search needs) cut-end-requires (λ c. search needs)
+    (λ c. search needs) (λ c. search needs) returns (λ c. search needs) (λ c. search needs) loop-again
+    insert-record-requires (λ c. search needs) (λ c. search needs) (λ c. search needs) returns-2)

@@ -6,17 +6,9 @@ use borrow.Author.Needs.{needs}
 use Rattle.range_isolate.proofs.isolation.cut_end.Statement.{statement}
 use Rattle.range_isolate.proofs.isolation.cut_end.Tie as tie
 
-returns : tie.Need-returns
-returns c = search uncut
-
 insert-record-requires : tie.Need-insert-record-requires
 insert-record-requires c κs = let n : 3 * (c .before .before .before .before .before .before .before .before .before .args .len + 1) ≤ length (c .before .before .before .before .before .before .before .before .before .args .s .now) = cut-room _ _ _ _ (c .before .before .before .before .before .before .get .result) (c .before .before .before .before .before .before .before .before .before .pre .1) (c .before .before .before .before .before .before .get .ensures) (c .before .before .before .before .before .if1 .left) in search needs
 
-returns-2 : tie.Need-returns-2
-returns-2 c = search cut
-
 pub cut-end-spec : {M : Type 1} → statement M
-cut-end-spec =
-    tie.close
-    (tie.spec (λ c κs. search needs) (λ c. search needs) returns (λ c κs. search needs) insert-record-requires
-    (λ c. search needs) returns-2)
+cut-end-spec = tie.close (tie.spec (λ c κs. search needs) (λ c. search needs) (λ c. search uncut) (λ c κs. search needs)
+    insert-record-requires (λ c. search needs) (λ c. search cut))

@@ -6,20 +6,9 @@ use borrow.Author.Needs.{needs}
 use Rattle.range_isolate.proofs.isolation.cut_start.Statement.{statement}
 use Rattle.range_isolate.proofs.isolation.cut_start.Tie as tie
 
-returns : tie.Need-returns
-returns c = search start-end
-
-returns-2 : tie.Need-returns-2
-returns-2 c = search start-uncut
-
 insert-record-requires : tie.Need-insert-record-requires
 insert-record-requires c κs = let n : 3 * (c .before .before .before .before .before .before .before .before .before .before .args .len + 1) ≤ length (c .before .before .before .before .before .before .before .before .before .before .args .s .now) = start-room _ _ _ _ (c .before .before .before .before .before .before .get .result) (c .before .before .before .before .before .before .before .before .before .before .pre .1) (c .before .before .before .before .before .before .before .before .before .before .pre .0) (c .before .before .before .before .before .before .before .before .if1 .left) (c .before .before .before .before .before .before .get .ensures) (c .before .before .before .before .before .if2 .left) in search needs
 
-returns-3 : tie.Need-returns-3
-returns-3 c = search start-cut
-
 pub cut-start-spec : {M : Type 1} → statement M
-cut-start-spec =
-    tie.close
-    (tie.spec returns (λ c κs. search needs) (λ c. search needs) returns-2 (λ c κs. search needs) insert-record-requires
-    (λ c. search needs) returns-3)
+cut-start-spec = tie.close (tie.spec (λ c. search start-end) (λ c κs. search needs) (λ c. search needs)
+    (λ c. search start-uncut) (λ c κs. search needs) insert-record-requires (λ c. search needs) (λ c. search start-cut))

@@ -10,13 +10,6 @@ use Rattle.range_isolate.proofs.isolation.fill_gap.Tie as tie
 insert-record-requires : tie.Need-insert-record-requires
 insert-record-requires c κs = let e : gapCount (c .before .before .before .args .at) (c .before .before .before .args .start) ≡ 1 = rw (lt-ltb _ _ (c .before .if1 .taken)) in search needs
 
-returns : tie.Need-returns
-returns c = search gapped-yes
-
-returns-2 : tie.Need-returns-2
-returns-2 c = search gapped-no
-
 pub fill-gap-spec : {M : Type 1} → statement M
-fill-gap-spec =
-    tie.close
-    (tie.spec insert-record-requires (λ c. search needs) returns returns-2)
+fill-gap-spec = tie.close (tie.spec insert-record-requires (λ c. search needs) (λ c. search gapped-yes)
+    (λ c. search gapped-no))

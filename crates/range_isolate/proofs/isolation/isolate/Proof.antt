@@ -11,11 +11,6 @@ cut-start-requires c κs = (c .before .first-past .ensures .few, start-fits (c .
 cover-requires : tie.Need-cover-requires
 cover-requires c κs = (omega arith, cover-fits (c .before .before .before .before .before .before .before .before .pre) (c .before .before .before .before .before .first-past .ensures) (c .before .before .before .cut-start .ensures))
 
-returns : tie.Need-returns
-returns c = search isolates
-
 pub isolate-spec : {M : Type 1} → statement M
-isolate-spec =
-    tie.close
-    (tie.spec (λ c κs. search needs) cut-start-requires (λ c. search needs) (λ c. search needs) cover-requires
-    (λ c. search needs) returns)
+isolate-spec = tie.close (tie.spec (λ c κs. search needs) cut-start-requires (λ c. search needs) (λ c. search needs)
+    cover-requires (λ c. search needs) (λ c. search isolates))

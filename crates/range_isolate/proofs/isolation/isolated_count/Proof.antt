@@ -4,11 +4,6 @@ use borrow.Author.Needs.{needs}
 use Rattle.range_isolate.proofs.isolation.isolated_count.Statement.{statement}
 use Rattle.range_isolate.proofs.isolation.isolated_count.Tie as tie
 
-returns : tie.Need-returns
-returns c = search count-is
-
 pub isolated-count-spec : {M : Type 1} → statement M
-isolated-count-spec =
-    tie.close
-    (tie.spec (λ c κs. search needs) (λ c κs. search needs) (λ c κs. search needs) (λ c. search needs)
-    (λ c. search needs) returns)
+isolated-count-spec = tie.close (tie.spec (λ c κs. search needs) (λ c κs. search needs) (λ c κs. search needs)
+    (λ c. search needs) (λ c. search needs) (λ c. search count-is))

@@ -12,28 +12,18 @@ Inv-loop s₀ len i₀ w₀ cur₀ s i w cur = Joining s₀ len s w i cur
 abbrev μ-loop : tie.MeasureT-loop
 μ-loop s₀ len i₀ w₀ cur₀ s i w cur = len - i
 
-returns : tie.Need-returns Inv-loop μ-loop
-returns c = search none
-
 returns-2 : tie.Need-returns-2 Inv-loop μ-loop
 returns-2 c = all-apart (c .before .before .before .before .before .pre) (c .before .first-join .ensures) (c .if2 .taken)
 
 loop-holds : tie.Need-loop-holds Inv-loop μ-loop
 loop-holds c = joining-from (c .before .before .before .first-join .ensures) refl (c .get .ensures)
 
-loop-again : tie.Need-loop-again Inv-loop μ-loop
-loop-again c = search turn-yes
-
 loop-again-2 : tie.Need-loop-again-2 Inv-loop μ-loop
 loop-again-2 c = turn-no (c .before .before .before .before .before .before .before .before .before .before .before .before .before .before .before .before .before .pre) (c .before .before .before .before .before .before .before .before .before .loop .inv) (c .before .before .before .before .before .before .before .before .loop-test .taken) (c .before .before .before .before .before .before .get2 .ensures) (c .before .before .before .before .before .joins .ensures) (c .before .before .before .before .if3 .left) (c .before .before .put .ensures)
 
-returns-3 : tie.Need-returns-3 Inv-loop μ-loop
-returns-3 c = search finish
-
 pub coalesce-spec : {M : Type 1} → statement M
-coalesce-spec =
-    tie.close
-    (tie.spec Inv-loop μ-loop returns (λ c κs. search needs) (λ c. search needs) returns-2 (λ c. search needs)
-    (λ c κs. search needs) loop-holds (λ c κs. search needs) (λ c. search needs) (λ c κs. search needs)
-    (λ c. search needs) loop-again (λ c κs. search needs) (λ c. search needs) (λ c. search needs) loop-again-2
-    (λ c κs. search needs) (λ c. search needs) (λ c κs. search needs) (λ c. search needs) returns-3)
+coalesce-spec = tie.close (tie.spec Inv-loop μ-loop (λ c. search none) (λ c κs. search needs) (λ c. search needs)
+    returns-2 (λ c. search needs) (λ c κs. search needs) loop-holds (λ c κs. search needs) (λ c. search needs)
+    (λ c κs. search needs) (λ c. search needs) (λ c. search turn-yes) (λ c κs. search needs) (λ c. search needs)
+    (λ c. search needs) loop-again-2 (λ c κs. search needs) (λ c. search needs) (λ c κs. search needs)
+    (λ c. search needs) (λ c. search finish))

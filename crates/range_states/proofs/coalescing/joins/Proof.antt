@@ -6,10 +6,5 @@ use Rattle.range_states.proofs.coalescing.joins.Tie as tie
 returns : tie.Need-returns
 returns c = simp (eq-eqb _ _ (c .before .before .if1 .taken))
 
-returns-2 : tie.Need-returns-2
-returns-2 c = simp (ne-eqb _ _ (c .if1 .left))
-
 pub joins-spec : {M : Type 1} → statement M
-joins-spec =
-    tie.close
-    (tie.spec returns returns-2)
+joins-spec = tie.close (tie.spec returns (λ c. simp (ne-eqb _ _ (c .if1 .left))))

@@ -7,6 +7,4 @@ returns : tie.Need-returns
 returns c = rw (c .before .larger .ensures, c .smaller .ensures)
 
 pub clipped-spec : {M : Type 1} → statement M
-clipped-spec =
-    tie.close
-    (tie.spec (λ c κs. search needs) (λ c κs. search needs) returns)
+clipped-spec = tie.close (tie.spec (λ c κs. search needs) (λ c κs. search needs) returns)

@@ -11,24 +11,14 @@ Inv-loop s len start end out₀ w₀ k₀ out w k = Writing s len start end out�
 abbrev μ-loop : tie.MeasureT-loop
 μ-loop s len start end out₀ w₀ k₀ out w k = len - k
 
-loop-holds : tie.Need-loop-holds Inv-loop μ-loop
-loop-holds c = search write-from
-
 put-requires : tie.Need-put-requires Inv-loop μ-loop
 put-requires c κs = write-fits ((c .before .before .before .before .before .before .before .before .before .pre) .0) (c .before .before .before .before .before .before .loop .inv) (c .before .before .before .before .before .loop-test .taken) (c .before .before .before .before .get .ensures) (c .before .before .before .overlap .ensures) (c .before .before .if1 .taken)
 
 loop-again : tie.Need-loop-again Inv-loop μ-loop
 loop-again c = write-yes ((c .before .before .before .before .before .before .before .before .before .before .before .before .pre) .0) (c .before .before .before .before .before .before .before .before .before .loop .inv) (c .before .before .before .before .before .before .before .before .loop-test .taken) (c .before .before .before .before .before .before .before .get .ensures) (c .before .before .before .before .before .before .overlap .ensures) (c .before .before .before .before .before .if1 .taken) (rw (c .before .before .before .clipped .ensures) at (c .before .before .put .ensures))
 
-loop-again-2 : tie.Need-loop-again-2 Inv-loop μ-loop
-loop-again-2 c = search write-no
-
-returns : tie.Need-returns Inv-loop μ-loop
-returns c = search write-end
-
 pub iter-filter-spec : {M : Type 1} → statement M
-iter-filter-spec =
-    tie.close
-    (tie.spec Inv-loop μ-loop loop-holds (λ c κs. search needs) (λ c. search needs) (λ c κs. search needs)
-    (λ c κs. search needs) put-requires (λ c. search needs) (λ c. search needs) loop-again (λ c. search needs)
-    loop-again-2 (λ c. search needs) returns)
+iter-filter-spec = tie.close (tie.spec Inv-loop μ-loop (λ c. search write-from) (λ c κs. search needs)
+    (λ c. search needs) (λ c κs. search needs) (λ c κs. search needs) put-requires (λ c. search needs)
+    (λ c. search needs) loop-again (λ c. search needs) (λ c. search write-no) (λ c. search needs)
+    (λ c. search write-end))

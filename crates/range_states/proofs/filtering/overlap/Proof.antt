@@ -13,6 +13,4 @@ unfolding overlaps
 returns-2 c = simp (le-ltb _ _ (c .if1 .left))
 
 pub overlap-spec : {M : Type 1} → statement M
-overlap-spec =
-    tie.close
-    (tie.spec returns returns-2)
+overlap-spec = tie.close (tie.spec returns returns-2)

@@ -27,10 +27,8 @@ returns-4 : tie.Need-returns-4
 returns-4 c = ends-single (c .before .before .before .before .before .before .before .before .pre .0) (c .before .before .before .before .before .before .before .before .pre .1) (c .before .before .before .if1 .left) (c .if3 .left)
 
 pub ends-agree-spec : {M : Type 1} → statement M
-ends-agree-spec =
-    tie.close
-    (tie.spec (λ c. search needs) (λ c. search needs) (λ c. search needs) (λ c. search needs) (λ c. search needs)
-    (λ c. search needs) (λ c. search needs) (λ c. search needs) (λ c. search needs) mips-agree-requires returns
-    (λ c. search needs) (λ c. search needs) (λ c. search needs) mips-known-requires returns-2 (λ c. search needs)
+ends-agree-spec = tie.close (tie.spec (λ c. search needs) (λ c. search needs) (λ c. search needs) (λ c. search needs)
     (λ c. search needs) (λ c. search needs) (λ c. search needs) (λ c. search needs) (λ c. search needs)
-    mips-known-requires-2 returns-3 returns-4)
+    mips-agree-requires returns (λ c. search needs) (λ c. search needs) (λ c. search needs) mips-known-requires
+    returns-2 (λ c. search needs) (λ c. search needs) (λ c. search needs) (λ c. search needs) (λ c. search needs)
+    (λ c. search needs) mips-known-requires-2 returns-3 returns-4)

@@ -18,6 +18,5 @@ returns-3 : tie.Need-returns-3
 returns-3 c = rw (sym (c .before .before .before .before .held-fits .ensures) ∙ not-false _ (c .before .before .before .if1 .left), sym (c .before .before .held-fits2 .ensures) ∙ not-false _ (c .before .if2 .left)) (c .ends-agree .ensures)
 
 pub ends-fit-spec : {M : Type 1} → statement M
-ends-fit-spec =
-    tie.close
-    (tie.spec (λ c κs. search needs) returns (λ c κs. search needs) returns-2 ends-agree-requires returns-3)
+ends-fit-spec = tie.close (tie.spec (λ c κs. search needs) returns (λ c κs. search needs) returns-2 ends-agree-requires
+    returns-3)

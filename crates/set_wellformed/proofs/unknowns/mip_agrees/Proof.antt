@@ -19,12 +19,10 @@ returns : tie.Need-returns
 returns c = let en = rw (c .before .before .before .before .before .before .before .before .before .before .before .before .wide .ensures .0) at (c .before .before .before .before .before .before .wide4 .ensures .0) in let eb = rw ((c .before .before .before .before .before .before .before .before .before .before .before .before .wide .ensures .0), (c .before .before .before .before .before .before .before .before .before .before .wide2 .ensures .0), (c .before .before .before .before .before .before .before .before .wide3 .ensures .0)) at (c .before .before .before .base .ensures .0) in let el = rw (c .before .before .before .before .before .before .before .before .before .before .before .before .wide .ensures .0) at (c .before .before .before .before .wide5 .ensures .0) in rw (mip-fits-seen (c .before .before .before .before .before .before .before .before .before .before .before .before .before .before .before .pre .0) _ _ _ en (c .before .before .before .before .before .before .before .before .wide3 .ensures .0) eb, mip-fits-seen (c .before .before .before .before .before .before .before .before .before .before .before .before .before .before .before .pre .1) _ _ _ el (c .before .before .before .before .before .before .before .before .wide3 .ensures .0) eb) (c .layers-agree .ensures)
 
 pub mip-agrees-spec : {M : Type 1} → statement M
-mip-agrees-spec =
-    tie.close
-    (tie.spec (λ c κs. search needs) (λ c. search needs) (λ c κs. search needs) (λ c. search needs)
-    (λ c κs. search needs) (λ c. search needs) (λ c. search needs) (λ c. search needs) (λ c. search needs)
-    (λ c. search needs) (λ c. search needs) (λ c κs. search needs) (λ c. search needs) (λ c. search needs)
-    (λ c. search needs) (λ c. search needs) (λ c. search needs) (λ c. search needs) (λ c κs. search needs) base-requires
+mip-agrees-spec = tie.close (tie.spec (λ c κs. search needs) (λ c. search needs) (λ c κs. search needs)
+    (λ c. search needs) (λ c κs. search needs) (λ c. search needs) (λ c. search needs) (λ c. search needs)
+    (λ c. search needs) (λ c. search needs) (λ c. search needs) (λ c κs. search needs) (λ c. search needs)
     (λ c. search needs) (λ c. search needs) (λ c. search needs) (λ c. search needs) (λ c. search needs)
-    (λ c. search needs) (λ c. search needs) (λ c. search needs) (λ c. search needs) part-layers-agree-end-2
-    layers-agree-requires returns)
+    (λ c κs. search needs) base-requires (λ c. search needs) (λ c. search needs) (λ c. search needs) (λ c. search needs)
+    (λ c. search needs) (λ c. search needs) (λ c. search needs) (λ c. search needs) (λ c. search needs)
+    part-layers-agree-end-2 layers-agree-requires returns)

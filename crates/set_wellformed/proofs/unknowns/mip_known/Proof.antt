@@ -15,9 +15,8 @@ returns : tie.Need-returns
 returns c = let en = rw (c .before .before .before .before .before .before .before .before .before .wide .ensures .0) at (c .before .before .before .wide4 .ensures .0) in let eb = rw ((c .before .before .before .before .before .before .before .before .before .wide .ensures .0), (c .before .before .before .before .before .before .before .wide2 .ensures .0), (c .before .before .before .before .before .wide3 .ensures .0)) at (c .before .before .base .ensures .0) in rw (mip-fits-seen (c .before .before .before .before .before .before .before .before .before .before .before .pre) _ _ _ en (c .before .before .before .before .before .wide3 .ensures .0) eb) (c .ranges-known .ensures)
 
 pub mip-known-spec : {M : Type 1} → statement M
-mip-known-spec =
-    tie.close
-    (tie.spec (λ c κs. search needs) (λ c. search needs) (λ c κs. search needs) (λ c. search needs)
-    (λ c κs. search needs) (λ c. search needs) (λ c. search needs) (λ c. search needs) (λ c. search needs)
-    (λ c. search needs) (λ c. search needs) (λ c κs. search needs) base-requires (λ c. search needs) (λ c. search needs)
-    (λ c. search needs) (λ c. search needs) (λ c. search needs) (λ c. search needs) ranges-known-requires returns)
+mip-known-spec = tie.close (tie.spec (λ c κs. search needs) (λ c. search needs) (λ c κs. search needs)
+    (λ c. search needs) (λ c κs. search needs) (λ c. search needs) (λ c. search needs) (λ c. search needs)
+    (λ c. search needs) (λ c. search needs) (λ c. search needs) (λ c κs. search needs) base-requires (λ c. search needs)
+    (λ c. search needs) (λ c. search needs) (λ c. search needs) (λ c. search needs) (λ c. search needs)
+    ranges-known-requires returns)

@@ -18,9 +18,6 @@ abbrev μ-loop : tie.MeasureT-loop
 loop-holds : tie.Need-loop-holds Inv-loop μ-loop
 loop-holds c = (omega arith, (omega arith, walk-start (c .before .before .pre)))
 
-get-requires : tie.Need-get-requires Inv-loop μ-loop
-get-requires c κs = omega (arith, (c .before .before .before .before .pre .left))
-
 get-requires-2 : tie.Need-get-requires-2 Inv-loop μ-loop
 get-requires-2 c κs = let h = still (c .before .before .before .before .before .pre) (c .before .before .loop .inv .1 .1) (c .before .loop-test .taken) (c .get .ensures) (c .before .before .loop .inv .1 .0) in omega (arith, (c .before .before .before .before .before .pre .right))
 
@@ -37,7 +34,7 @@ returns-2 : tie.Need-returns-2 Inv-loop μ-loop
 returns-2 c = walk-end (c .before .before .before .before .pre) (c .before .loop .inv .1 .1) (c .before .loop .inv .0) (c .loop-test .left)
 
 pub ranges-agree-spec : {M : Type 1} → statement M
-ranges-agree-spec =
-    tie.close
-    (tie.spec Inv-loop μ-loop loop-holds get-requires get-requires-2 (λ c κs. search needs) returns
-    (λ c κs. search needs) (λ c. search needs) (λ c κs. search needs) (λ c. search needs) loop-less loop-again returns-2)
+ranges-agree-spec = tie.close (tie.spec Inv-loop μ-loop loop-holds
+    (λ c κs. omega (arith, (c .before .before .before .before .pre .left))) get-requires-2 (λ c κs. search needs)
+    returns (λ c κs. search needs) (λ c. search needs) (λ c κs. search needs) (λ c. search needs) loop-less loop-again
+    returns-2)

@@ -11,20 +11,12 @@ Inv-loop s len u k₀ k = Knowing u s len k
 abbrev μ-loop : tie.MeasureT-loop
 μ-loop s len u k₀ k = len - k
 
-loop-holds : tie.Need-loop-holds Inv-loop μ-loop
-loop-holds c = knowing-start _ _ _
-
 returns : tie.Need-returns Inv-loop μ-loop
 returns c = knowing-stop (c .before .before .before .before .before .before .pre) (c .before .before .before .before .loop .inv) (c .before .before .before .loop-test .taken) (c .before .before .get .ensures) (c .if1 .taken)
 
 loop-again : tie.Need-loop-again Inv-loop μ-loop
 loop-again c = knowing-turn (c .before .before .before .before .before .before .pre) (c .before .before .before .before .loop .inv) (c .before .before .before .loop-test .taken) (c .before .before .get .ensures) (c .if1 .left)
 
-returns-2 : tie.Need-returns-2 Inv-loop μ-loop
-returns-2 c = knowing-end (c .before .loop .inv) (c .loop-test .left)
-
 pub ranges-known-spec : {M : Type 1} → statement M
-ranges-known-spec =
-    tie.close
-    (tie.spec Inv-loop μ-loop loop-holds (λ c κs. search needs) returns (λ c. search needs) (λ c. search needs)
-    loop-again returns-2)
+ranges-known-spec = tie.close (tie.spec Inv-loop μ-loop (λ c. knowing-start _ _ _) (λ c κs. search needs) returns
+    (λ c. search needs) (λ c. search needs) loop-again (λ c. knowing-end (c .before .loop .inv) (c .loop-test .left)))

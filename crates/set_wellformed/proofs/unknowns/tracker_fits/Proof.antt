@@ -2,31 +2,45 @@
 use native.Mathlib.Omega.{arith}
 use mathlib.Core.Path.{sym, _∙_}
 use borrow.Author.Tests.{not-true, not-false}
-use Rattle.set_wellformed.proofs.Numbers.{numbers-in, head-numbers, head-measured, measured}
+use Rattle.set_wellformed.proofs.Numbers.{numbers-in, head-numbers, head-measured}
 use Rattle.set_wellformed.proofs.Holding.{tracker-is}
 use borrow.Author.Needs.{needs}
 use Rattle.set_storage.specs.Storage.{endHalf}
+use Rattle.set_storage.specs.Frames.{measured-of as measured}
 use Rattle.set_wellformed.proofs.unknowns.tracker_fits.Statement.{statement}
 use Rattle.set_wellformed.proofs.unknowns.tracker_fits.Tie as tie
 
 returns : tie.Need-returns
-returns c = let a = (c .before .before .before .before .before .args) in rw (tracker-is (a .table .now) (a .starts .now) (a .ends .now), sym (c .before .head-fits .ensures) ∙ not-true _ (c .if1 .taken))
+returns c =
+    let a = (c .before .before .before .before .before .args) in
+    record { is = rw (tracker-is (a .table .now) (a .starts .now) (a .ends .now), sym (c .before .head-fits .ensures) ∙ not-true _ (c .if1 .taken)); long = c .before .before .table-len .ensures .1 }
 
 room-fits-requires : tie.Need-room-fits-requires
 room-fits-requires c κs = let k = numbers-in _ _ _ (head-numbers _ _ (sym (c .before .before .before .before .head-fits .ensures) ∙ not-false _ (c .before .before .before .if1 .left))) in (k .textures .high, (k .mips .high, k .layers .high))
 
 returns-2 : tie.Need-returns-2
-returns-2 c = let a = (c .before .before .before .before .before .before .before .before .before .before .args) in rw (tracker-is (a .table .now) (a .starts .now) (a .ends .now), sym (c .before .before .before .before .before .before .head-fits .ensures) ∙ not-false _ (c .before .before .before .before .before .if1 .left), sym (c .before .room-fits .ensures) ∙ not-true _ (c .if2 .taken))
+returns-2 c =
+    let tested = c .before .before .before .before .before .before in
+    let a = (tested .before .before .before .before .args) in
+    record {
+      is = rw (tracker-is (a .table .now) (a .starts .now) (a .ends .now), sym (tested .head-fits .ensures) ∙ not-false _ (c .before .before .before .before .before .if1 .left), sym (c .before .room-fits .ensures) ∙ not-true _ (c .if2 .taken));
+      long = tested .before .table-len .ensures .1;
+    }
 
 all-fit-requires : tie.Need-all-fit-requires
 all-fit-requires c κs = let h = sym (c .before .before .before .before .before .before .before .before .before .head-fits .ensures) ∙ not-false _ (c .before .before .before .before .before .before .before .before .if1 .left) in (head-measured _ _ (c .before .before .before .before .before .before .before .before .before .before .table-len .ensures .1) h, (measured endHalf _ _ (omega arith, omega arith) (c .before .before .before .before .before .before .before .before .before .before .table-len .ensures .1) (head-numbers _ _ h) (sym (c .before .before .before .before .room-fits .ensures) ∙ not-false _ (c .before .before .before .if2 .left)), ((c .before .wide .ensures .0), (c .flags-of .ensures))))
 
 returns-3 : tie.Need-returns-3
-returns-3 c = let a = (c .before .before .before .before .before .before .before .before .before .before .before .before .before .before .args) in rw (tracker-is (a .table .now) (a .starts .now) (a .ends .now), sym (c .before .before .before .before .before .before .before .before .before .before .head-fits .ensures) ∙ not-false _ (c .before .before .before .before .before .before .before .before .before .if1 .left), sym (c .before .before .before .before .before .room-fits .ensures) ∙ not-false _ (c .before .before .before .before .if2 .left)) (rw (c .before .before .wide .ensures .0) at (c .all-fit .ensures))
+returns-3 c =
+    let roomy = c .before .before .before .before .before in
+    let tested = roomy .before .before .before .before .before in
+    let a = (tested .before .before .before .before .args) in
+    record {
+      is = rw (tracker-is (a .table .now) (a .starts .now) (a .ends .now), sym (tested .head-fits .ensures) ∙ not-false _ (roomy .before .before .before .before .if1 .left), sym (roomy .room-fits .ensures) ∙ not-false _ (c .before .before .before .before .if2 .left)) (rw (c .before .before .wide .ensures .0) at (c .all-fit .ensures));
+      long = tested .before .table-len .ensures .1;
+    }
 
 pub tracker-fits-spec : {M : Type 1} → statement M
-tracker-fits-spec =
-    tie.close
-    (tie.spec (λ c κs. search needs) (λ c κs. search needs) returns (λ c. search needs) (λ c. search needs)
-    (λ c. search needs) room-fits-requires returns-2 (λ c. search needs) (λ c κs. search needs) (λ c κs. search needs)
-    all-fit-requires returns-3)
+tracker-fits-spec = tie.close (tie.spec (λ c κs. search needs) (λ c κs. search needs) returns (λ c. search needs)
+    (λ c. search needs) (λ c. search needs) room-fits-requires returns-2 (λ c. search needs) (λ c κs. search needs)
+    (λ c κs. search needs) all-fit-requires returns-3)

@@ -7,6 +7,4 @@ returns : tie.Need-returns
 returns c = rw (c .before .before .single-fits .ensures, c .before .single-fits2 .ensures, c .extent-fits .ensures)
 
 pub pair-fits-spec : {M : Type 1} → statement M
-pair-fits-spec =
-    tie.close
-    (tie.spec (λ c κs. search needs) (λ c κs. search needs) (λ c κs. search needs) returns)
+pair-fits-spec = tie.close (tie.spec (λ c κs. search needs) (λ c κs. search needs) (λ c κs. search needs) returns)

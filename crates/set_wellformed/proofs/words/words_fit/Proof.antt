@@ -7,6 +7,4 @@ returns : tie.Need-returns
 returns c = rw (c .before .before .extent-fits .ensures, c .single-fits .ensures)
 
 pub words-fit-spec : {M : Type 1} → statement M
-words-fit-spec =
-    tie.close
-    (tie.spec (λ c κs. search needs) (λ c κs. search needs) returns)
+words-fit-spec = tie.close (tie.spec (λ c κs. search needs) (λ c κs. search needs) returns)

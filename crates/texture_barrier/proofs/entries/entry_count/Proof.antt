@@ -9,6 +9,4 @@ unfolding entriesOf
 returns c = sym (read-long _ _)
 
 pub entry-count-spec : {M : Type 1} → statement M
-entry-count-spec =
-    tie.close
-    (tie.spec returns)
+entry-count-spec = tie.close (tie.spec returns)

@@ -8,24 +8,6 @@ use borrow.Author.Needs.{needs}
 use Rattle.texture_barrier.proofs.entries.put_entry.Statement.{statement}
 use Rattle.texture_barrier.proofs.entries.put_entry.Tie as tie
 
-slice-write-log-2 : tie.Need-slice-write-log-2
-slice-write-log-2 c = simp length-set (omega arith)
-
-slice-write-log-3 : tie.Need-slice-write-log-3
-slice-write-log-3 c = simp length-set (omega arith)
-
-slice-write-log-4 : tie.Need-slice-write-log-4
-slice-write-log-4 c = simp length-set (omega arith)
-
-slice-write-log-5 : tie.Need-slice-write-log-5
-slice-write-log-5 c = simp length-set (omega arith)
-
-slice-write-log-6 : tie.Need-slice-write-log-6
-slice-write-log-6 c = simp length-set (omega arith)
-
-slice-write-log-7 : tie.Need-slice-write-log-7
-slice-write-log-7 c = simp length-set (omega arith)
-
 returns : tie.Need-returns
 returns c =
     let e1 : 7 * c .args .n + 1 ≡ suc (7 * c .args .n) = omega arith in
@@ -37,9 +19,9 @@ returns c =
     rw (e1, e2, e3, e4, e5, e6) (put-entry-is _ _ _ (c .pre))
 
 pub put-entry-spec : {M : Type 1} → statement M
-put-entry-spec =
-    tie.close
-    (tie.spec (λ c. search needs) (λ c. search needs) (λ c. search needs) (λ c. search needs) (λ c. search needs)
-    slice-write-log-2 (λ c. search needs) (λ c. search needs) slice-write-log-3 (λ c. search needs) (λ c. search needs)
-    slice-write-log-4 (λ c. search needs) (λ c. search needs) slice-write-log-5 (λ c. search needs) (λ c. search needs)
-    slice-write-log-6 (λ c. search needs) (λ c. search needs) slice-write-log-7 (λ c. search needs) returns)
+put-entry-spec = tie.close (tie.spec (λ c. search needs) (λ c. search needs) (λ c. search needs) (λ c. search needs)
+    (λ c. search needs) (λ c. simp length-set (omega arith)) (λ c. search needs) (λ c. search needs)
+    (λ c. simp length-set (omega arith)) (λ c. search needs) (λ c. search needs) (λ c. simp length-set (omega arith))
+    (λ c. search needs) (λ c. search needs) (λ c. simp length-set (omega arith)) (λ c. search needs) (λ c. search needs)
+    (λ c. simp length-set (omega arith)) (λ c. search needs) (λ c. search needs) (λ c. simp length-set (omega arith))
+    (λ c. search needs) returns)

@@ -16,47 +16,17 @@ Inv-loop table ranges half given pieces side i high t log₀ at x₀ m₀ log x 
 abbrev μ-loop : tie.MeasureT-loop
 μ-loop table ranges half given pieces side i high t log₀ at x₀ m₀ log x m = high - m
 
-loop-holds : tie.Need-loop-holds Inv-loop μ-loop
-loop-holds c = mips-start _ _ _ _ _ 0 _ _ _ (omega arith)
-
 locate-requires : tie.Need-locate-requires Inv-loop μ-loop
 locate-requires c κs = rw ((c .wide .ensures .0)) (locates (mip-ready ((c .before .before .before .before .before .before .pre) .0) (c .before .loop-test .taken)))
-
-sub-part : tie.Need-sub-part Inv-loop μ-loop
-sub-part c = (c .locate .ensures) .order
-
-part-part-start : tie.Need-part-part-start Inv-loop μ-loop
-part-part-start c = (c .locate .ensures) .order
-
-part-part-end : tie.Need-part-part-end Inv-loop μ-loop
-part-part-end c = (c .locate .ensures) .end
 
 locate-requires-2 : tie.Need-locate-requires-2 Inv-loop μ-loop
 locate-requires-2 c κs = rw ((c .wide2 .ensures .0)) (locates (mip-ready ((c .before .before .before .before .before .before .before .before .before .pre) .1 .0) (c .before .before .before .before .loop-test .taken)))
 
-sub-by : tie.Need-sub-by Inv-loop μ-loop
-sub-by c = (c .locate2 .ensures) .order
-
-part-by-start : tie.Need-part-by-start Inv-loop μ-loop
-part-by-start c = (c .locate2 .ensures) .order
-
-part-by-end : tie.Need-part-by-end Inv-loop μ-loop
-part-by-end c = (c .locate2 .ensures) .end
-
-add-log-pairs : tie.Need-add-log-pairs Inv-loop μ-loop
-add-log-pairs c = omega arith
-
 log-pairs-requires : tie.Need-log-pairs-requires Inv-loop μ-loop
 log-pairs-requires c κs = let f = (rw ((c .before .before .before .before .before .before .wide .ensures .0)) at (c .before .before .before .before .before .locate .ensures)) in let g = (rw ((c .before .before .before .wide2 .ensures .0)) at (c .before .before .locate2 .ensures)) in (pair-ready (run-ready ((c .before .before .before .before .before .before .before .before .before .before .before .before .pre) .0) (c .before .before .before .before .before .before .before .loop-test .taken) f _ (omega arith)) (run-ready ((c .before .before .before .before .before .before .before .before .before .before .before .before .pre) .1 .0) (c .before .before .before .before .before .before .before .loop-test .taken) g _ (omega arith)) (omega arith), rw (run-is ((c .before .before .before .before .before .before .before .before .before .before .before .before .pre) .0) (c .before .before .before .before .before .before .before .loop-test .taken) f, run-is ((c .before .before .before .before .before .before .before .before .before .before .before .before .pre) .1 .0) (c .before .before .before .before .before .before .before .loop-test .taken) g) (mips-room _ _ (c .before .before .before .before .before .before .before .before .loop .inv) ((c .before .before .before .before .before .before .before .before .before .before .before .before .pre) .1 .1 .1) (c .before .before .before .before .before .before .before .loop-test .taken)))
 
-add-x : tie.Need-add-x Inv-loop μ-loop
-add-x c = omega arith
-
 add-m : tie.Need-add-m Inv-loop μ-loop
 add-m c = omega (arith, (c .before .before .before .before .before .before .before .before .before .before .before .before .before .before .before .pre) .0 .top, (c .before .before .before .before .before .before .before .before .before .before .loop-test .taken))
-
-loop-less : tie.Need-loop-less Inv-loop μ-loop
-loop-less c = omega arith
 
 loop-again : tie.Need-loop-again Inv-loop μ-loop
 loop-again c = let f = (rw ((c .before .before .before .before .before .before .before .before .before .wide .ensures .0)) at (c .before .before .before .before .before .before .before .before .locate .ensures)) in let g = (rw ((c .before .before .before .before .before .before .wide2 .ensures .0)) at (c .before .before .before .before .before .locate2 .ensures)) in mips-turn _ _ (c .before .before .before .before .before .before .before .before .before .before .before .loop .inv) ((c .before .before .before .before .before .before .before .before .before .before .before .before .before .before .before .pre) .1 .1 .1) (c .before .before .before .before .before .before .before .before .before .before .loop-test .taken) (omega arith) (rw (run-is ((c .before .before .before .before .before .before .before .before .before .before .before .before .before .before .before .pre) .0) (c .before .before .before .before .before .before .before .before .before .before .loop-test .taken) f, run-is ((c .before .before .before .before .before .before .before .before .before .before .before .before .before .before .before .pre) .1 .0) (c .before .before .before .before .before .before .before .before .before .before .loop-test .taken) g) at (c .before .before .log-pairs .ensures))
@@ -65,8 +35,9 @@ returns : tie.Need-returns Inv-loop μ-loop
 returns c = mips-end _ _ (c .before .loop .inv) (omega (arith, (c .before .before .before .before .before .pre) .0 .top, (c .before .loop .inv) .high)) (c .loop-test .left)
 
 pub log-mip-pairs-spec : {M : Type 1} → statement M
-log-mip-pairs-spec =
-    tie.close
-    (tie.spec Inv-loop μ-loop loop-holds (λ c κs. search needs) locate-requires (λ c. search needs) sub-part
-    part-part-start part-part-end (λ c κs. search needs) locate-requires-2 (λ c. search needs) sub-by part-by-start
-    part-by-end add-log-pairs log-pairs-requires add-x add-m loop-less loop-again (λ c. search needs) returns)
+log-mip-pairs-spec = tie.close (tie.spec Inv-loop μ-loop (λ c. mips-start _ _ _ _ _ 0 _ _ _ (omega arith))
+    (λ c κs. search needs) locate-requires (λ c. search needs) (λ c. (c .locate .ensures) .order)
+    (λ c. (c .locate .ensures) .order) (λ c. (c .locate .ensures) .end) (λ c κs. search needs) locate-requires-2
+    (λ c. search needs) (λ c. (c .locate2 .ensures) .order) (λ c. (c .locate2 .ensures) .order)
+    (λ c. (c .locate2 .ensures) .end) (λ c. omega arith) log-pairs-requires (λ c. omega arith) add-m (λ c. omega arith)
+    loop-again (λ c. search needs) returns)

@@ -16,9 +16,6 @@ Inv-loop table ranges half i low high step t log₀ at x₀ m₀ log x m = Mippi
 abbrev μ-loop : tie.MeasureT-loop
 μ-loop table ranges half i low high step t log₀ at x₀ m₀ log x m = high - m
 
-loop-holds : tie.Need-loop-holds Inv-loop μ-loop
-loop-holds c = mips-start _ _ _ _ _ _ _ _ _ ((c .before .before .pre) .1 .0)
-
 locate-requires : tie.Need-locate-requires Inv-loop μ-loop
 locate-requires c κs = rw ((c .wide .ensures .0)) (locates (mip-ready ((c .before .before .before .before .before .pre) .0) (c .before .loop-test .taken)))
 
@@ -32,8 +29,7 @@ returns : tie.Need-returns Inv-loop μ-loop
 returns c = mips-end _ _ (c .before .loop .inv) (omega (arith, (c .before .before .before .before .pre) .0 .top, (c .before .loop .inv) .high)) (c .loop-test .left)
 
 pub log-mips-spec : {M : Type 1} → statement M
-log-mips-spec =
-    tie.close
-    (tie.spec Inv-loop μ-loop loop-holds (λ c κs. search needs) locate-requires (λ c. search needs) (λ c. search needs)
-    (λ c. search needs) (λ c. search needs) (λ c. search needs) log-run-requires (λ c. search needs) (λ c. search needs)
-    (λ c. search needs) loop-again (λ c. search needs) returns)
+log-mips-spec = tie.close (tie.spec Inv-loop μ-loop (λ c. mips-start _ _ _ _ _ _ _ _ _ ((c .before .before .pre) .1 .0))
+    (λ c κs. search needs) locate-requires (λ c. search needs) (λ c. search needs) (λ c. search needs)
+    (λ c. search needs) (λ c. search needs) log-run-requires (λ c. search needs) (λ c. search needs) (λ c. search needs)
+    loop-again (λ c. search needs) returns)

@@ -17,9 +17,6 @@ Inv-loop run len given many mip t log₀ at x₀ k₀ log x k =
 abbrev μ-loop : tie.MeasureT-loop
 μ-loop run len given many mip t log₀ at x₀ k₀ log x k = many - k
 
-loop-holds : tie.Need-loop-holds Inv-loop μ-loop
-loop-holds c = run-start _ _ _ _ _ _ _
-
 log-run-requires : tie.Need-log-run-requires Inv-loop μ-loop
 log-run-requires c κs = (record { room = (c .before .before .before .before .before .before .before .pre) .0 .held .room; few = (c .before .before .before .before .before .before .before .pre) .0 .held .few; level = (c .before .before .before .before .before .before .before .pre) .0 .held .level; low = omega arith }, run-room _ (c .before .before .before .loop .inv) ((c .before .before .before .before .before .before .before .pre) .0 .room) ((c .before .before .before .before .before .before .before .pre) .1) (c .before .before .loop-test .taken) (c .before .get .ensures))
 
@@ -30,7 +27,6 @@ returns : tie.Need-returns Inv-loop μ-loop
 returns c = run-end _ (c .before .loop .inv) (omega arith) (c .loop-test .left)
 
 pub log-pairs-spec : {M : Type 1} → statement M
-log-pairs-spec =
-    tie.close
-    (tie.spec Inv-loop μ-loop loop-holds (λ c κs. search needs) (λ c. search needs) log-run-requires (λ c. search needs)
-    (λ c. search needs) (λ c. search needs) loop-again (λ c. search needs) returns)
+log-pairs-spec = tie.close (tie.spec Inv-loop μ-loop (λ c. run-start _ _ _ _ _ _ _) (λ c κs. search needs)
+    (λ c. search needs) log-run-requires (λ c. search needs) (λ c. search needs) (λ c. search needs) loop-again
+    (λ c. search needs) returns)

@@ -18,6 +18,5 @@ returns-2 : tie.Need-returns-2
 returns-2 c = rw (change-one _ _ _ _ _ (c .before .before .before .before .before .before .before .change-of .ensures) (not-false _ (c .before .before .before .before .before .if1 .left)) (c .before .before .before .before .on-mip .ensures)) (c .before .before .log-move .ensures)
 
 pub log-range-spec : {M : Type 1} → statement M
-log-range-spec =
-    tie.close
-    (tie.spec (λ c κs. search needs) returns (λ c κs. search needs) log-move-requires (λ c. search needs) returns-2)
+log-range-spec = tie.close (tie.spec (λ c κs. search needs) returns (λ c κs. search needs) log-move-requires
+    (λ c. search needs) returns-2)

@@ -14,9 +14,6 @@ Inv-loop run len step mip t log₀ at x₀ k₀ log x k =
 abbrev μ-loop : tie.MeasureT-loop
 μ-loop run len step mip t log₀ at x₀ k₀ log x k = len - k
 
-loop-holds : tie.Need-loop-holds Inv-loop μ-loop
-loop-holds c = run-start _ _ _ _ _ _ _
-
 log-range-requires : tie.Need-log-range-requires Inv-loop μ-loop
 log-range-requires c κs = ((c .before .before .before .before .before .before .pre) .0 .level, run-room _ (c .before .before .before .loop .inv) ((c .before .before .before .before .before .before .pre) .0 .room) ((c .before .before .before .before .before .before .pre) .1) (c .before .before .loop-test .taken) (c .before .get .ensures))
 
@@ -27,7 +24,6 @@ returns : tie.Need-returns Inv-loop μ-loop
 returns c = run-end _ (c .before .loop .inv) (omega arith) (c .loop-test .left)
 
 pub log-run-spec : {M : Type 1} → statement M
-log-run-spec =
-    tie.close
-    (tie.spec Inv-loop μ-loop loop-holds (λ c κs. search needs) (λ c. search needs) log-range-requires
-    (λ c. search needs) (λ c. search needs) (λ c. search needs) loop-again (λ c. search needs) returns)
+log-run-spec = tie.close (tie.spec Inv-loop μ-loop (λ c. run-start _ _ _ _ _ _ _) (λ c κs. search needs)
+    (λ c. search needs) log-range-requires (λ c. search needs) (λ c. search needs) (λ c. search needs) loop-again
+    (λ c. search needs) returns)

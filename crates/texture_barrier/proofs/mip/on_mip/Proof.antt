@@ -4,10 +4,5 @@ use borrow.Author.Needs.{needs}
 use Rattle.texture_barrier.proofs.mip.on_mip.Statement.{statement}
 use Rattle.texture_barrier.proofs.mip.on_mip.Tie as tie
 
-returns : tie.Need-returns
-returns c = rw add-one
-
 pub on-mip-spec : {M : Type 1} → statement M
-on-mip-spec =
-    tie.close
-    (tie.spec (λ c. search needs) returns)
+on-mip-spec = tie.close (tie.spec (λ c. search needs) (λ c. rw add-one))

@@ -10,7 +10,7 @@ use Rattle.texture_barrier.proofs.sources.barrier_selector.Statement.{s
 use Rattle.texture_barrier.proofs.sources.barrier_selector.Tie as tie
 
 log-mips-requires : tie.Need-log-mips-requires
-log-mips-requires c κs = (ready ((c .before .before .before .before .before .before .before .before .pre) .0) ((c .before .if1 .taken) ∙ ap (λ (f : UsageFlags). f .complex) (c .before .before .before .before .flags-of .ensures)) _ ((c .before .before .before .before .before .before .before .before .pre) .1 .0 .inside), ((c .before .before .before .before .before .before .before .before .pre) .1 .0 .order, (((c .before .before .before .before .before .before .before .before .pre) .1 .1 .0), rw (c .before .before .before .before .before .task-of .ensures) (rw (piece-many ((c .before .before .before .before .before .before .before .before .pre) .0) (c .before .before .before .before .before .before .before .before .args .p) (c .before .before .before .before .before .before .before .before .args .mask) (c .before .before .before .before .before .before .before .before .args .q) (c .before .before .before .before .before .before .before .before .args .new) ((c .before .before .before .before .before .before .before .before .pre) .1 .0) ((c .before .if1 .taken) ∙ ap (λ (f : UsageFlags). f .complex) (c .before .before .before .before .flags-of .ensures))) at ((c .before .before .before .before .before .before .before .before .pre) .1 .1 .1)))))
+log-mips-requires c κs = (ready ((c .before .before .before .before .before .before .before .before .pre) .0) ((c .before .if1 .taken) ∙ ap (λ (f : UsageFlags). f .complex) (c .before .before .before .before .flags-of .ensures)) _ ((c .before .before .before .before .before .before .before .before .pre) .1 .0 .in-mips), (omega (arith, (c .before .before .before .before .before .before .before .before .pre) .1 .0 .order), (((c .before .before .before .before .before .before .before .before .pre) .1 .1 .0), rw (c .before .before .before .before .before .task-of .ensures) (rw (piece-many ((c .before .before .before .before .before .before .before .before .pre) .0) (c .before .before .before .before .before .before .before .before .args .p) (c .before .before .before .before .before .before .before .before .args .mask) (c .before .before .before .before .before .before .before .before .args .q) (c .before .before .before .before .before .before .before .before .args .new) ((c .before .before .before .before .before .before .before .before .pre) .1 .0) ((c .before .if1 .taken) ∙ ap (λ (f : UsageFlags). f .complex) (c .before .before .before .before .flags-of .ensures))) at ((c .before .before .before .before .before .before .before .before .pre) .1 .1 .1)))))
 
 returns : tie.Need-returns
 returns c = rw (piece-many ((c .before .before .before .before .before .before .before .before .before .before .before .pre) .0) (c .before .before .before .before .before .before .before .before .before .before .before .args .p) (c .before .before .before .before .before .before .before .before .before .before .before .args .mask) (c .before .before .before .before .before .before .before .before .before .before .before .args .q) (c .before .before .before .before .before .before .before .before .before .before .before .args .new) ((c .before .before .before .before .before .before .before .before .before .before .before .pre) .1 .0) ((c .before .before .before .before .if1 .taken) ∙ ap (λ (f : UsageFlags). f .complex) (c .before .before .before .before .before .before .before .flags-of .ensures))) (rw (c .before .before .before .before .before .before .before .before .task-of .ensures) at (c .before .before .log-mips .ensures))
@@ -22,7 +22,6 @@ returns-2 : tie.Need-returns-2
 returns-2 c = rw (piece-single ((c .before .before .before .before .before .before .before .before .before .before .before .pre) .0) (c .before .before .before .before .before .before .before .before .before .before .before .args .p) (c .before .before .before .before .before .before .before .before .before .before .before .args .mask) (c .before .before .before .before .before .before .before .before .before .before .before .args .q) (c .before .before .before .before .before .before .before .before .before .before .before .args .new) (λ z. (c .before .before .before .before .if1 .left) (z ∙ sym (ap (λ (f : UsageFlags). f .complex) (c .before .before .before .before .before .before .before .flags-of .ensures))))) (logged-within 4096 (omega arith) (rw (c .before .before .before .before .before .before .before .before .task-of .ensures) at (c .before .before .log-move .ensures)))
 
 pub barrier-selector-spec : {M : Type 1} → statement M
-barrier-selector-spec =
-    tie.close
-    (tie.spec (λ c κs. search needs) (λ c κs. search needs) (λ c. search needs) (λ c. search needs) (λ c. search needs)
-    log-mips-requires (λ c. search needs) returns log-move-requires (λ c. search needs) returns-2)
+barrier-selector-spec = tie.close (tie.spec (λ c κs. search needs) (λ c κs. search needs) (λ c. search needs)
+    (λ c. search needs) (λ c. search needs) log-mips-requires (λ c. search needs) returns log-move-requires
+    (λ c. search needs) returns-2)

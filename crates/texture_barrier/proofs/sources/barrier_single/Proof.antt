@@ -10,6 +10,5 @@ returns : tie.Need-returns
 returns c = rw ((c .before .before .before .before .full .ensures), (c .before .before .before .before .before .task-of .ensures)) at (c .before .before .log-move .ensures)
 
 pub barrier-single-spec : {M : Type 1} → statement M
-barrier-single-spec =
-    tie.close
-    (tie.spec (λ c κs. search needs) (λ c κs. search needs) log-move-requires (λ c. search needs) returns)
+barrier-single-spec = tie.close (tie.spec (λ c κs. search needs) (λ c κs. search needs) log-move-requires
+    (λ c. search needs) returns)

@@ -28,9 +28,7 @@ returns-3 : tie.Need-returns-3
 returns-3 c = rw (given-from ((c .before .before .before .before .before .before .before .before .before .before .before .before .before .before .before .before .pre) .0) (c .before .before .before .before .before .before .before .before .before .before .before .before .before .before .before .before .args .p) (c .before .before .before .before .before .before .before .before .before .before .before .before .before .before .before .before .args .mask) ((c .before .before .before .before .before .before .before .before .before .before .before .before .before .before .before .before .pre) .1 .0) ((c .before .before .before .before .before .before .before .before .before .if1 .left) ∙ ap (λ (f : UsageFlags). f .complex) (c .before .before .before .before .before .before .before .before .before .before .before .before .flags-of .ensures)) (λ z. (c .before .before .before .before .if2 .left) (z ∙ sym (ap (λ (f : UsageFlags). f .complex) (c .before .before .before .before .before .before .before .flags-of2 .ensures))))) (logged-within 1048576 (omega arith) (rw (c .before .before .before .before .before .before .before .before .task-of .ensures) at (c .before .before .log-mips .ensures)))
 
 pub barrier-texture-spec : {M : Type 1} → statement M
-barrier-texture-spec =
-    tie.close
-    (tie.spec (λ c κs. search needs) (λ c. search needs) (λ c. search needs) (λ c. search needs) barrier-state-requires
-    (λ c. search needs) returns (λ c κs. search needs) (λ c κs. search needs) (λ c. search needs) (λ c. search needs)
-    (λ c. search needs) log-mip-pairs-requires (λ c. search needs) returns-2 log-mips-requires (λ c. search needs)
-    returns-3)
+barrier-texture-spec = tie.close (tie.spec (λ c κs. search needs) (λ c. search needs) (λ c. search needs)
+    (λ c. search needs) barrier-state-requires (λ c. search needs) returns (λ c κs. search needs) (λ c κs. search needs)
+    (λ c. search needs) (λ c. search needs) (λ c. search needs) log-mip-pairs-requires (λ c. search needs) returns-2
+    log-mips-requires (λ c. search needs) returns-3)

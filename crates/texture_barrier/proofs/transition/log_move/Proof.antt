@@ -21,6 +21,5 @@ returns-3 : tie.Need-returns-3
 returns-3 c = move-written _ _ _ _ _ _ _ _ _ (sym (c .before .before .before .before .before .before .before .before .moves .ensures) ∙ not-false _ (c .before .before .before .before .before .before .before .if1 .left)) (not-false _ (c .before .before .before .before .before .if2 .left)) (c .before .before .put-entry .ensures)
 
 pub log-move-spec : {M : Type 1} → statement M
-log-move-spec =
-    tie.close
-    (tie.spec (λ c κs. search needs) returns returns-2 put-entry-requires (λ c. search needs) returns-3)
+log-move-spec = tie.close (tie.spec (λ c κs. search needs) returns returns-2 put-entry-requires (λ c. search needs)
+    returns-3)

@@ -3,10 +3,5 @@ use borrow.Author.Needs.{needs}
 use Rattle.texture_merge.proofs.every.met_at.Statement.{statement}
 use Rattle.texture_merge.proofs.every.met_at.Tie as tie
 
-returns : tie.Need-returns
-returns c = rw (c .piece-at .ensures)
-
 pub met-at-spec : {M : Type 1} → statement M
-met-at-spec =
-    tie.close
-    (tie.spec (λ c κs. search needs) returns)
+met-at-spec = tie.close (tie.spec (λ c κs. search needs) (λ c. rw (c .piece-at .ensures)))

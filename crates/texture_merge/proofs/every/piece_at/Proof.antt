@@ -1,14 +1,8 @@
 -- `piece_at` is the definition, with `m + 1` for the end of mip m.
-use native.Mathlib.Omega.{arith}
 use native.Mathlib.Numerals.{add-one}
 use borrow.Author.Needs.{needs}
 use Rattle.texture_merge.proofs.every.piece_at.Statement.{statement}
 use Rattle.texture_merge.proofs.every.piece_at.Tie as tie
 
-returns : tie.Need-returns
-returns c = rw add-one
-
 pub piece-at-spec : {M : Type 1} → statement M
-piece-at-spec =
-    tie.close
-    (tie.spec (λ c. search needs) (λ c. search needs) returns)
+piece-at-spec = tie.close (tie.spec (λ c. search needs) (λ c. search needs) (λ c. rw add-one))

@@ -1,16 +1,16 @@
 -- `give_mip`: each lap gives one range, and what is left decides.
 use native.Mathlib.Omega.{arith}
 use borrow.Author.Needs.{needs}
-use mathlib.Core.Path.{_≡_, _∙_}
+use mathlib.Core.Path.{_∙_}
 use Rattle.texture_merge.proofs.Laps.{lap-small}
 use Rattle.set_storage.specs.Storage.{numbersOf, mipsOf, layersAt}
 use Rattle.range_states.specs.View.{decode}
 use Rattle.model.specs.Base.{passes}
 use lib.ListN.{getD, drop}
 use mathlib.Core.List.{map}
-use Prim.Native.Nat.{_+_, _-_, _≤_}
+use Prim.Native.Nat.{_-_, _≤_}
 use Rattle.texture_merge.specs.Giving.{Giving, taken, pieceOn}
-use Rattle.texture_merge.proofs.Pieces.{range-start, range-ready, range-selects, range-turn, range-stop, range-done}
+use Rattle.texture_merge.proofs.Pieces.{lap-many, range-start, range-selects, range-turn, range-stop, range-done}
 use Rattle.texture_merge.proofs.giving.give_mip.Statement.{statement}
 use Rattle.texture_merge.proofs.giving.give_mip.Tie as tie
 
@@ -27,7 +27,7 @@ piece-at-requires : tie.Need-piece-at-requires Inv-loop μ-loop
 piece-at-requires c κs = let p = (c .before .before .before .before .before .pre) in lap-small (p .0) (p .1 .mip)
 
 take-piece-requires : tie.Need-take-piece-requires Inv-loop μ-loop
-take-piece-requires c κs = let p = (c .before .before .before .before .before .before .before .before .pre) in let w = (c .before .before .before .before .before .loop .inv) in rw ((c .before .before .piece-at .ensures)) (range-ready (p .0) (p .1) _ _ (w .1) (c .before .before .before .before .loop-test .taken) (c .before .before .before .get .ensures), range-selects (p .0) (p .1) _ _ (w .1) (c .before .before .before .before .loop-test .taken) (c .before .before .before .get .ensures))
+take-piece-requires c κs = let p = (c .before .before .before .before .before .before .before .before .pre) in let w = (c .before .before .before .before .before .loop .inv) in rw ((c .before .before .piece-at .ensures)) (lap-many (p .0) (w .1), range-selects (p .0) (p .1) _ _ (w .1) (c .before .before .before .before .loop-test .taken) (c .before .before .before .get .ensures))
 
 same-length : tie.Need-same-length Inv-loop μ-loop
 same-length c = let w = (c .before .before .before .before .before .before .before .before .before .before .before .loop .inv) in let e = (c .before .before .before .before .before .take-piece .ensures) .into .frame .ranges .long ∙ w .1 .frame .ranges .long in search (needs, e)
@@ -42,8 +42,6 @@ returns-2 : tie.Need-returns-2 Inv-loop μ-loop
 returns-2 c = let p = (c .before .before .before .before .pre) in let w = (c .before .loop .inv) in range-done (p .0) (p .1) _ _ (w .1) (c .loop-test .left)
 
 pub give-mip-spec : {M : Type 1} → statement M
-give-mip-spec =
-    tie.close
-    (tie.spec Inv-loop μ-loop loop-holds (λ c κs. search needs) piece-at-requires take-piece-requires
-    (λ c. search needs) same-length returns (λ c. search needs) (λ c. search needs) (λ c. search needs) loop-again
-    (λ c. search needs) returns-2)
+give-mip-spec = tie.close (tie.spec Inv-loop μ-loop loop-holds (λ c κs. search needs) piece-at-requires
+    take-piece-requires (λ c. search needs) same-length returns (λ c. search needs) (λ c. search needs)
+    (λ c. search needs) loop-again (λ c. search needs) returns-2)

@@ -1,15 +1,16 @@
 -- `give_mips`: each lap gives one mip, and what is left decides.
 use native.Mathlib.Omega.{arith}
 use borrow.Author.Needs.{needs}
-use mathlib.Core.Path.{_≡_, _∙_}
+use mathlib.Core.Path.{_∙_}
 use Rattle.set_storage.specs.Locate.{locates}
 use Rattle.set_storage.specs.Storage.{numbersOf, mipsOf, layersAt}
 use Rattle.model.specs.Texture.{piecesOf}
 use Rattle.model.specs.Base.{passes}
 use lib.ListN.{getD, drop}
-use Prim.Native.Nat.{_+_, _-_, _≤_}
+use Prim.Native.Nat.{_-_, _≤_}
 use Rattle.texture_merge.specs.Giving.{Giving, taken, piecesFrom}
-use Rattle.texture_merge.proofs.Pieces.{mip-start, mip-located, mip-ready, mip-given, mip-turn, mip-stop, mip-done}
+use Rattle.texture_merge.proofs.Given.{given-mip}
+use Rattle.texture_merge.proofs.Pieces.{lap-many, mip-start, mip-given, mip-turn, mip-stop, mip-done}
 use Rattle.texture_merge.proofs.giving.give_mips.Statement.{statement}
 use Rattle.texture_merge.proofs.giving.give_mips.Tie as tie
 
@@ -23,10 +24,10 @@ loop-holds : tie.Need-loop-holds Inv-loop μ-loop
 loop-holds c = let p = (c .before .before .pre) in (omega arith, mip-start (p .0) (p .1) _ _)
 
 locate-requires : tie.Need-locate-requires Inv-loop μ-loop
-locate-requires c κs = let p = (c .before .before .before .before .pre) in let w = (c .before .loop .inv) in locates (mip-located (p .0) (p .1) _ _ (w .1) (c .loop-test .taken))
+locate-requires c κs = let p = (c .before .before .before .before .pre) in locates (given-mip (p .1) _ (c .loop-test .taken) .ready)
 
 give-mip-requires : tie.Need-give-mip-requires Inv-loop μ-loop
-give-mip-requires c κs = let p = (c .before .before .before .before .before .before .before .before .pre) in let w = (c .before .before .before .before .before .loop .inv) in (mip-ready (p .0) (p .1) _ _ (w .1) (c .before .before .before .before .loop-test .taken), mip-given (p .0) (p .1) _ _ (w .1) (c .before .before .before .before .loop-test .taken) (c .before .before .before .locate .ensures))
+give-mip-requires c κs = let p = (c .before .before .before .before .before .before .before .before .pre) in let w = (c .before .before .before .before .before .loop .inv) in (lap-many (p .0) (w .1), mip-given (p .0) (p .1) _ _ (w .1) (c .before .before .before .before .loop-test .taken) (c .before .before .before .locate .ensures))
 
 same-length : tie.Need-same-length Inv-loop μ-loop
 same-length c = let w = (c .before .before .before .before .before .before .before .before .before .before .before .loop .inv) in let e = (c .before .before .before .before .before .give-mip .ensures) .into .frame .ranges .long ∙ w .1 .frame .ranges .long in search (needs, e)
@@ -41,8 +42,6 @@ returns-2 : tie.Need-returns-2 Inv-loop μ-loop
 returns-2 c = let p = (c .before .before .before .before .pre) in let w = (c .before .loop .inv) in mip-done (p .0) (p .1) _ _ (w .1) (c .loop-test .left)
 
 pub give-mips-spec : {M : Type 1} → statement M
-give-mips-spec =
-    tie.close
-    (tie.spec Inv-loop μ-loop loop-holds locate-requires (λ c. search needs) (λ c. search needs) (λ c. search needs)
-    (λ c. search needs) give-mip-requires (λ c. search needs) same-length returns (λ c. search needs)
-    (λ c. search needs) (λ c. search needs) loop-again (λ c. search needs) returns-2)
+give-mips-spec = tie.close (tie.spec Inv-loop μ-loop loop-holds locate-requires (λ c. search needs) (λ c. search needs)
+    (λ c. search needs) (λ c. search needs) give-mip-requires (λ c. search needs) same-length returns
+    (λ c. search needs) (λ c. search needs) (λ c. search needs) loop-again (λ c. search needs) returns-2)

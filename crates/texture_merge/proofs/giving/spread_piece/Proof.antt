@@ -1,6 +1,5 @@
 -- `spread_piece`: a conflict leaves the mips, and otherwise those of the piece take the union.
-use native.Mathlib.Omega.{arith}
-use mathlib.Core.Path.{_≡_, refl, sym}
+use mathlib.Core.Path.{refl, sym}
 use Rattle.set_storage.specs.Stays.{keeps-refl}
 use Rattle.model.specs.Texture.{spreadPiece}
 use borrow.Author.Needs.{needs}
@@ -11,15 +10,10 @@ returns : tie.Need-returns
 unfolding spreadPiece
 returns c = let e = sym (rw ((c .enum-told .given) .1) at (c .before .before .unite .ensures)) in rw e record { conflict = refl; into = record { mips = refl; frame = keeps-refl _ _ } }
 
-update-mips-requires : tie.Need-update-mips-requires
-update-mips-requires c κs = (c .before .before .before .before .before .before .before .pre)
-
 returns-2 : tie.Need-returns-2
 unfolding spreadPiece
 returns-2 c = let e = sym (rw ((c .before .before .before .before .before .before .u .given) .1) at (c .before .before .before .before .before .before .before .before .unite .ensures)) in rw e record { conflict = refl; into = (c .before .before .update-mips .ensures) }
 
 pub spread-piece-spec : {M : Type 1} → statement M
-spread-piece-spec =
-    tie.close
-    (tie.spec (λ c κs. search needs) (λ c. search needs) (λ c. search needs) returns update-mips-requires
-    (λ c. search needs) returns-2)
+spread-piece-spec = tie.close (tie.spec (λ c κs. search needs) (λ c. search needs) (λ c. search needs) returns
+    (λ c κs. (c .before .before .before .before .before .before .before .pre)) (λ c. search needs) returns-2)

@@ -1,22 +1,9 @@
 -- `take_piece`: each case is the model's.
-use native.Mathlib.Omega.{arith}
-use mathlib.Core.Path.{_≡_, refl}
+use mathlib.Core.Path.{refl}
 use Rattle.texture_merge.specs.Giving.{taken}
 use borrow.Author.Needs.{needs}
 use Rattle.texture_merge.proofs.giving.take_piece.Statement.{statement}
 use Rattle.texture_merge.proofs.giving.take_piece.Tie as tie
-
-paint-mips-requires : tie.Need-paint-mips-requires
-paint-mips-requires c κs = (c .before .before .before .before .before .pre)
-
-merge-mips-requires : tie.Need-merge-mips-requires
-merge-mips-requires c κs = (c .before .before .before .before .before .pre)
-
-spread-piece-requires : tie.Need-spread-piece-requires
-spread-piece-requires c κs = (c .before .before .before .before .before .before .pre)
-
-update-mips-requires : tie.Need-update-mips-requires
-update-mips-requires c κs = (c .before .before .before .before .before .before .before .pre)
 
 returns : tie.Need-returns
 unfolding taken
@@ -35,8 +22,8 @@ unfolding taken
 returns-4 c = rw ((c .before .before .before .before .before .before .before .doing2 .given) .1, ← (c .before .before .before .before .before .end-after .ensures)) record { conflict = refl; into = (c .before .before .update-mips .ensures) }
 
 pub take-piece-spec : {M : Type 1} → statement M
-take-piece-spec =
-    tie.close
-    (tie.spec (λ c. search needs) paint-mips-requires (λ c. search needs) merge-mips-requires (λ c. search needs)
-    spread-piece-requires (λ c. search needs) (λ c κs. search needs) update-mips-requires (λ c. search needs) returns
+take-piece-spec = tie.close (tie.spec (λ c. search needs) (λ c κs. (c .before .before .before .before .before .pre))
+    (λ c. search needs) (λ c κs. (c .before .before .before .before .before .pre)) (λ c. search needs)
+    (λ c κs. (c .before .before .before .before .before .before .pre)) (λ c. search needs) (λ c κs. search needs)
+    (λ c κs. (c .before .before .before .before .before .before .before .pre)) (λ c. search needs) returns
     (λ c. search needs) returns-2 (λ c. search needs) returns-3 (λ c. search needs) returns-4)

@@ -5,9 +5,6 @@ use borrow.Author.Needs.{needs}
 use Rattle.texture_merge.proofs.mip.fresh_mip.Statement.{statement}
 use Rattle.texture_merge.proofs.mip.fresh_mip.Tie as tie
 
-locate-requires : tie.Need-locate-requires
-locate-requires c κs = locates (c .before .before .pre)
-
 returns : tie.Need-returns
 returns c =
     let q = c .before .before .before .before .before .before .before .before .before .pre in
@@ -16,7 +13,5 @@ returns c =
     rw (c .set-count .ensures) (mip-left q l _ _ _ (u .long) (u .fits) (u .seen))
 
 pub fresh-mip-spec : {M : Type 1} → statement M
-fresh-mip-spec =
-    tie.close
-    (tie.spec locate-requires (λ c. search needs) (λ c. search needs) (λ c. search needs) (λ c. search needs)
-    (λ c κs. search needs) (λ c κs. search needs) (λ c. search needs) returns)
+fresh-mip-spec = tie.close (tie.spec (λ c κs. locates (c .before .before .pre)) (λ c. search needs) (λ c. search needs)
+    (λ c. search needs) (λ c. search needs) (λ c κs. search needs) (λ c κs. search needs) (λ c. search needs) returns)

@@ -5,9 +5,6 @@ use borrow.Author.Needs.{needs}
 use Rattle.texture_merge.proofs.mip.merge_every_mip.Statement.{statement}
 use Rattle.texture_merge.proofs.mip.merge_every_mip.Tie as tie
 
-locate-requires : tie.Need-locate-requires
-locate-requires c κs = locates (c .before .before .pre .ready)
-
 merge-every-requires : tie.Need-merge-every-requires
 merge-every-requires c κs = lent-fits (c .before .before .before .before .pre) (c .before .locate .ensures)
 
@@ -25,7 +22,6 @@ returns c =
     }
 
 pub merge-every-mip-spec : {M : Type 1} → statement M
-merge-every-mip-spec =
-    tie.close
-    (tie.spec locate-requires (λ c. search needs) (λ c. search needs) (λ c. search needs) (λ c. search needs)
-    merge-every-requires set-count-requires (λ c. search needs) returns)
+merge-every-mip-spec = tie.close (tie.spec (λ c κs. locates (c .before .before .pre .ready)) (λ c. search needs)
+    (λ c. search needs) (λ c. search needs) (λ c. search needs) merge-every-requires set-count-requires
+    (λ c. search needs) returns)

@@ -5,9 +5,6 @@ use borrow.Author.Needs.{needs}
 use Rattle.texture_merge.proofs.mip.merge_mip.Statement.{statement}
 use Rattle.texture_merge.proofs.mip.merge_mip.Tie as tie
 
-locate-requires : tie.Need-locate-requires
-locate-requires c κs = locates (c .before .before .pre .tiled .ready)
-
 merge-piece-requires : tie.Need-merge-piece-requires
 merge-piece-requires c κs = let p = c .before .before .before .before .pre in lent-room (p .tiled) (c .before .locate .ensures) _ _ _ (p .order) (p .inside)
 
@@ -25,7 +22,6 @@ returns c =
     }
 
 pub merge-mip-spec : {M : Type 1} → statement M
-merge-mip-spec =
-    tie.close
-    (tie.spec locate-requires (λ c. search needs) (λ c. search needs) (λ c. search needs) (λ c. search needs)
-    merge-piece-requires set-count-requires (λ c. search needs) returns)
+merge-mip-spec = tie.close (tie.spec (λ c κs. locates (c .before .before .pre .tiled .ready)) (λ c. search needs)
+    (λ c. search needs) (λ c. search needs) (λ c. search needs) merge-piece-requires set-count-requires
+    (λ c. search needs) returns)

@@ -5,9 +5,6 @@ use borrow.Author.Needs.{needs}
 use Rattle.texture_merge.proofs.mip.update_mip.Statement.{statement}
 use Rattle.texture_merge.proofs.mip.update_mip.Tie as tie
 
-locate-requires : tie.Need-locate-requires
-locate-requires c κs = locates (c .before .before .pre .tiled .ready)
-
 update-requires : tie.Need-update-requires
 update-requires c κs = let p = c .before .before .before .before .pre in lent-room (p .tiled) (c .before .locate .ensures) _ _ _ (p .order) (p .inside)
 
@@ -22,7 +19,6 @@ returns c =
     rw (c .set-count .ensures) (mip-left ((q .tiled) .ready) l _ _ _ (u .long) (u .fits) (rw (lent-is (q .tiled) l) at (u .seen)))
 
 pub update-mip-spec : {M : Type 1} → statement M
-update-mip-spec =
-    tie.close
-    (tie.spec locate-requires (λ c. search needs) (λ c. search needs) (λ c. search needs) (λ c. search needs)
-    update-requires set-count-requires (λ c. search needs) returns)
+update-mip-spec = tie.close (tie.spec (λ c κs. locates (c .before .before .pre .tiled .ready)) (λ c. search needs)
+    (λ c. search needs) (λ c. search needs) (λ c. search needs) update-requires set-count-requires (λ c. search needs)
+    returns)

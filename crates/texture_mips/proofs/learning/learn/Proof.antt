@@ -27,7 +27,5 @@ returns : tie.Need-returns Inv-loop μ-loop
 returns c = finish ((c .before .before .before .before .pre) .1 .0) (c .before .loop .inv) (c .loop-test .left)
 
 pub learn-spec : {M : Type 1} → statement M
-learn-spec =
-    tie.close
-    (tie.spec Inv-loop μ-loop loop-holds (λ c κs. search needs) (λ c. search needs) update-requires (λ c. search needs)
-    loop-again (λ c. search needs) loop-again-2 (λ c. search needs) returns)
+learn-spec = tie.close (tie.spec Inv-loop μ-loop loop-holds (λ c κs. search needs) (λ c. search needs) update-requires
+    (λ c. search needs) loop-again (λ c. search needs) loop-again-2 (λ c. search needs) returns)

@@ -4,10 +4,5 @@ use borrow.Author.Needs.{needs}
 use Rattle.texture_mips.proofs.painting.fresh.Statement.{statement}
 use Rattle.texture_mips.proofs.painting.fresh.Tie as tie
 
-returns : tie.Need-returns
-returns c = search fresh-is
-
 pub fresh-spec : {M : Type 1} → statement M
-fresh-spec =
-    tie.close
-    (tie.spec (λ c κs. search needs) (λ c. search needs) returns)
+fresh-spec = tie.close (tie.spec (λ c κs. search needs) (λ c. search needs) (λ c. search fresh-is))

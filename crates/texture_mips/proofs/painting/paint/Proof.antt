@@ -4,10 +4,6 @@ use borrow.Author.Needs.{needs}
 use Rattle.texture_mips.proofs.painting.paint.Statement.{statement}
 use Rattle.texture_mips.proofs.painting.paint.Tie as tie
 
-returns : tie.Need-returns
-returns c = search paint-is
-
 pub paint-spec : {M : Type 1} → statement M
-paint-spec =
-    tie.close
-    (tie.spec (λ c κs. search needs) (λ c κs. search needs) (λ c. search needs) returns)
+paint-spec = tie.close (tie.spec (λ c κs. search needs) (λ c κs. search needs) (λ c. search needs)
+    (λ c. search paint-is))

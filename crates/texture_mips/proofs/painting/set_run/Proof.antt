@@ -13,17 +13,6 @@ Inv-loop s₀ from to state k₀ s k = Passing never (inState state) s₀ from t
 abbrev μ-loop : tie.MeasureT-loop
 μ-loop s₀ from to state k₀ s k = to - k
 
-loop-holds : tie.Need-loop-holds Inv-loop μ-loop
-loop-holds c = search start-of
-
-loop-again : tie.Need-loop-again Inv-loop μ-loop
-loop-again c = search turn
-
-returns : tie.Need-returns Inv-loop μ-loop
-returns c = search set-all
-
 pub set-run-spec : {M : Type 1} → statement M
-set-run-spec =
-    tie.close
-    (tie.spec Inv-loop μ-loop loop-holds (λ c κs. search needs) (λ c κs. search needs) (λ c. search needs)
-    (λ c. search needs) loop-again (λ c. search needs) returns)
+set-run-spec = tie.close (tie.spec Inv-loop μ-loop (λ c. search start-of) (λ c κs. search needs) (λ c κs. search needs)
+    (λ c. search needs) (λ c. search needs) (λ c. search turn) (λ c. search needs) (λ c. search set-all))

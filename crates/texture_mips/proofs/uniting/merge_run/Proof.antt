@@ -15,21 +15,13 @@ Inv-loop s₀ from to p new k₀ s k = Passing (runStops p new) (runTakes p new)
 abbrev μ-loop : tie.MeasureT-loop
 μ-loop s₀ from to p new k₀ s k = to - k
 
-loop-holds : tie.Need-loop-holds Inv-loop μ-loop
-loop-holds c = search start-of
-
 returns : tie.Need-returns Inv-loop μ-loop
 returns c = let e = sym (c .before .before .unite-known .ensures) ∙ ap stateOf ((c .enum-told .given) .1) in halt ((c .before .before .before .before .before .before .before .before .pre) .1) (c .before .before .before .before .before .before .loop .inv) (c .before .before .before .before .before .loop-test .taken) (c .before .before .before .get .ensures) (stops-at _ _ (c .before .before .before .get .result) e)
 
 loop-again : tie.Need-loop-again Inv-loop μ-loop
 loop-again c = let e = sym (c .before .before .before .before .before .before .before .unite-known .ensures) ∙ ap stateOf ((c .before .before .before .before .before .state .given) .1) in turn ((c .before .before .before .before .before .before .before .before .before .before .before .before .before .pre) .1) (c .before .before .before .before .before .before .before .before .before .before .before .loop .inv) (c .before .before .before .before .before .before .before .before .before .before .loop-test .taken) (c .before .before .before .before .before .before .before .before .get .ensures) (goes-on _ _ _ (c .before .before .before .before .before .before .before .before .get .result) e) (rw (takes _ _ _ (c .before .before .before .before .before .before .before .before .get .result) e) (c .before .before .put .ensures))
 
-returns-2 : tie.Need-returns-2 Inv-loop μ-loop
-returns-2 c = search finish
-
 pub merge-run-spec : {M : Type 1} → statement M
-merge-run-spec =
-    tie.close
-    (tie.spec Inv-loop μ-loop loop-holds (λ c κs. search needs) (λ c κs. search needs) (λ c. search needs)
-    (λ c. search needs) (λ c. search needs) returns (λ c κs. search needs) (λ c. search needs) (λ c. search needs)
-    loop-again (λ c. search needs) returns-2)
+merge-run-spec = tie.close (tie.spec Inv-loop μ-loop (λ c. search start-of) (λ c κs. search needs)
+    (λ c κs. search needs) (λ c. search needs) (λ c. search needs) (λ c. search needs) returns (λ c κs. search needs)
+    (λ c. search needs) (λ c. search needs) loop-again (λ c. search needs) (λ c. search finish))

@@ -6,9 +6,6 @@ use borrow.Author.Needs.{needs}
 use Rattle.texture_update.proofs.both.update_both_mip.Statement.{statement}
 use Rattle.texture_update.proofs.both.update_both_mip.Tie as tie
 
-locate-requires : tie.Need-locate-requires
-locate-requires c κs = locates ((c .before .before .before .pre) .0 .start .ready)
-
 locate-requires-2 : tie.Need-locate-requires-2
 locate-requires-2 c κs = locates ((c .before .before .before .before .before .pre) .0 .end .ready)
 
@@ -25,8 +22,7 @@ returns : tie.Need-returns
 returns c = let p = (c .before .before .before .before .before .before .before .before .before .before .before .before .before .before .before .before .before .pre) in rw ((c .set-count2 .ensures), (c .before .before .set-count .ensures)) (pair-put (p .0) (c .before .before .before .before .before .before .before .before .before .before .before .before .before .locate .ensures) (c .before .before .before .before .before .before .before .before .before .before .before .locate2 .ensures) _ _ _ _ (p .1 .0) (p .1 .1) (c .before .before .before .before .before .before .before .before .learn-update .ensures))
 
 pub update-both-mip-spec : {M : Type 1} → statement M
-update-both-mip-spec =
-    tie.close
-    (tie.spec locate-requires locate-requires-2 (λ c. search needs) (λ c. search needs) (λ c. search needs)
-    (λ c. search needs) (λ c. search needs) (λ c. search needs) (λ c. search needs) (λ c. search needs)
-    learn-update-requires set-count-requires set-count-requires-2 (λ c. search needs) (λ c. search needs) returns)
+update-both-mip-spec = tie.close (tie.spec (λ c κs. locates ((c .before .before .before .pre) .0 .start .ready))
+    locate-requires-2 (λ c. search needs) (λ c. search needs) (λ c. search needs) (λ c. search needs)
+    (λ c. search needs) (λ c. search needs) (λ c. search needs) (λ c. search needs) learn-update-requires
+    set-count-requires set-count-requires-2 (λ c. search needs) (λ c. search needs) returns)

@@ -20,7 +20,6 @@ returns-3 : tie.Need-returns-3
 returns-3 c = piece-learnt ((c .before .before .before .before .before .before .before .before .before .before .before .before .before .before .before .pre) .0) _ (c .before .before .before .before .before .before .before .before .before .before .before .if1 .left) (c .before .before .before .before .before .before .before .before .if2 .left) (c .before .before .before .before .update-both-mips .ensures)
 
 pub update-piece-spec : {M : Type 1} → statement M
-update-piece-spec =
-    tie.close
-    (tie.spec returns (λ c. search needs) (λ c. search needs) (λ c. search needs) update-mips-requires
-    (λ c. search needs) returns-2 update-both-mips-requires (λ c. search needs) (λ c. search needs) returns-3)
+update-piece-spec = tie.close (tie.spec returns (λ c. search needs) (λ c. search needs) (λ c. search needs)
+    update-mips-requires (λ c. search needs) returns-2 update-both-mips-requires (λ c. search needs) (λ c. search needs)
+    returns-3)

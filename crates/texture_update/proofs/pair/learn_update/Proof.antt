@@ -12,7 +12,5 @@ returns : tie.Need-returns
 returns c = pair-is (c .before .before .before .before .before .before .before .before .before .before .before .before .before .before .before .isolate .ensures) (c .before .before .before .before .before .before .before .before .before .before .before .before .before .before .before .before .before .before .before .args .new) (c .before .before .before .before .before .before .before .before .before .before .before .before .before .before .before .before .before .before .before .args .slen) (c .before .before .before .before .before .before .before .before .before .before .learn .ensures) (c .before .before .before .before .before .before .set-run .ensures) (c .before .before .coalesce .ensures)
 
 pub learn-update-spec : {M : Type 1} → statement M
-learn-update-spec =
-    tie.close
-    (tie.spec (λ c κs. search needs) learn-requires (λ c κs. search needs) (λ c κs. search needs) (λ c. search needs)
-    (λ c. search needs) returns)
+learn-update-spec = tie.close (tie.spec (λ c κs. search needs) learn-requires (λ c κs. search needs)
+    (λ c κs. search needs) (λ c. search needs) (λ c. search needs) returns)

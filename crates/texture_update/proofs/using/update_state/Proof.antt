@@ -1,6 +1,7 @@
 -- `update_state`: the words tell whether the end and the start are Single or Many, and each case is the model's.
 use mathlib.Core.Path.{sym, _∙_}
-use Rattle.texture_update.specs.Update.{mips-are, both-many}
+use Rattle.set_storage.specs.Texture.{texture-mips}
+use Rattle.texture_update.specs.Update.{both-many}
 use Rattle.texture_update.proofs.Cases.{all-single, all-kept, all-learnt}
 use borrow.Author.Needs.{needs}
 use Rattle.texture_update.proofs.using.update_state.Statement.{statement}
@@ -13,14 +14,12 @@ returns-2 : tie.Need-returns-2
 returns-2 c = rw (c .set-state2 .ensures) (all-kept (c .before .before .before .before .before .before .before .before .before .before .pre) (c .before .before .before .before .if1 .left) (c .before .before .if2 .taken))
 
 learn-mips-requires : tie.Need-learn-mips-requires
-learn-mips-requires c κs = let p = (c .before .before .before .before .before .before .before .before .before .before .before .pre) in (both-many p (c .before .before .before .if2 .left) (c .before .before .before .before .before .if1 .left), (c .wide .ensures) .0 ∙ sym (mips-are p))
+learn-mips-requires c κs = let p = (c .before .before .before .before .before .before .before .before .before .before .before .pre) in (both-many p (c .before .before .before .if2 .left) (c .before .before .before .before .before .if1 .left), (c .wide .ensures) .0 ∙ sym (texture-mips (p .start .ready)))
 
 returns-3 : tie.Need-returns-3
 returns-3 c = rw (c .set-state3 .ensures) (all-learnt (c .before .before .before .before .before .before .before .before .before .before .before .before .before .before .before .before .pre) (c .before .before .before .before .before .before .before .before .before .before .if1 .left) (c .before .before .before .before .before .before .before .before .if2 .left) (c .before .before .before .before .learn-mips .ensures))
 
 pub update-state-spec : {M : Type 1} → statement M
-update-state-spec =
-    tie.close
-    (tie.spec (λ c. search needs) (λ c. search needs) (λ c. search needs) (λ c. search needs) (λ c. search needs)
-    (λ c. search needs) (λ c κs. search needs) returns (λ c κs. search needs) returns-2 (λ c κs. search needs)
-    learn-mips-requires (λ c κs. search needs) (λ c. search needs) returns-3)
+update-state-spec = tie.close (tie.spec (λ c. search needs) (λ c. search needs) (λ c. search needs) (λ c. search needs)
+    (λ c. search needs) (λ c. search needs) (λ c κs. search needs) returns (λ c κs. search needs) returns-2
+    (λ c κs. search needs) learn-mips-requires (λ c κs. search needs) (λ c. search needs) returns-3)
