@@ -1,22 +1,25 @@
 #!/usr/bin/env python3
 """inline_needs.py [FILE..]: shortens proof files (default: every crates/*/proofs/**/Proof.antt).
 
-A need that is only `search needs` goes into the call of `tie.spec`, as `(λ c. search needs)`, and the call is laid out on full lines.
-Needs that say more keep their names. Running it twice changes nothing more.
+A need that says little, as `search needs`, goes into the call of `tie.spec`, as `(λ c. search needs)`, and the call is laid out on full
+lines. Needs that say more, and those that unfold something, keep their names. Running it twice changes nothing more.
 """
 import glob
 import re
 import sys
 
 WIDTH = 120
+LITTLE = 32
 
 
 def inlined(text):
-    """Every need that is only `search needs` stands where it is used."""
-    for found in list(re.finditer(r'^(\S+) : tie\.Need-[^\n]*\n\1 c( κs)? = search needs\n\n?', text, flags=re.M)):
-        name, more = re.escape(found.group(1)), found.group(2) or ''
-        rest = re.sub(rf'^{name} : tie\.Need-[^\n]*\n{name} c( κs)? = search needs\n\n?', '', text, count=1, flags=re.M)
-        rest, uses = re.subn(rf'(?<=[\s(]){name}(?=[\s)]|$)', f'(λ c{more}. search needs)', rest, flags=re.M)
+    """Every need that says little stands where it is used."""
+    for found in list(re.finditer(r'^(\S+) : tie\.Need-[^\n]*\n\1 c( κs)? = ([^\n]*)\n\n', text, flags=re.M)):
+        name, more, body = re.escape(found.group(1)), found.group(2) or '', found.group(3)
+        if len(body) > LITTLE or body.endswith('in') or body == '?':
+            continue
+        rest = text.replace(found.group(0), '', 1)
+        rest, uses = re.subn(rf'(?<=[\s(]){name}(?=[\s)]|$)', lambda _: f'(λ c{more}. {body})', rest, flags=re.M)
         if uses == 1:
             text = rest
     return text
@@ -38,16 +41,16 @@ def words(term):
 def laid_out(text):
     """The call of `tie.spec` on full lines."""
     def lines(found):
-        args = words(re.sub(r'\s+', ' ', found.group(2)))
-        out, line = [], '(tie.spec'
+        name, args = found.group(1), words(re.sub(r'\s+', ' ', found.group(2)))
+        out, line = [], f'{name} = tie.close (tie.spec'
         for arg in args:
-            if len(line) + 1 + len(arg) > WIDTH - 4:
+            if len(line) + 1 + len(arg) > WIDTH:
                 out.append(line)
-                line = arg
+                line = '    ' + arg
             else:
                 line += ' ' + arg
-        return found.group(1) + '\n    tie.close\n    ' + '\n    '.join(out + [line + ')']) + '\n'
-    return re.sub(r'(-spec =)\s+tie\.close\s+\(tie\.spec\s+(.*)\)\s*\Z', lines, text, flags=re.S)
+        return '\n'.join(out + [line + ')']) + '\n'
+    return re.sub(r'^(\S+-spec) =\s+tie\.close\s+\(tie\.spec\s+(.*)\)\s*\Z', lines, text, flags=re.M | re.S)
 
 
 for path in sys.argv[1:] or glob.glob('crates/*/proofs/**/Proof.antt', recursive=True):

@@ -1,5 +1,5 @@
 //! The port's calls, as the library has them: a slice is a pointer and a length, a set's table a pointer to 2,376 numbers.
-//! README.md says what each call lends; the layout of a set is told in crates/storage.
+//! docs/CALLS.md has what each call borrows; crates/set_storage has the layout of a set.
 use driver::direct::{Half, Selector};
 
 pub const TABLE: usize = 2376;

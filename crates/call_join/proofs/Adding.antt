@@ -10,15 +10,15 @@ use Rattle.model.specs.Base.{if_then_else_, eachAt₂}
 use Rattle.model.specs.Calls.{logGiven, logSlot}
 use Rattle.model.specs.Log.{pending, pendingOf}
 use Rattle.model.specs.Texture.{Entry, ranged}
-use Rattle.set_storage.specs.Storage.{flagsOf, extentOf, ownedOf, endHalf, slotWith, trackerOf, maskAt, texturesAt}
+use Rattle.set_storage.specs.Storage.{flagsOf, extentOf, ownedOf, slotWith, trackerOf, maskAt, texturesAt}
 use Rattle.texture_barrier.specs.Logged.{entriesAt, Room, Logged}
-use Rattle.set_ready.specs.Tested.{half-fits}
-use Rattle.call_set.specs.Slot.{slotOf, slot-pending}
-use Rattle.call_join.specs.Adds.{setTop, RoomFor, Adds, adds-none, adds-one, adds-then, upTo, up-next, up-long}
-use Rattle.call_join.specs.Given.{givenAt}
+use Rattle.set_ready.specs.Half.{tracker-texture}
+use Rattle.texture_track.specs.Slot.{slotOf, slot-pending}
+use Rattle.log_head.specs.Adds.{setTop, RoomFor, Adds, adds-none, adds-one, adds-then, upTo, up-next, up-long}
+use Rattle.texture_track.specs.Given.{givenAt}
 use Rattle.call_join.specs.Join.{Joins, LogsSet, givenOf, joinedEntries, start-given}
 use Rattle.call_join.specs.Lists.{each-list}
-use Rattle.call_join.specs.Slot.{pairOf, passStart, passEnd, endEntries, givenEntries}
+use Rattle.texture_track.specs.GivenSlot.{pairOf, passStart, passEnd, endEntries, givenEntries}
 
 -- as the loop has it: those of the indices below k are added
 pub record Adding (f : ℕ → List Entry) (n : ℕ) (write : Bool) (l₀ : List ℕ) (at k x : ℕ) (l : List ℕ) : Type 0 where
@@ -68,9 +68,7 @@ module _ {t s e : List ℕ} {from to : ℕ} {g a b : List ℕ} (w : Joins t s e 
     few = w .given .start .textures;
     each = λ i h. record {
       index = omega (arith, w .given .start .textures);
-      ready = λ o.
-          let x = w .passed .each i h o in let f = w .tracker .slots i (x .texture) in
-          record { ends = w .tracker .ends; texture = x; held = λ z. half-fits endHalf t e i (f .extent z .mips) (f .held z .end) };
+      ready = λ o. tracker-texture (w .tracker) (w .passed .each i h o) .end;
       given = λ o. start-given w t refl i h o;
     };
   }

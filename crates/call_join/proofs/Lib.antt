@@ -1,4 +1,3 @@
-pub mod Plain
 pub mod Adding
 pub mod Setting
-pub mod Answers
+pub mod Joined

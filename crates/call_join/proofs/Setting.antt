@@ -3,26 +3,26 @@ use Prim.Native.Nat.{ℕ, _+_, _≤_, _<_}
 use native.Mathlib.Omega.{arith}
 use mathlib.Core.Path.{_≡_, refl, sym, ap, subst, _∙_}
 use mathlib.Core.List.{List}
-use lib.ListN.{length, getD}
+use lib.ListN.{getD}
 use Rattle.model.specs.declared.UsageFlags.{UsageFlags}
 use Rattle.model.specs.declared.Extent.{Extent}
 use Rattle.model.specs.Representation.{Ends}
 use Rattle.model.specs.Sets.{Numbers, Slot}
 use Rattle.model.specs.Calls.{setGiven}
 use Rattle.model.specs.Texture.{Held, ranged}
-use Rattle.set_storage.specs.Part.{by-lt}
-use Rattle.set_storage.specs.Storage.{numbersOf, flagsOf, startHalf, endHalf, endsOf, slotWith, trackerOf, listFrom, texturesAt}
+use Rattle.set_storage.specs.Storage.{numbersOf, flagsOf, startHalf, endsOf, slotWith, trackerOf, listFrom, texturesAt}
 use Rattle.set_storage.specs.Stays.{onlyOwned, ownedBy, both-refl, both-then, both-more, TrackerFrame}
 use Rattle.set_storage.specs.Slots.{tracker-head, tracker-other}
 use Rattle.set_storage.specs.Frames.{Measured}
 use Rattle.set_checks.specs.Passed.{TexturePassed}
-use Rattle.agreement.specs.Fits.{EndsFit, SlotFits}
 use Rattle.set_ready.specs.Named.{within}
-use Rattle.set_ready.specs.Tested.{half-fits, TrackerTested}
-use Rattle.call_set.specs.Slot.{slotOf, SlotReady, SlotSet}
-use Rattle.call_join.specs.Slot.{SetsAt, pairOf, passStart, passEnd, slotAfter}
+use Rattle.set_ready.specs.Tested.{TrackerTested}
+use Rattle.set_ready.specs.Half.{BothReady, tracker-keeps, numbers-stay, flags-stay, tracker-still}
+use Rattle.texture_track.specs.Slot.{slotOf, SlotSet}
+use Rattle.texture_track.specs.GivenSlot.{SetsAt, pairOf, passStart, passEnd, slotAfter}
 use Rattle.call_join.specs.Lists.{over-list}
 use Rattle.call_join.specs.Join.{Joins, SetsAll, slotsAfter, start-given, end-given}
+use Rattle.model.specs.BoolLaws.{by-lt}
 
 -- as the loop has it: the slots below k are what f makes of them, the others as they were
 pub record Setting (named : ℕ → Type 0) (t s e : List ℕ) (f : ℕ → Slot (Ends Held) → Slot (Ends Held)) (k : ℕ) (t₁ s₁ e₁ : List ℕ) : Type 0 where
@@ -35,15 +35,11 @@ pub setting-start : {named : ℕ → Type 0} (t s e : List ℕ) (f : ℕ → Slo
 setting-start t s e f = record { done = λ j a b. absurd (omega arith); left = λ j a b. refl; frame = both-refl t s e }
 
 module _ {named : ℕ → Type 0} {t s e : List ℕ} {f : ℕ → Slot (Ends Held) → Slot (Ends Held)} {k : ℕ} {t₁ s₁ e₁ : List ℕ} (q : Setting named t s e f k t₁ s₁ e₁) where
-  head : (x : ℕ) → x < 8 → getD t₁ x 0 ≡ getD t x 0
-  head = tracker-head (q .frame)
-
-  -- the head stays
   numbers-are : numbersOf t₁ ≡ numbersOf t
-  numbers-are = rw (head 0 (omega arith), head 1 (omega arith), head 2 (omega arith))
+  numbers-are = numbers-stay (tracker-keeps (q .frame))
 
   flags-are : flagsOf t₁ ≡ flagsOf t
-  flags-are = rw (head 3 (omega arith), head 4 (omega arith), head 5 (omega arith), head 6 (omega arith))
+  flags-are = flags-stay (tracker-keeps (q .frame))
 
   -- a turn
   pub setting-turn : {turned : ℕ → Type 0} {t₂ s₂ e₂ : List ℕ} → Measured (numbersOf t) startHalf t s → ((j : ℕ) → turned j → (j ≡ k) × named j) → SlotSet turned t₁ s₁ e₁ k (f k (slotOf t₁ s₁ e₁ k)) t₂ s₂ e₂ → Setting named t s e f (k + 1) t₂ s₂ e₂
@@ -62,38 +58,8 @@ module _ {named : ℕ → Type 0} {t s e : List ℕ} {f : ℕ → Slot (Ends Hel
       }
 
   -- the slot at k reads as at entry, so it is ready
-  same-measured : {h : ℕ} {r r₁ : List ℕ} → length r₁ ≡ length r → Measured (numbersOf t) h t r → Measured (numbersOf t₁) h t₁ r₁
-  same-measured {h} {r} {r₁} long m =
-      subst (λ (n : Numbers). Measured n h t₁ r₁) (sym numbers-are)
-      (record { dims = numbers-are; textures = m .textures; mips = m .mips; some = m .some; layers = m .layers; fits = rw long (m .fits); half = m .half; table = q .frame .words .long ∙ m .table })
-
-  module _ {sh : Extent} (x : TexturePassed t k sh) where
-    slot-is : slotOf t₁ s₁ e₁ k ≡ slotOf t s e k
-    slot-is = subst (λ (n : Numbers). slotWith (endsOf n t₁ s₁ e₁) t₁ k ≡ slotOf t s e k) (sym numbers-are) (q .left k (omega arith) (x .texture))
-
-    same-passed : TexturePassed t₁ k sh
-    same-passed = record {
-      texture = rw (head 0 (omega arith)) (x .texture);
-      mip = x .mip;
-      top = rw (head 1 (omega arith)) (x .top);
-      some = x .some;
-      low = rw (head 2 (omega arith)) (x .low);
-      own = λ o. ap (λ (y : Slot (Ends Held)). y .extent) slot-is ∙ x .own (sym (ap (λ (y : Slot (Ends Held)). y .owned) slot-is) ∙ o);
-    }
-
-    same-ready : TrackerTested t s e → SlotReady t₁ s₁ e₁ k sh
-    same-ready w =
-        let fits : SlotFits EndsFit (numbersOf t₁) (flagsOf t₁) (slotOf t₁ s₁ e₁ k) =
-        subst (λ (n : Numbers). SlotFits EndsFit n (flagsOf t₁) (slotOf t₁ s₁ e₁ k)) (sym numbers-are)
-        (subst (λ (p : UsageFlags). SlotFits EndsFit (numbersOf t) p (slotOf t₁ s₁ e₁ k)) (sym flags-are)
-        (subst (λ (y : Slot (Ends Held)). SlotFits EndsFit (numbersOf t) (flagsOf t) y) (sym slot-is) (w .slots k (x .texture)))) in
-        record {
-          starts = same-measured (q .frame .starts .long) (w .starts);
-          ends = same-measured (q .frame .ends .long) (w .ends);
-          texture = same-passed;
-          start-held = λ o. half-fits startHalf t₁ s₁ k (fits .extent o .mips) (fits .held o .start);
-          end-held = λ o. half-fits endHalf t₁ e₁ k (fits .extent o .mips) (fits .held o .end);
-        }
+  same-ready : {sh : Extent} → TrackerTested t s e → TexturePassed t k sh → BothReady t₁ s₁ e₁ k sh
+  same-ready w x = tracker-still w x (q .frame) (q .left k (omega arith) (x .texture))
 
 -- what the turn at k asks for
 module _ {t s e : List ℕ} {from to : ℕ} {g a b : List ℕ} (w : Joins t s e from to g a b) where
@@ -101,7 +67,7 @@ module _ {t s e : List ℕ} {from to : ℕ} {g a b : List ℕ} (w : Joins t s e 
   pub setting-ready : {named : ℕ → Type 0} {f : ℕ → Slot (Ends Held) → Slot (Ends Held)} {k : ℕ} {t₁ s₁ e₁ : List ℕ} {p : UsageFlags} → Setting named t s e f k t₁ s₁ e₁ → k < getD g texturesAt 0 → p ≡ flagsOf t → SetsAt t₁ s₁ e₁ k from to g a b p
   setting-ready {named} {f} {k} {t₁} {s₁} {e₁} {p} q h z = record {
     index = omega (arith, w .given .start .textures);
-    ready = λ o. same-ready q (w .passed .each k h o) (w .tracker);
+    ready = λ o. same-ready q (w .tracker) (w .passed .each k h o);
     given = λ o. record { flags = z ∙ sym (flags-are q); start = start-given w t₁ (flags-are q) k h o; end = end-given w t₁ (flags-are q) k h o };
   }
 

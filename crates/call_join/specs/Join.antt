@@ -3,14 +3,15 @@ use Prim.Native.Nat.{ℕ, _≤_, _<_}
 use mathlib.Core.Path.{_≡_, refl, sym, _∙_}
 use mathlib.Core.Bool.{true}
 use mathlib.Core.List.{List}
-use lib.ListN.{length, getD}
+use lib.ListN.{getD}
+use Rattle.model.specs.declared.InvalidUse.{InvalidUse}
 use Rattle.model.specs.declared.UsageFlags.{UsageFlags}
 use Rattle.model.specs.declared.PendingTransition.{PendingTransition}
 use Rattle.model.specs.Base.{over₂}
 use Rattle.model.specs.Representation.{Ends}
 use Rattle.model.specs.Sets.{Slot, Set, Tracker, withTracker}
-use Rattle.model.specs.Calls.{setGiven}
-use Rattle.model.specs.Texture.{Held, ranged}
+use Rattle.model.specs.Calls.{CallResult, setGiven, setFrom}
+use Rattle.model.specs.Texture.{Held, Entry, ranged}
 use Rattle.set_storage.specs.Storage.{numbersOf, flagsOf, extentOf, ownedOf, startHalf, endHalf, setWith, trackerOf, maskAt, texturesAt}
 use Rattle.set_storage.specs.Stays.{ownedBy, TrackerFrame}
 use Rattle.set_storage.specs.Frames.{Measured}
@@ -19,9 +20,9 @@ use Rattle.set_checks.specs.Passed.{SetPassed}
 use Rattle.agreement.specs.Fits.{ExtentFits}
 use Rattle.set_ready.specs.Named.{within}
 use Rattle.set_ready.specs.Tested.{HalfFits, half-fits, ScopeTested, TrackerTested}
-use Rattle.call_join.specs.Given.{HalfGiven}
-use Rattle.call_join.specs.Slot.{LogsAt, pairOf, passStart, passEnd, givenEntries}
-use Rattle.call_join.specs.Adds.{upTo}
+use Rattle.texture_track.specs.Given.{HalfGiven}
+use Rattle.texture_track.specs.GivenSlot.{LogsAt, pairOf, passStart, passEnd, givenEntries}
+use Rattle.log_head.specs.Adds.{upTo}
 
 -- ---- The given set: its halves `from` and `to`, with the ranges a and b, are given as start and end
 abbrev pub givenOf : ℕ → ℕ → List ℕ → List ℕ → List ℕ → Set (Ends Held)
@@ -95,3 +96,7 @@ joinedTracker t s e from to g a b = withTracker (trackerOf t s e) (slotsAfter t 
 pub record SetsAll (t s e : List ℕ) (from to : ℕ) (g a b t′ s′ e′ : List ℕ) : Type 0 where
   pub view : trackerOf t′ s′ e′ ≡ joinedTracker t s e from to g a b
   pub frame : TrackerFrame (within t (ownedBy g)) (numbersOf t) t s e t′ s′ e′
+
+-- ---- The model's call, of a set as it is given
+abbrev pub joinCall : List ℕ → List ℕ → List ℕ → ℕ → ℕ → List ℕ → List ℕ → List ℕ → CallResult InvalidUse (List Entry) (Tracker Held)
+joinCall t s e from to g a b = setFrom ranged passStart passEnd (trackerOf t s e) (givenOf from to g a b)

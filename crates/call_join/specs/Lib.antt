@@ -1,5 +1,3 @@
-pub mod Given
-pub mod Slot
-pub mod Adds
 pub mod Lists
 pub mod Join
+pub mod Contract

@@ -4,9 +4,10 @@ use native.Mathlib.Omega.{arith}
 use mathlib.Core.Path.{_≡_, refl, sym, ap, _∙_}
 use mathlib.Core.List.{List, [], _∷_, _++_, append-assoc, append-nil}
 use Rattle.model.specs.Base.{each, eachAt₂, over₂}
+use Rattle.model.specs.ListLaws.{each-append}
 use Rattle.set_storage.specs.Storage.{listFrom}
 use Rattle.set_storage.specs.Lists.{list-ext}
-use Rattle.call_join.specs.Adds.{upTo}
+use Rattle.log_head.specs.Adds.{upTo}
 
 -- ---- `over₂`
 module _ {A B : Type 0} (f : ℕ → A → B → A) (F H : ℕ → A) (G : ℕ → B) where
@@ -56,11 +57,6 @@ module _ {A : Type 0} (h : ℕ → List A) where
   unfolding allFrom upTo
   all-up zero = refl
   all-up (suc n) = let e : 0 + n ≡ n = omega arith in all-last 0 n ∙ rw (e, all-up n)
-
--- what each makes of one list and then another
-each-append : {A B : Type 0} (r : A → List B) (s t : List A) → each r (s ++ t) ≡ each r s ++ each r t
-each-append r [] t = refl
-each-append r (x ∷ s) t = rw (each-append r s t) (sym (append-assoc (r x) (each r s) (each r t)))
 
 module _ {A B D E : Type 0} (r : D → List E) (f : ℕ → A → B → List D) (F : ℕ → A) (G : ℕ → B) (h : ℕ → List E) where
   each-from : (k n m : ℕ) → ((x : ℕ) → k ≤ x → x < k + n → x < k + m → each r (f x (F x) (G x)) ≡ h x) → ((x : ℕ) → k + n ≤ x → x < k + m → h x ≡ [])

@@ -1,16 +1,15 @@
 // `TextureTracker::set_from_usage_scope` and `set_from_tracker`: every texture that a given set owns.
 use crate::every::log_set;
 use crate::every::set_slots;
-use call_set::Answered;
-use call_set::head::head_fits;
-use call_set::head::lent_entries;
-use call_set::head::moved_on;
-use call_set::head::refused;
-use call_set::head::subresources;
+use log_head::head_fits;
+use log_head::lent_entries;
+use log_head::moved_on;
+use log_head::refused;
+use log_head::subresources;
+use model::Answered;
 use model::LogHead;
-use model::Outcome;
 use model::Refusal;
-use model::UsageFlags;
+use model::Verdict;
 use set_checks::check_set;
 use set_storage::END;
 use set_storage::MASK;
@@ -18,54 +17,26 @@ use set_storage::START;
 use set_storage::TEXTURES;
 use set_storage::Table;
 use set_storage::flags_of;
-use set_storage::table_len;
 use set_storage::wide;
 use set_wellformed::scope_fits;
 use set_wellformed::tracker_fits;
 ghost use mathlib.Core.Path.{_≡_};
-ghost use mathlib.Core.Bool.{true, _&&_};
+ghost use mathlib.Core.Bool.{true};
 ghost use Prim.Native.Nat.{_/_, _≤_, _<_};
-ghost use lib.Dec.{leb};
-ghost use lib.ListN.{length, getD};
+ghost use lib.ListN.{length};
 ghost use Rattle.model.specs.Sets.{capacity};
-ghost use Rattle.model.specs.Calls.{setFrom, setFromUsageScope, setFromTracker};
 ghost use Rattle.model.specs.Log.{pending};
-ghost use Rattle.model.specs.Texture.{ranged};
-ghost use Rattle.model.specs.WellFormed.{wellFormedScope, wellFormedTracker};
-ghost use Rattle.set_storage.specs.Storage.{numbersOf, scopeOf, trackerOf, layerLimitAt, mipLimitAt, texturesAt};
-ghost use Rattle.set_ready.specs.Tested.{TrackerTested};
-ghost use Rattle.call_set.specs.Logging.{headFits};
-ghost use Rattle.call_set.specs.Changed.{Changed};
-ghost use Rattle.call_set.specs.Tracked.{Tracked};
+ghost use Rattle.set_storage.specs.Storage.{numbersOf};
+ghost use Rattle.set_storage.specs.Lent.{LentScope, LentTracker};
 ghost use Rattle.set_storage.specs.Stays.{ownedBy};
-ghost use Rattle.call_join.specs.Slot.{passStart, passEnd};
-ghost use Rattle.call_join.specs.Join.{GivenTested, Joins, LogsSet, givenOf, entriesTo, joinedEntries, joinedTracker};
+ghost use Rattle.set_ready.specs.Tested.{TrackerTested};
+ghost use Rattle.log_head.specs.Log.{headWithin};
+ghost use Rattle.texture_track.specs.Tracked.{Tracked, Changes};
+ghost use Rattle.call_join.specs.Join.{GivenTested, Joins, joinCall, joinedEntries, joinedTracker};
+ghost use Rattle.call_join.specs.Contract.{SetFromUsageScope, SetFromTracker};
 
-// 15: whether the entries of the set fit in what is free. Where there is a free entry for every subresource they do, and nothing is counted.
-fn entries_fit(
-    table: &Table,
-    ends: &[u32],
-    p: UsageFlags,
-    mask: u32,
-    given: &Table,
-    first: &[u32],
-    from: usize,
-    n: usize,
-    log: &mut [u32],
-    free: usize,
-) -> bool
-    requires { ⌜ LogsSet (now table) (now ends) from (now given) (now first) n ⌝ }
-    requires { ⌜ (getD (now table) texturesAt 0 ≤ 64) × ((getD (now table) mipLimitAt 0 ≤ 16) × (getD (now table) layerLimitAt 0 ≤ 256)) ⌝ }
-    requires { ⌜ length (entriesTo p mask (now table) (now ends) from (now given) (now first) n) ≤ capacity (numbersOf (now table)) ⌝ }
-    ensures { λ x. ⌜ (x ≡ leb (length (entriesTo p mask (now (table .entry)) (now (ends .entry)) from (now (given .entry)) (now (first .entry)) n)) free) × (now (log .exit) ≡ now (log .entry)) ⌝ }
-{
-    if subresources(table) <= free {
-        return true;
-    }
-    log_set(table, ends, p, mask, given, first, from, n, log, 0, false) <= free
-}
-
-// The set, once the checks passed: its entries are written, if they fit, and the textures change.
+// The set, once the checks passed: its entries are written, if they fit, and the textures change. Where there is a free entry for every
+// subresource they fit, and nothing is counted.
 fn set_checked(
     table: &mut Table,
     starts: &mut [u32],
@@ -80,16 +51,22 @@ fn set_checked(
 ) -> Answered
     requires { ⌜ Joins (now table) (now starts) (now ends) from to (now given) (now first) (now last) ⌝ }
     requires { ⌜ length (joinedEntries (now table) (now ends) from (now given) (now first)) ≤ capacity (numbersOf (now table)) ⌝ }
-    requires { ⌜ headFits (length (now log) / 7) head ≡ true ⌝ }
+    requires { ⌜ headWithin (length (now log) / 7) head ≡ true ⌝ }
     requires { ⌜ length (now log) < 18446744073709551616 ⌝ }
-    ensures { λ x. ⌜ Changed (ownedBy (now (given .entry))) (joinedEntries (now (table .entry)) (now (ends .entry)) from (now (given .entry)) (now (first .entry))) (joinedTracker (now (table .entry)) (now (starts .entry)) (now (ends .entry)) from to (now (given .entry)) (now (first .entry)) (now (last .entry))) head (now (table .entry)) (now (starts .entry)) (now (ends .entry)) (now (log .entry)) x (now (table .exit)) (now (starts .exit)) (now (ends .exit)) (now (log .exit)) ⌝ }
+    ensures { λ x. let t = now (table .entry) in let s = now (starts .entry) in let e = now (ends .entry) in
+        let g = now (given .entry) in let a = now (first .entry) in let b = now (last .entry) in
+        ⌜ Changes (ownedBy g) (joinedEntries t e from g a) (joinedTracker t s e from to g a b) head
+        t s e (now (log .entry)) x (now (table .exit)) (now (starts .exit)) (now (ends .exit)) (now (log .exit)) ⌝ }
 {
     let p = flags_of(table);
     let mask = table[MASK];
     let n = wide(given[TEXTURES]);
     let free = head.free;
-    if !entries_fit(table, ends, p, mask, given, first, from, n, log, free) {
-        return refused(Refusal::NoFreeEntry, head);
+    if free < subresources(table) {
+        let x = log_set(table, ends, p, mask, given, first, from, n, log, 0, false);
+        if free < x {
+            return refused(Refusal::NoFreeEntry, head);
+        }
     }
     let at = head.written;
     let x = log_set(table, ends, p, mask, given, first, from, n, log, at, true);
@@ -112,20 +89,31 @@ fn set_from(
 ) -> Answered
     requires { ⌜ TrackerTested (now table) (now starts) (now ends) ⌝ }
     requires { ⌜ GivenTested from to (now given) (now first) (now last) ⌝ }
-    requires { ⌜ length (pending (setFrom ranged passStart passEnd (trackerOf (now table) (now starts) (now ends)) (givenOf from to (now given) (now first) (now last)) .log)) ≤ capacity (numbersOf (now table)) ⌝ }
-    ensures { λ x. ⌜ Tracked (ownedBy (now (given .entry))) true (setFrom ranged passStart passEnd (trackerOf (now (table .entry)) (now (starts .entry)) (now (ends .entry))) (givenOf from to (now (given .entry)) (now (first .entry)) (now (last .entry)))) head (now (table .entry)) (now (starts .entry)) (now (ends .entry)) (now (log .entry)) x (now (table .exit)) (now (starts .exit)) (now (ends .exit)) (now (log .exit)) ⌝ }
+    requires { ⌜ length (pending (joinCall (now table) (now starts) (now ends) from to (now given) (now first) (now last) .log))
+        ≤ capacity (numbersOf (now table)) ⌝ }
+    ensures { λ x. let t = now (table .entry) in let s = now (starts .entry) in let e = now (ends .entry) in
+        let g = now (given .entry) in let a = now (first .entry) in let b = now (last .entry) in
+        ⌜ Tracked (ownedBy g) true (joinCall t s e from to g a b) head t s e (now (log .entry))
+        x (now (table .exit)) (now (starts .exit)) (now (ends .exit)) (now (log .exit)) ⌝ }
 {
     let lent = lent_entries(log);
     if !head_fits(lent, head) {
         return refused(Refusal::LogTooShort, head);
     }
     match check_set(table, given) {
-        Outcome::Done => set_checked(table, starts, ends, given, first, from, last, to, log, head),
-        Outcome::Refused(r) => refused(r, head),
-        Outcome::Conflict(k) => Answered {
-            outcome: Outcome::Conflict(k),
+        Verdict::Accepted => set_checked(
+            table,
+            starts,
+            ends,
+            given,
+            first,
+            from,
+            last,
+            to,
+            log,
             head,
-        },
+        ),
+        Verdict::Refused(r) => refused(r, head),
     }
 }
 
@@ -139,10 +127,12 @@ pub fn set_from_usage_scope(
     log: &mut [u32],
     head: LogHead,
 ) -> Answered
-    ensures { λ x. ⌜ Tracked (ownedBy (now (given .entry))) (wellFormedTracker (length (now (starts .entry)) / 3) (length (now (ends .entry)) / 3) (trackerOf (now (table .entry)) (now (starts .entry)) (now (ends .entry))) && wellFormedScope (length (now (lent .entry)) / 3) (scopeOf (now (given .entry)) (now (lent .entry)))) (setFromUsageScope ranged (trackerOf (now (table .entry)) (now (starts .entry)) (now (ends .entry))) (scopeOf (now (given .entry)) (now (lent .entry)))) head (now (table .entry)) (now (starts .entry)) (now (ends .entry)) (now (log .entry)) x (now (table .exit)) (now (starts .exit)) (now (ends .exit)) (now (log .exit)) ⌝ }
+    ensures { λ x.
+        let t : LentTracker = record { table = now (table .entry); starts = now (starts .entry); ends = now (ends .entry) } in
+        let g : LentScope = record { table = now (given .entry); ranges = now (lent .entry) } in
+        let t′ : LentTracker = record { table = now (table .exit); starts = now (starts .exit); ends = now (ends .exit) } in
+        ⌜ SetFromUsageScope t g head (now (log .entry)) x t′ (now (log .exit)) ⌝ }
 {
-    table_len(table);
-    table_len(given);
     if !tracker_fits(table, starts, ends) {
         return refused(Refusal::NotWellFormed, head);
     }
@@ -174,10 +164,12 @@ pub fn set_from_tracker(
     log: &mut [u32],
     head: LogHead,
 ) -> Answered
-    ensures { λ x. ⌜ Tracked (ownedBy (now (given .entry))) (wellFormedTracker (length (now (starts .entry)) / 3) (length (now (ends .entry)) / 3) (trackerOf (now (table .entry)) (now (starts .entry)) (now (ends .entry))) && wellFormedTracker (length (now (first .entry)) / 3) (length (now (last .entry)) / 3) (trackerOf (now (given .entry)) (now (first .entry)) (now (last .entry)))) (setFromTracker ranged (trackerOf (now (table .entry)) (now (starts .entry)) (now (ends .entry))) (trackerOf (now (given .entry)) (now (first .entry)) (now (last .entry)))) head (now (table .entry)) (now (starts .entry)) (now (ends .entry)) (now (log .entry)) x (now (table .exit)) (now (starts .exit)) (now (ends .exit)) (now (log .exit)) ⌝ }
+    ensures { λ x.
+        let t : LentTracker = record { table = now (table .entry); starts = now (starts .entry); ends = now (ends .entry) } in
+        let g : LentTracker = record { table = now (given .entry); starts = now (first .entry); ends = now (last .entry) } in
+        let t′ : LentTracker = record { table = now (table .exit); starts = now (starts .exit); ends = now (ends .exit) } in
+        ⌜ SetFromTracker t g head (now (log .entry)) x t′ (now (log .exit)) ⌝ }
 {
-    table_len(table);
-    table_len(given);
     if !tracker_fits(table, starts, ends) {
         return refused(Refusal::NotWellFormed, head);
     }

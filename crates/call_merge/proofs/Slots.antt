@@ -17,7 +17,7 @@ use Rattle.model.specs.Sets.{Numbers, Slot, Set, withSlots, emptySlot}
 use Rattle.model.specs.Calls.{Indexed, answer, mergeGiven}
 use Rattle.model.specs.Log.{outcomeOf}
 use Rattle.model.specs.Texture.{Held, single, ranged}
-use Rattle.set_storage.specs.Part.{by-lt}
+use Rattle.model.specs.BoolLaws.{by-lt}
 use Rattle.set_storage.specs.Storage.{numbersOf, flagsOf, extentOf, ownedOf, startHalf, scopeOf, texturesAt}
 use Rattle.set_storage.specs.Lists.{list-at, list-long}
 use Rattle.set_storage.specs.Stays.{only, onlyOwned, ownedBy, keeps-refl, keeps-then, keeps-more, ScopeFrame}
@@ -26,11 +26,10 @@ use Rattle.set_storage.specs.Slots.{scope-head}
 use Rattle.texture_merge.specs.declared.Stopped.{Stopped}
 use Rattle.texture_merge.specs.declared.Stopped.the-variants.{Nowhere, At}
 use Rattle.texture_merge.specs.Walking.{Walking, walk-start, walk-turn, walk-stop, walk-rest, walk-end}
-use Rattle.set_checks.specs.Passed.{TexturePassed}
-use Rattle.agreement.specs.Fits.{HeldFits, SlotFits}
 use Rattle.set_ready.specs.Tested.{half-fits}
+use Rattle.set_ready.specs.Half.{HalfReady, scope-keeps, numbers-stay, flags-stay, measured-stays, scope-still}
 use Rattle.set_ready.specs.Answers.{indexed, metAt}
-use Rattle.call_merge.specs.Slot.{slotOf, SlotReady, TakenTexture, OwnedReady, SlotMerged, slot-only, slot-view, slot-other}
+use Rattle.call_merge.specs.Slot.{slotOf, TakenTexture, OwnedReady, SlotMerged, slot-only, slot-view, slot-other}
 use Rattle.call_merge.specs.Scope.{mergedSlots, SlotsReady, SlotsMerged}
 use Rattle.call_merge.proofs.Beside.{beside, walk-beside, walk-past}
 
@@ -73,10 +72,10 @@ module _ {p : UsageFlags} {t₀ r₀ g l : List ℕ} {k : ℕ} {t r : List ℕ} 
   word = scope-head (m .frame)
 
   same-numbers : numbersOf t ≡ numbersOf t₀
-  same-numbers = rw (word 0 (omega arith), word 1 (omega arith), word 2 (omega arith))
+  same-numbers = numbers-stay (scope-keeps (m .frame))
 
   same-flags : flagsOf t ≡ flagsOf t₀
-  same-flags = rw (word 3 (omega arith), word 4 (omega arith), word 5 (omega arith), word 6 (omega arith))
+  same-flags = flags-stay (scope-keeps (m .frame))
 
   -- all were walked over
   pub finish : getD g texturesAt 0 ≤ k → SlotsMerged (ownedBy g) (mergedSlots p t₀ r₀ g l) t₀ r₀ outcome.Done t r
@@ -90,43 +89,11 @@ module _ {p : UsageFlags} {t₀ r₀ g l : List ℕ} {k : ℕ} {t r : List ℕ} 
 
   module _ (q : SlotsReady t₀ r₀ g l p) (h : k < getD g texturesAt 0) where
     measured-now : Measured (numbersOf t) startHalf t r
-    measured-now =
-        let z = q .into .measured in record {
-          dims = refl;
-          textures = rw (word 0 (omega arith)) (z .textures);
-          mips = rw (word 1 (omega arith)) (z .mips);
-          some = rw (word 2 (omega arith)) (z .some);
-          layers = rw (word 2 (omega arith)) (z .layers);
-          fits = rw (word 0 (omega arith), word 1 (omega arith), word 2 (omega arith), m .frame .ranges .long) (z .fits);
-          half = z .half;
-          table = m .frame .words .long ∙ z .table;
-        }
+    measured-now = measured-stays (scope-keeps (m .frame)) (m .frame .ranges .long) (q .into .measured)
 
     module _ (o : ownedOf g k ≡ true) where
-      passed-was : TexturePassed t₀ k (extentOf g k)
-      passed-was = q .passed .each k h o
-
-      same-slot : slotOf t r k ≡ slotOf t₀ r₀ k
-      same-slot = m .left k (omega arith) (passed-was .texture)
-
-      passed-now : TexturePassed t k (extentOf g k)
-      passed-now = record {
-        texture = rw (word 0 (omega arith)) (passed-was .texture);
-        mip = passed-was .mip;
-        top = rw (word 1 (omega arith)) (passed-was .top);
-        some = passed-was .some;
-        low = rw (word 2 (omega arith)) (passed-was .low);
-        own = λ z. ap (λ (s : Slot Held). s .extent) same-slot ∙ passed-was .own (sym (ap (λ (s : Slot Held). s .owned) same-slot) ∙ z);
-      }
-
-      fits-now : SlotFits HeldFits (numbersOf t) (flagsOf t) (slotOf t r k)
-      fits-now =
-          subst (λ (n : Numbers). SlotFits HeldFits n (flagsOf t) (slotOf t r k)) (sym same-numbers)
-          (subst (λ (f : UsageFlags). SlotFits HeldFits (numbersOf t₀) f (slotOf t r k)) (sym same-flags)
-          (subst (SlotFits HeldFits (numbersOf t₀) (flagsOf t₀)) (sym same-slot) (q .into .slots k (passed-was .texture))))
-
-      slot-now : SlotReady t r k (extentOf g k)
-      slot-now = record { measured = measured-now; texture = passed-now; held = λ z. half-fits startHalf t r k (fits-now .extent z .mips) (fits-now .held z) }
+      slot-now : HalfReady startHalf t r k (extentOf g k)
+      slot-now = let x = q .passed .each k h o in scope-still (q .into) x (m .frame) (m .left k (omega arith) (x .texture))
 
       taken-now : TakenTexture t k (extentOf g k) g l p
       taken-now =
@@ -190,7 +157,7 @@ module _ {p : UsageFlags} {t₀ r₀ g l : List ℕ} {k : ℕ} {t r : List ℕ} 
 
       pub stop : {c : InvalidUse} → x ≡ At c → SlotsMerged (ownedBy g) (mergedSlots p t₀ r₀ g l) t₀ r₀ (outcome.Conflict (record { index = trackerIndex k; found = c })) t′ r′
       stop {c} e =
-          let b : k < getD t texturesAt 0 = passed-now (is-owned (ownedOf g k) refl e) .texture in
+          let b : k < getD t texturesAt 0 = slot-now (is-owned (ownedOf g k) refl e) .texture .texture in
           let s = walk-stop (step p g l) (m .walking) (emptySlot (single 0)) (rw (slots-long t r) b) (scopeOf t′ r′ .slots) (indexed k c) (rw (here b) slots-now) (rw (here b) (sym (y .conflict) ∙ ap (metAt k) e)) in
           subst (λ (w : Stop (Indexed InvalidUse) (List (Slot Held))). SlotsMerged (ownedBy g) w t₀ r₀ (outcome.Conflict (record { index = trackerIndex k; found = c })) t′ r′) (sym (slots-are p t₀ r₀ g l)) (record {
             answer = ap (λ (o : Option (Indexed InvalidUse)). outcomeOf (answer o)) (s .1);

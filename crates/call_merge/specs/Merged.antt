@@ -7,12 +7,11 @@ use Rattle.model.specs.declared.InvalidUse.{InvalidUse}
 use Rattle.model.specs.declared.Outcome.{Outcome}
 use Rattle.model.specs.Sets.{Set}
 use Rattle.model.specs.Calls.{CallResult}
-use Rattle.model.specs.Log.{outcomeOf, merging}
+use Rattle.model.specs.Log.{isRefused, outcomeOf, merging}
 use Rattle.model.specs.Texture.{Held, Entry}
 use Rattle.set_storage.specs.Storage.{numbersOf, scopeOf}
 use Rattle.set_storage.specs.Stays.{ScopeFrame}
 use Rattle.set_ready.specs.Named.{within}
-use Rattle.set_ready.specs.Answers.{turnedAway}
 
 -- `fits` says whether every set that was handed in is well formed, `m` is the model's call, and `named` are the indices that the call
 -- names. All that is lent stays but the words and the ranges of those: "More room is ignored". Free, and in no view, is only what is
@@ -22,6 +21,6 @@ pub record Merged (named : ℕ → Type 0) (fits : Bool) (m : CallResult Invalid
   pub answer : x ≡ outcomeOf ((merging fits (scopeOf t r) m) .answer)
   pub view : scopeOf t′ r′ ≡ (merging fits (scopeOf t r) m) .after
   -- "Everything lent stays."
-  pub kept : turnedAway x ≡ true → (t′ ≡ t) × (r′ ≡ r)
+  pub kept : isRefused x ≡ true → (t′ ≡ t) × (r′ ≡ r)
   -- every number of what is lent stays but those of the named textures
   pub stays : ScopeFrame (within t named) (numbersOf t) t r t′ r′

@@ -1,10 +1,10 @@
 -- One texture of a scope: what is asked for, and the contract of a merge into it.
-use Prim.Native.Nat.{ℕ, _+_, _≤_, _<_}
+use Prim.Native.Nat.{ℕ, _≤_, _<_}
 use native.Mathlib.Omega.{arith}
 use mathlib.Core.Path.{_≡_, refl, sym, ap, subst, _∙_}
 use mathlib.Core.Bool.{Bool, true}
 use mathlib.Core.List.{List}
-use mathlib.Core.Option.{Option, none, Option·map}
+use mathlib.Core.Option.{Option·map}
 use lib.ListN.{getD, set}
 use lib.Seq.{set-out}
 use borrow.Author.Tests.{ne-eqb, eq-eqb}
@@ -16,8 +16,8 @@ use Rattle.model.specs.Base.{Stop}
 use Rattle.model.specs.Sets.{Numbers, Slot, withSlots}
 use Rattle.model.specs.Calls.{Indexed, owning, mergeSlot, mergeGiven}
 use Rattle.model.specs.Texture.{Held, Given, fromHeld, insert, merge, ranged}
+use Rattle.model.specs.BoolLaws.{by-lt}
 use Rattle.set_storage.specs.Storage.{numbersOf, flagsOf, extentOf, ownedOf, startHalf, heldOf, slotWith, setWith, scopeOf, listFrom, layersAt, mipsAt, ownedAt, texturesAt}
-use Rattle.set_storage.specs.Part.{by-lt}
 use Rattle.set_storage.specs.Lists.{list-ext, list-long}
 use Rattle.set_storage.specs.Frames.{Measured}
 use Rattle.set_storage.specs.Stays.{only, onlyOwned, keeps-refl, keeps-then, keeps-more, ScopeFrame}
@@ -25,23 +25,18 @@ use Rattle.set_storage.specs.Slots.{SlotFrame, HalfBecomes, ownWords, slot-owne
 use Rattle.texture_merge.specs.declared.Stopped.{Stopped}
 use Rattle.texture_merge.specs.declared.Stopped.the-variants.{Nowhere}
 use Rattle.texture_merge.specs.Uses.{UseReady, HeldReady, HalfMerged}
-use Rattle.texture_merge.specs.FromSet.{SetReady, MergeReady}
-use Rattle.set_checks.specs.Passed.{TexturePassed, StatePassed}
+use Rattle.texture_merge.specs.FromSet.{GivenReady, SetReady, MergeReady}
 use Rattle.agreement.specs.Fits.{ExtentFits}
 use Rattle.set_ready.specs.Tested.{HalfFits}
-use Rattle.set_ready.specs.Merges.{TakenUse, word-owned, own-numbers, own-flags, own-extent, own-passed, own-measured, use-ready, held-ready, set-ready, merge-ready}
+use Rattle.set_ready.specs.Merges.{TakenUse, word-owned, own-numbers, own-flags, own-extent, own-measured, own-ready, use-ready, held-ready, given-ready, merge-ready}
+use Rattle.set_ready.specs.Half.{HalfReady, half-held}
 use Rattle.set_ready.specs.Answers.{indexed, metAt}
 
 -- texture i of a scope, as the view has it
 abbrev pub slotOf : List ℕ → List ℕ → ℕ → Slot Held
 slotOf t r = slotWith (heldOf (numbersOf t) startHalf t r) t
 
--- ---- What is asked for: a texture that passed the checks, in a scope that passed the test
-pub record SlotReady (t r : List ℕ) (i : ℕ) (sh : Extent) : Type 0 where
-  pub measured : Measured (numbersOf t) startHalf t r
-  pub texture : TexturePassed t i sh
-  pub held : ownedOf t i ≡ true → HalfFits startHalf t r i
-
+-- ---- What is asked for
 -- the texture that a given scope holds at the same index, from a scope that passed the test and the checks
 pub record TakenTexture (t : List ℕ) (i : ℕ) (sh : Extent) (g l : List ℕ) (p : UsageFlags) : Type 0 where
   pub flags : p ≡ flagsOf t
@@ -55,7 +50,7 @@ pub record TakenTexture (t : List ℕ) (i : ℕ) (sh : Extent) (g l : List ℕ) 
 -- both, if the given scope owns the index
 pub record OwnedReady (t r : List ℕ) (i : ℕ) (g l : List ℕ) (p : UsageFlags) : Type 0 where
   pub index : i < 64
-  pub slot : ownedOf g i ≡ true → SlotReady t r i (extentOf g i)
+  pub slot : ownedOf g i ≡ true → HalfReady startHalf t r i (extentOf g i)
   pub given : ownedOf g i ≡ true → TakenTexture t i (extentOf g i) g l p
 
 -- THE CONTRACT: texture i becomes what the model's merge of it gives, and all that is lent stays but what is of a named index: i, or none
@@ -64,7 +59,7 @@ pub record SlotMerged (named : ℕ → Type 0) (t r : List ℕ) (i : ℕ) (w : S
   pub slot : slotWith (heldOf (numbersOf t) startHalf t′ r′) t′ i ≡ w .value
   pub frame : ScopeFrame named (numbersOf t) t r t′ r′
 
-module _ {t r : List ℕ} {i : ℕ} {sh : Extent} (q : SlotReady t r i sh) (p : UsageFlags) (g : Given) where
+module _ {t r : List ℕ} {i : ℕ} {sh : Extent} (q : HalfReady startHalf t r i sh) (p : UsageFlags) (g : Given) where
   -- an unowned texture is owned, and then `insert`
   pub slot-new : {t′ r′ : List ℕ} → getD t (ownedAt i) 0 ≡ 0 → HalfBecomes (numbersOf (ownWords t i sh)) startHalf i (insert p sh g) (ownWords t i sh) r t′ r′ → SlotMerged (only i) t r i (mergeSlot ranged p sh g i (slotOf t r i)) Nowhere t′ r′
   slot-new {t′} {r′} free b =
@@ -97,51 +92,33 @@ module _ {t r : List ℕ} {i : ℕ} {sh : Extent} (q : SlotReady t r i sh) (p : 
       })
 
 -- ---- A use of it
-module _ {t r : List ℕ} {i : ℕ} {sh : Extent} {all : Bool} {q : Selector} {p : UsageFlags} {new : ℕ} (s : SlotReady t r i sh) (u : TakenUse t sh all q p new) where
+module _ {t r : List ℕ} {i : ℕ} {sh : Extent} {all : Bool} {q : Selector} {p : UsageFlags} {new : ℕ} (s : HalfReady startHalf t r i sh) (u : TakenUse t sh all q p new) where
   -- once the texture is owned
   pub new-use : UseReady (numbersOf (ownWords t i sh)) startHalf (ownWords t i sh) r i sh all q p new
-  new-use =
-      let e : p ≡ flagsOf (ownWords t i sh) = u .flags ∙ sym (own-flags (s .measured) (s .texture)) in
-      subst (λ (f : UsageFlags). UseReady (numbersOf (ownWords t i sh)) startHalf (ownWords t i sh) r i sh all q f new) (sym e)
-      (use-ready (own-measured (s .measured) (s .texture)) (own-passed (s .measured) (s .texture)) (own-extent (s .measured) (s .texture)) (u .selector) (u .whole) (subst (λ (f : UsageFlags). StatePassed f new) e (u .state)))
+  new-use = use-ready u (own-ready (s .measured) (s .texture)) (own-flags (s .measured) (s .texture))
 
   module _ (own : getD t (ownedAt i) 0 ≡ 0 → ⊥) where
-    is-owned : ownedOf t i ≡ true
-    is-owned = word-owned t i own
-
-    state-is : StatePassed (flagsOf t) new
-    state-is = subst (λ (f : UsageFlags). StatePassed f new) (u .flags) (u .state)
-
     pub old-use : UseReady (numbersOf t) startHalf t r i sh all q p new
-    old-use =
-        subst (λ (f : UsageFlags). UseReady (numbersOf t) startHalf t r i sh all q f new) (sym (u .flags))
-        (use-ready (s .measured) (s .texture) (s .texture .own is-owned) (u .selector) (u .whole) state-is)
+    old-use = use-ready u (half-held s own .ready) refl
 
     pub old-held : HeldReady startHalf t r i sh new
-    old-held = held-ready (s .measured) (s .texture) (s .texture .own is-owned) (s .held is-owned) state-is
+    old-held = held-ready u (half-held s own)
 
 -- ---- What a given scope holds at its index
-module _ {t r : List ℕ} {i : ℕ} {sh : Extent} {g l : List ℕ} {p : UsageFlags} (s : SlotReady t r i sh) (u : TakenTexture t i sh g l p) where
+module _ {t r : List ℕ} {i : ℕ} {sh : Extent} {g l : List ℕ} {p : UsageFlags} (s : HalfReady startHalf t r i sh) (u : TakenTexture t i sh g l p) where
+  given : GivenReady startHalf g l i sh p
+  given = given-ready (u .measured) (u .texture) (u .extent) (u .fits) (u .held) (u .same ∙ sym (u .flags))
+
   -- once the texture is owned
   pub new-given : SetReady startHalf (ownWords t i sh) r i sh startHalf g l p
-  new-given =
-      let m = s .measured in let x = s .texture in let e = sym (own-flags m x) in
-      subst (λ (f : UsageFlags). SetReady startHalf (ownWords t i sh) r i sh startHalf g l f) (sym (u .flags ∙ e))
-      (set-ready (own-measured m x) (own-passed m x) (own-extent m x) (u .same ∙ e) (u .extent) (u .held) (u .measured) (u .texture) (u .fits))
+  new-given = record { texture = own-ready (s .measured) (s .texture); flags = u .flags ∙ sym (own-flags (s .measured) (s .texture)); given = given }
 
   module _ (own : getD t (ownedAt i) 0 ≡ 0 → ⊥) where
-    was-owned : ownedOf t i ≡ true
-    was-owned = word-owned t i own
-
     pub old-given : SetReady startHalf t r i sh startHalf g l p
-    old-given =
-        subst (λ (f : UsageFlags). SetReady startHalf t r i sh startHalf g l f) (sym (u .flags))
-        (set-ready (s .measured) (s .texture) (s .texture .own was-owned) (u .same) (u .extent) (u .held) (u .measured) (u .texture) (u .fits))
+    old-given = record { texture = half-held s own .ready; flags = u .flags; given = given }
 
     pub old-merge : MergeReady startHalf t r i sh startHalf g p
-    old-merge =
-        subst (λ (f : UsageFlags). MergeReady startHalf t r i sh startHalf g f) (sym (u .flags))
-        (merge-ready (s .measured) (s .texture) (s .texture .own was-owned) (u .same) (u .extent) (u .held) (s .held was-owned))
+    old-merge = merge-ready (half-held s own) (u .flags) (u .same ∙ sym (u .flags)) (u .held)
 
 -- ---- The given scope may own the index
 module _ {t r : List ℕ} {i : ℕ} {g l : List ℕ} {p : UsageFlags} (o : OwnedReady t r i g l p) where
@@ -151,7 +128,7 @@ module _ {t r : List ℕ} {i : ℕ} {g l : List ℕ} {p : UsageFlags} (o : Owned
       rw (eq-eqb (getD g (ownedAt i) 0) 0 free) (record { conflict = refl; slot = refl; frame = keeps-refl t r })
 
   module _ (own : getD g (ownedAt i) 0 ≡ 0 → ⊥) where
-    pub taken-ready : SlotReady t r i (extentOf g i) × TakenTexture t i (extentOf g i) g l p
+    pub taken-ready : HalfReady startHalf t r i (extentOf g i) × TakenTexture t i (extentOf g i) g l p
     taken-ready = let e = word-owned g i own in (o .slot e, o .given e)
 
     -- it does: the texture took what it holds

@@ -5,24 +5,18 @@ use model::Outcome;
 use model::Refusal;
 use model::TrackerIndex;
 use model::UsageFlags;
+use model::Verdict;
 use set_checks::check_set;
 use set_storage::TEXTURES;
 use set_storage::Table;
 use set_storage::flags_of;
-use set_storage::table_len;
 use set_storage::wide;
 use set_wellformed::scope_fits;
 use texture_merge::Stopped;
-ghost use mathlib.Core.Bool.{_&&_};
-ghost use Prim.Native.Nat.{_/_};
-ghost use lib.ListN.{length};
-ghost use Rattle.model.specs.Calls.{mergeUsageScope};
-ghost use Rattle.model.specs.Texture.{ranged};
-ghost use Rattle.model.specs.WellFormed.{wellFormedScope};
-ghost use Rattle.set_storage.specs.Storage.{scopeOf};
+ghost use Rattle.set_storage.specs.Lent.{LentScope};
 ghost use Rattle.set_storage.specs.Stays.{ownedBy};
-ghost use Rattle.call_merge.specs.Merged.{Merged};
 ghost use Rattle.call_merge.specs.Scope.{mergedSlots, SlotsReady, SlotsMerged};
+ghost use Rattle.call_merge.specs.Contract.{MergeUsageScope};
 
 // Every texture that the given scope owns, by ascending index, up to the first conflict.
 pub fn merge_slots(
@@ -33,7 +27,8 @@ pub fn merge_slots(
     p: UsageFlags,
 ) -> Outcome
     requires { ⌜ SlotsReady (now table) (now ranges) (now given) (now lent) p ⌝ }
-    ensures { λ x. ⌜ SlotsMerged (ownedBy (now (given .entry))) (mergedSlots p (now (table .entry)) (now (ranges .entry)) (now (given .entry)) (now (lent .entry))) (now (table .entry)) (now (ranges .entry)) x (now (table .exit)) (now (ranges .exit)) ⌝ }
+    ensures { λ x. let t = now (table .entry) in let r = now (ranges .entry) in let g = now (given .entry) in
+        ⌜ SlotsMerged (ownedBy g) (mergedSlots p t r g (now (lent .entry))) t r x (now (table .exit)) (now (ranges .exit)) ⌝ }
 {
     let n = given[TEXTURES];
     let mut k = 0;
@@ -55,10 +50,12 @@ pub fn merge_usage_scope(
     given: &Table,
     lent: &[u32],
 ) -> Outcome
-    ensures { λ x. ⌜ Merged (ownedBy (now (given .entry))) (wellFormedScope (length (now (ranges .entry)) / 3) (scopeOf (now (table .entry)) (now (ranges .entry))) && wellFormedScope (length (now (lent .entry)) / 3) (scopeOf (now (given .entry)) (now (lent .entry)))) (mergeUsageScope ranged (scopeOf (now (table .entry)) (now (ranges .entry))) (scopeOf (now (given .entry)) (now (lent .entry)))) (now (table .entry)) (now (ranges .entry)) x (now (table .exit)) (now (ranges .exit)) ⌝ }
+    ensures { λ x.
+        let s : LentScope = record { table = now (table .entry); ranges = now (ranges .entry) } in
+        let g : LentScope = record { table = now (given .entry); ranges = now (lent .entry) } in
+        let s′ : LentScope = record { table = now (table .exit); ranges = now (ranges .exit) } in
+        ⌜ MergeUsageScope s g x s′ ⌝ }
 {
-    table_len(table);
-    table_len(given);
     if !scope_fits(table, ranges) {
         return Outcome::Refused(Refusal::NotWellFormed);
     }
@@ -66,11 +63,10 @@ pub fn merge_usage_scope(
         return Outcome::Refused(Refusal::NotWellFormed);
     }
     match check_set(table, given) {
-        Outcome::Done => {
+        Verdict::Accepted => {
             let p = flags_of(table);
             merge_slots(table, ranges, given, lent, p)
         }
-        Outcome::Refused(r) => Outcome::Refused(r),
-        Outcome::Conflict(k) => Outcome::Conflict(k),
+        Verdict::Refused(r) => Outcome::Refused(r),
     }
 }

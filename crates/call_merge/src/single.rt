@@ -7,27 +7,20 @@ use model::Refusal;
 use model::Selection;
 use model::Selector;
 use model::TrackerIndex;
+use model::Verdict;
 use set_checks::check_single;
 use set_ready::is_full;
 use set_storage::Table;
 use set_storage::flags_of;
-use set_storage::table_len;
 use set_storage::wide;
 use set_wellformed::scope_fits;
 use texture_merge::Stopped;
 use texture_merge::from_set::full;
 ghost use mathlib.Core.Path.{_≡_};
-ghost use Prim.Native.Nat.{_/_};
-ghost use lib.ListN.{length};
-ghost use Rattle.model.specs.Calls.{mergeSingle};
-ghost use Rattle.model.specs.Texture.{ranged};
-ghost use Rattle.model.specs.WellFormed.{wellFormedScope};
-ghost use Rattle.set_storage.specs.Storage.{scopeOf};
-ghost use Rattle.set_storage.specs.Stays.{only};
-ghost use Rattle.set_checks.specs.Head.{selectorOf};
+ghost use Rattle.set_storage.specs.Lent.{LentScope};
 ghost use Rattle.set_ready.specs.Answers.{toldOf};
-ghost use Rattle.call_merge.specs.Merged.{Merged};
 ghost use Rattle.call_merge.specs.Single.{UseIs};
+ghost use Rattle.call_merge.specs.Contract.{MergeSingle};
 
 // What a selection names: all of a texture, or what a selector names.
 pub struct Use {
@@ -70,22 +63,23 @@ pub fn merge_single(
     selection: Selection,
     state: u16,
 ) -> Outcome
-    ensures { λ x. ⌜ Merged (only (index .0)) (wellFormedScope (length (now (ranges .entry)) / 3) (scopeOf (now (table .entry)) (now (ranges .entry)))) (mergeSingle ranged (scopeOf (now (table .entry)) (now (ranges .entry))) (index .0) extent (selectorOf selection) state) (now (table .entry)) (now (ranges .entry)) x (now (table .exit)) (now (ranges .exit)) ⌝ }
+    ensures { λ x.
+        let s : LentScope = record { table = now (table .entry); ranges = now (ranges .entry) } in
+        let s′ : LentScope = record { table = now (table .exit); ranges = now (ranges .exit) } in
+        ⌜ MergeSingle s index extent selection state x s′ ⌝ }
 {
-    table_len(table);
     if !scope_fits(table, ranges) {
         return Outcome::Refused(Refusal::NotWellFormed);
     }
     let new = state as u32;
     match check_single(table, index, extent, selection, new) {
-        Outcome::Done => {
+        Verdict::Accepted => {
             let u = use_of(extent, selection);
             let p = flags_of(table);
             let i = wide(index.0);
             let x = merge_use_at(table, ranges, i, extent, u.all, u.selector, p, new);
             told(index, x)
         }
-        Outcome::Refused(r) => Outcome::Refused(r),
-        Outcome::Conflict(k) => Outcome::Conflict(k),
+        Verdict::Refused(r) => Outcome::Refused(r),
     }
 }

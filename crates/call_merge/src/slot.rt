@@ -20,7 +20,8 @@ ghost use Rattle.set_storage.specs.Storage.{numbersOf, startHalf, heldOf};
 ghost use Rattle.set_storage.specs.Stays.{only, onlyOwned};
 ghost use Rattle.texture_merge.specs.Uses.{useOf};
 ghost use Rattle.set_ready.specs.Merges.{TakenUse};
-ghost use Rattle.call_merge.specs.Slot.{slotOf, SlotReady, TakenTexture, OwnedReady, SlotMerged};
+ghost use Rattle.set_ready.specs.Half.{HalfReady};
+ghost use Rattle.call_merge.specs.Slot.{slotOf, TakenTexture, OwnedReady, SlotMerged};
 
 // A use of the texture.
 pub fn merge_use_at(
@@ -33,9 +34,11 @@ pub fn merge_use_at(
     p: UsageFlags,
     new: u32,
 ) -> Stopped
-    requires { ⌜ SlotReady (now table) (now ranges) i extent ⌝ }
+    requires { ⌜ HalfReady startHalf (now table) (now ranges) i extent ⌝ }
     requires { ⌜ TakenUse (now table) extent all q p new ⌝ }
-    ensures { λ x. ⌜ SlotMerged (only i) (now (table .entry)) (now (ranges .entry)) i (mergeSlot ranged p extent (useOf all q new) i (slotOf (now (table .entry)) (now (ranges .entry)) i)) x (now (table .exit)) (now (ranges .exit)) ⌝ }
+    ensures { λ x. let t = now (table .entry) in let r = now (ranges .entry) in
+        ⌜ SlotMerged (only i) t r i (mergeSlot ranged p extent (useOf all q new) i (slotOf t r i)) x (now (table .exit))
+        (now (ranges .exit)) ⌝ }
 {
     if table[OWNED + i] == 0 {
         own(table, i, extent);
@@ -62,9 +65,11 @@ pub fn merge_given_at(
     lent: &[u32],
     p: UsageFlags,
 ) -> Stopped
-    requires { ⌜ SlotReady (now table) (now ranges) i extent ⌝ }
+    requires { ⌜ HalfReady startHalf (now table) (now ranges) i extent ⌝ }
     requires { ⌜ TakenTexture (now table) i extent (now given) (now lent) p ⌝ }
-    ensures { λ x. ⌜ SlotMerged (only i) (now (table .entry)) (now (ranges .entry)) i (mergeSlot ranged p extent (fromHeld (heldOf (numbersOf (now (given .entry))) startHalf (now (given .entry)) (now (lent .entry)) i)) i (slotOf (now (table .entry)) (now (ranges .entry)) i)) x (now (table .exit)) (now (ranges .exit)) ⌝ }
+    ensures { λ x. let t = now (table .entry) in let r = now (ranges .entry) in let g = now (given .entry) in let l = now (lent .entry) in
+        ⌜ SlotMerged (only i) t r i (mergeSlot ranged p extent (fromHeld (heldOf (numbersOf g) startHalf g l i)) i (slotOf t r i)) x
+        (now (table .exit)) (now (ranges .exit)) ⌝ }
 {
     if table[OWNED + i] == 0 {
         own(table, i, extent);
@@ -84,7 +89,9 @@ pub fn merge_owned_at(
     p: UsageFlags,
 ) -> Stopped
     requires { ⌜ OwnedReady (now table) (now ranges) i (now given) (now lent) p ⌝ }
-    ensures { λ x. ⌜ SlotMerged (onlyOwned (now (given .entry)) i) (now (table .entry)) (now (ranges .entry)) i (mergeGiven ranged p i (slotOf (now (table .entry)) (now (ranges .entry)) i) (slotOf (now (given .entry)) (now (lent .entry)) i)) x (now (table .exit)) (now (ranges .exit)) ⌝ }
+    ensures { λ x. let t = now (table .entry) in let r = now (ranges .entry) in let g = now (given .entry) in let l = now (lent .entry) in
+        ⌜ SlotMerged (onlyOwned g i) t r i (mergeGiven ranged p i (slotOf t r i) (slotOf g l i)) x (now (table .exit))
+        (now (ranges .exit)) ⌝ }
 {
     if given[OWNED + i] == 0 {
         return Stopped::Nowhere;

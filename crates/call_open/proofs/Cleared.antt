@@ -4,29 +4,23 @@ use native.Mathlib.Omega.{arith}
 use mathlib.Core.Path.{_≡_, refl, sym, ap, _∙_}
 use mathlib.Core.Bool.{Bool, true, false, not, _&&_, and-eq-true-iff, false≢true}
 use mathlib.Core.List.{List, [], _∷_}
-use mathlib.Core.Option.{Option, none, some}
+use mathlib.Core.Option.{none, some}
 use lib.Dec.{eqb, ltb}
 use lib.ListN.{length, getD, set, replicate, drop, length-set, length-drop, length-replicate, getD-replicate}
-use lib.Seq.{getD-set-same, getD-set-other, ext-getD, sets, sets-eq}
+use lib.Seq.{getD-set-same, getD-set-other, ext-getD, sets-eq}
 use borrow.Author.Tests.{eq-eqb}
 use Rattle.model.specs.declared.UsageFlags.{UsageFlags}
 use Rattle.model.specs.declared.Refusal.{Refusal}
-use Rattle.model.specs.declared.Refusal.the-variants.{NumbersOutOfLimits, FlagsBreakRule, ShortRoom}
-use Rattle.model.specs.declared.Conflict.{Conflict}
-use Rattle.model.specs.declared.Outcome.{Outcome}
-use Rattle.model.specs.declared.Outcome.the-variants as outcome
 use Rattle.model.specs.declared.Outcome.the-variants.{Done, Refused}
-use Rattle.model.specs.Base.{if_then_else_}
 use Rattle.model.specs.Flags.{isBit, meets, apart, flagsFit}
-use Rattle.model.specs.Representation.{Ends}
-use Rattle.model.specs.Sets.{Numbers, Slot, Set, Opening, emptySlot, openSet, openTracker, numbersFit}
+use Rattle.model.specs.Sets.{Numbers, Opening, emptySlot, openSet, openTracker}
 use Rattle.model.specs.Refusals.{firstFailing, openingRefusal, accepted, opens}
 use Rattle.model.specs.Log.{verdict}
-use Rattle.model.specs.Texture.{Held, single}
-use Rattle.set_storage.specs.Storage.{numbersOf, flagsOf, startHalf, endHalf, heldOf, endsOf, slotWith, setWith, scopeOf, trackerOf, listFrom, layersAt, maskAt, mipsAt, ownedAt, stateAt, tableLength}
+use Rattle.model.specs.Texture.{single}
+use Rattle.model.specs.BoolLaws.{by-eq, by-lt}
+use Rattle.set_storage.specs.Storage.{numbersOf, flagsOf, startHalf, endHalf, heldOf, endsOf, slotWith, scopeOf, trackerOf, listFrom, layersAt, maskAt, mipsAt, ownedAt, stateAt, tableLength}
 use Rattle.set_storage.specs.Lists.{list-long, list-at}
 use Rattle.set_storage.specs.Slots.{held-single}
-use Rattle.set_storage.specs.Part.{by-eq, by-lt}
 use Rattle.call_open.specs.Open.{asked, headed, clearedAt, cleared, OpenedScope, OpenedTracker}
 use Rattle.agreement.specs.OpeningLaws.{opened-numbers, opened-fits}
 use Rattle.set_wellformed.proofs.Numbers.{numbers-in}
@@ -192,58 +186,40 @@ module _ (t : List ℕ) (n m w : ℕ) (p : UsageFlags) (mask : ℕ) (long : leng
       )
 
 -- ---- what the answer says of the opening
-done-opens : (q : Option Refusal) → Done ≡ verdict q → accepted q ≡ true
-done-opens none e = refl
-done-opens (some r) e = absurd (let z : _≡_ {A = ℕ} 0 1 = cc in omega arith)
-
-refused-shuts : (q : Option Refusal) (r : Refusal) → Refused r ≡ verdict q → accepted q ≡ false
-refused-shuts none r e = absurd (let z : _≡_ {A = ℕ} 0 1 = cc in omega arith)
-refused-shuts (some x) r e = refl
-
-conflict-never : (q : Option Refusal) (k : Conflict) → outcome.Conflict k ≡ verdict q → ⊥
-conflict-never none k e = let z : _≡_ {A = ℕ} 0 1 = cc in omega arith
-conflict-never (some x) k e = let z : _≡_ {A = ℕ} 0 1 = cc in omega arith
-
 opened-few : (o : Opening) → opens o ≡ true → o .numbers .textures ≤ 64
 opened-few o e = numbers-in (o .numbers .textures) (o .numbers .mips) (o .numbers .layers) (opened-numbers o e) .textures .high
 
-pub few-of : (n m w : ℕ) (p : UsageFlags) (mask room : ℕ) → Done ≡ verdict (openingRefusal (asked n m w p mask room)) → n ≤ 64
-few-of n m w p mask room e = opened-few (asked n m w p mask room) (done-opens (openingRefusal (asked n m w p mask room)) e)
+pub few-of : (n m w : ℕ) (p : UsageFlags) (mask room : ℕ) → openingRefusal (asked n m w p mask room) ≡ none → n ≤ 64
+few-of n m w p mask room e = opened-few (asked n m w p mask room) (ap accepted e)
 
 -- ---- the contracts
 module _ (t r : List ℕ) (n m w : ℕ) (p : UsageFlags) where
   abbrev asks : Opening
   asks = asked n m w p 0 (length r / 3)
 
-  pub scope-done : length t ≡ tableLength → Done ≡ verdict (openingRefusal asks) → OpenedScope t r n m w p Done (cleared (headed t n m w p 0) (p .uninitialized) n)
+  pub scope-done : length t ≡ tableLength → openingRefusal asks ≡ none → OpenedScope t r n m w p Done (cleared (headed t n m w p 0) (p .uninitialized) n)
   scope-done long q =
-      let o : opens asks ≡ true = done-opens (openingRefusal asks) q in
-      record { answer = q; content = rw o; view = λ _. scope-opened t n m w p 0 long (opened-few asks o) (opened-fits asks o) r (length r / 3) }
+      let o : opens asks ≡ true = ap accepted q in
+      record { answer = sym (ap verdict q); content = rw o; view = λ _. scope-opened t n m w p 0 long (opened-few asks o) (opened-fits asks o) r (length r / 3) }
 
-  pub scope-refused : (x : Refusal) → Refused x ≡ verdict (openingRefusal asks) → OpenedScope t r n m w p (Refused x) t
+  pub scope-refused : (x : Refusal) → openingRefusal asks ≡ some x → OpenedScope t r n m w p (Refused x) t
   scope-refused x q =
-      let o : opens asks ≡ false = refused-shuts (openingRefusal asks) x q in
-      record { answer = q; content = rw o; view = λ z. absurd (false≢true (sym o ∙ z)) }
-
-  pub scope-conflict : (k : Conflict) → outcome.Conflict k ≡ verdict (openingRefusal asks) → OpenedScope t r n m w p (outcome.Conflict k) t
-  scope-conflict k q = absurd (conflict-never (openingRefusal asks) k q)
+      let o : opens asks ≡ false = ap accepted q in
+      record { answer = sym (ap verdict q); content = rw o; view = λ z. absurd (false≢true (sym o ∙ z)) }
 
 module _ (t s e : List ℕ) (n m w : ℕ) (p : UsageFlags) (mask : ℕ) where
   abbrev asks-both : Opening
   asks-both = asked n m w p mask (min (length s / 3) (length e / 3))
 
-  pub tracker-done : length t ≡ tableLength → Done ≡ verdict (openingRefusal asks-both) → OpenedTracker t s e n m w p mask Done (cleared (headed t n m w p mask) (p .uninitialized) n)
+  pub tracker-done : length t ≡ tableLength → openingRefusal asks-both ≡ none → OpenedTracker t s e n m w p mask Done (cleared (headed t n m w p mask) (p .uninitialized) n)
   tracker-done long q =
-      let o : opens asks-both ≡ true = done-opens (openingRefusal asks-both) q in
-      record { answer = q; content = rw o; view = λ _. tracker-opened t n m w p mask long (opened-few asks-both o) (opened-fits asks-both o) s e (min (length s / 3) (length e / 3)) }
+      let o : opens asks-both ≡ true = ap accepted q in
+      record { answer = sym (ap verdict q); content = rw o; view = λ _. tracker-opened t n m w p mask long (opened-few asks-both o) (opened-fits asks-both o) s e (min (length s / 3) (length e / 3)) }
 
-  pub tracker-refused : (x : Refusal) → Refused x ≡ verdict (openingRefusal asks-both) → OpenedTracker t s e n m w p mask (Refused x) t
+  pub tracker-refused : (x : Refusal) → openingRefusal asks-both ≡ some x → OpenedTracker t s e n m w p mask (Refused x) t
   tracker-refused x q =
-      let o : opens asks-both ≡ false = refused-shuts (openingRefusal asks-both) x q in
-      record { answer = q; content = rw o; view = λ z. absurd (false≢true (sym o ∙ z)) }
-
-  pub tracker-conflict : (k : Conflict) → outcome.Conflict k ≡ verdict (openingRefusal asks-both) → OpenedTracker t s e n m w p mask (outcome.Conflict k) t
-  tracker-conflict k q = absurd (conflict-never (openingRefusal asks-both) k q)
+      let o : opens asks-both ≡ false = ap accepted q in
+      record { answer = sym (ap verdict q); content = rw o; view = λ z. absurd (false≢true (sym o ∙ z)) }
 
 -- the mask is not looked at
 pub any-mask : (n m w : ℕ) (p : UsageFlags) (mask room : ℕ) → openingRefusal (asked n m w p 0 room) ≡ openingRefusal (asked n m w p mask room)

@@ -9,6 +9,7 @@
 use model::Outcome;
 use model::Refusal;
 use model::UsageFlags;
+use model::Verdict;
 use set_storage::COMPLEX;
 use set_storage::END;
 use set_storage::EXCLUSIVE;
@@ -29,25 +30,23 @@ use set_wellformed::numbers_fit;
 use usage::flags_fit;
 ghost use mathlib.Core.Path.{_≡_};
 ghost use Prim.Native.Nat.{_≤_, _/_, min};
-ghost use lib.ListN.{length};
-ghost use Rattle.model.specs.Log.{verdict};
-ghost use Rattle.model.specs.Refusals.{openingRefusal};
+ghost use Rattle.model.specs.Refusals.{openingRefusal, refusedFor};
 ghost use Rattle.call_open.specs.Open.{OpenedScope, OpenedTracker, asked, cleared, headed};
 
 // The checks 1, 2 and 3, for room of so many ranges.
-pub fn check(n: u32, m: u32, w: u32, p: UsageFlags, room: usize) -> Outcome
-    ensures { λ x. ⌜ x ≡ verdict (openingRefusal (asked n m w p 0 room)) ⌝ }
+pub fn check(n: u32, m: u32, w: u32, p: UsageFlags, room: usize) -> Verdict
+    ensures { λ x. ⌜ openingRefusal (asked n m w p 0 room) ≡ refusedFor x ⌝ }
 {
     if !numbers_fit(n, m, w) {
-        return Outcome::Refused(Refusal::NumbersOutOfLimits);
+        return Verdict::Refused(Refusal::NumbersOutOfLimits);
     }
     if !flags_fit(p) {
-        return Outcome::Refused(Refusal::FlagsBreakRule);
+        return Verdict::Refused(Refusal::FlagsBreakRule);
     }
     if room < wide(n) * wide(m) * wide(w) {
-        return Outcome::Refused(Refusal::ShortRoom);
+        return Verdict::Refused(Refusal::ShortRoom);
     }
-    Outcome::Done
+    Verdict::Accepted
 }
 
 // The numbers, the flags and the mask.
@@ -93,13 +92,12 @@ pub fn open_scope(
 {
     table_len(table);
     match check(n, m, w, p, ranges.len() / 3) {
-        Outcome::Done => {
+        Verdict::Accepted => {
             write_head(table, n, m, w, p, 0);
             clear(table, wide(n), p.uninitialized);
             Outcome::Done
         }
-        Outcome::Refused(r) => Outcome::Refused(r),
-        Outcome::Conflict(k) => Outcome::Conflict(k),
+        Verdict::Refused(r) => Outcome::Refused(r),
     }
 }
 
@@ -119,13 +117,12 @@ pub fn open_tracker(
     table_len(table);
     let room = smaller(starts.len() / 3, ends.len() / 3);
     match check(n, m, w, p, room) {
-        Outcome::Done => {
+        Verdict::Accepted => {
             write_head(table, n, m, w, p, mask as u32);
             clear(table, wide(n), p.uninitialized);
             Outcome::Done
         }
-        Outcome::Refused(r) => Outcome::Refused(r),
-        Outcome::Conflict(k) => Outcome::Conflict(k),
+        Verdict::Refused(r) => Outcome::Refused(r),
     }
 }
 

@@ -16,7 +16,7 @@ use Rattle.model.specs.Base.{if_then_else_}
 use Rattle.model.specs.Texture.{Entry}
 use Rattle.texture_barrier.specs.Logged.{entriesAt, Room, Logged}
 use Rattle.agreement.specs.LogBound.{listed}
-use Rattle.call_join.specs.Adds.{RoomFor, Adds, adds-none, adds-one, adds-then, upTo, up-next, up-long}
+use Rattle.log_head.specs.Adds.{RoomFor, Adds, adds-none, adds-one, adds-then, upTo, up-next, up-long}
 use Rattle.call_remove.specs.Logs.{mostEntries, onceEntries, listedEntries}
 
 -- ---- Which indices were listed so far: 1 at each

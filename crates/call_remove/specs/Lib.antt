@@ -4,6 +4,4 @@ pub mod Once
 pub mod Sparse
 pub mod Logs
 pub mod Fewer
-pub mod Left
 pub mod Taken
-pub mod Changed

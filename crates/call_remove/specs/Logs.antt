@@ -13,18 +13,20 @@ use Rattle.model.specs.Sets.{Slot, emptySlot}
 use Rattle.model.specs.Calls.{noEnds, logSlot, sparseAll}
 use Rattle.model.specs.Log.{pending, pendingOf}
 use Rattle.model.specs.Texture.{Held, Entry, ranged}
-use Rattle.set_storage.specs.Storage.{numbersOf, flagsOf, extentOf, ownedOf, startHalf, endHalf, heldOf, slotWith, scopeOf, trackerOf, maskAt, texturesAt}
+use Rattle.set_storage.specs.Storage.{numbersOf, flagsOf, extentOf, ownedOf, startHalf, heldOf, slotWith, scopeOf, trackerOf, maskAt, texturesAt}
 use Rattle.set_storage.specs.Lists.{list-at}
 use Rattle.texture_barrier.specs.Logged.{entriesAt}
 use Rattle.agreement.specs.LogBound.{listed}
 use Rattle.set_checks.specs.Passed.{SparsePassed}
 use Rattle.set_ready.specs.Tested.{half-fits, ScopeTested, TrackerTested}
-use Rattle.call_set.specs.Slot.{slotOf, slot-pending}
-use Rattle.call_join.specs.Given.{givenAt}
-use Rattle.call_join.specs.Slot.{LogsAt, endEntries, givenEntries}
-use Rattle.call_join.specs.Adds.{upTo}
+use Rattle.set_ready.specs.Half.{tracker-texture}
+use Rattle.texture_track.specs.Slot.{slotOf, slot-pending}
+use Rattle.texture_track.specs.Given.{givenAt}
+use Rattle.texture_track.specs.GivenSlot.{LogsAt, endEntries, givenEntries}
+use Rattle.log_head.specs.Adds.{upTo}
 use Rattle.call_remove.specs.Once.{onceAt, once-up, once-each, up-ext}
-use Rattle.call_remove.specs.Sparse.{Both, into, given, takenLog, sparse-log}
+use Rattle.call_remove.specs.Removed.{setsOf}
+use Rattle.call_remove.specs.Sparse.{into, given, takenLog, sparse-log}
 
 -- what is asked of the loop: every listed index is ready
 pub record LogsListed (t e g r is : List ℕ) : Type 0 where
@@ -51,10 +53,6 @@ abbrev pub removedEntries : List ℕ → List ℕ → List ℕ → List ℕ → 
 removedEntries t e g r is = entriesTo (flagsOf t) (getD t maskAt 0) t e g r is (length is)
 
 -- ---- The slots of an index, as the model reads them
--- the sets that were lent
-abbrev pub setsOf : List ℕ → List ℕ → List ℕ → List ℕ → List ℕ → Both
-setsOf t s e g r = (trackerOf t s e, scopeOf g r)
-
 -- the scope's, within its N
 pub given-is : (t s e g r : List ℕ) (i : ℕ) → i < getD g texturesAt 0 → given (setsOf t s e g r) i ≡ slotWith (heldOf (numbersOf g) startHalf g r) g i
 unfolding scopeOf
@@ -74,9 +72,7 @@ module _ {t s e g r is : List ℕ} (tested : TrackerTested t s e) (scope : Scope
         let i = getD is k 0 in let b = passed .below k h in
         record {
           index = omega (arith, scope .measured .textures);
-          ready = λ o.
-              let x = passed .each k h o in let f = tested .slots i (x .texture) in
-              record { ends = tested .ends; texture = x; held = λ z. half-fits endHalf t e i (f .extent z .mips) (f .held z .end) };
+          ready = λ o. tracker-texture tested (passed .each k h o) .end;
           given = λ o.
               let f = scope .slots i b in
               record { measured = scope .measured; texture = b; flags = passed .flags; extent = refl; fits = f .extent o; held = half-fits startHalf g r i (f .extent o .mips) (f .held o) };

@@ -1,7 +1,6 @@
 -- Lists of indices, each of which counts once: whether one was listed before, and what a list makes.
 use Prim.Native.Nat.{ℕ, zero, suc, _+_, _≤_, _<_}
 use native.Mathlib.Omega.{arith}
-use native.Mathlib.Numerals.{add-one}
 use mathlib.Core.Path.{_≡_, refl, sym, ap, _∙_}
 use mathlib.Core.Logic.{_⊎_, inl, inr}
 use mathlib.Core.Bool.{Bool, true, false, false≢true}
@@ -9,10 +8,11 @@ use mathlib.Core.List.{List, [], _∷_, _++_, append-assoc, append-nil}
 use lib.Dec.{eqb}
 use lib.ListN.{length, getD, take, drop}
 use lib.Seq.{take-suc, drop-cons, drop-length}
-use borrow.Author.Tests.{eq-eqb, ne-eqb, eqb-true, eqb-false}
+use borrow.Author.Tests.{eq-eqb, eqb-true, eqb-false}
 use Rattle.model.specs.Base.{if_then_else_, each}
+use Rattle.model.specs.ListLaws.{each-append}
 use Rattle.agreement.specs.LogBound.{listed}
-use Rattle.call_join.specs.Adds.{upTo}
+use Rattle.log_head.specs.Adds.{upTo}
 
 -- ---- Whether an index is listed
 -- one more index at the end
@@ -44,12 +44,7 @@ is-listed is i j e = go (listed j is) (sym (listed-last is i j) ∙ e)
     go true z = inl refl
     go false z = inr (sym (eqb-true i j z))
 
--- ---- A scan of the first k
--- the next is another
-pub scan-next : (is : List ℕ) (i k : ℕ) → k < length is → listed i (take k is) ≡ false → (getD is k 0 ≡ i → ⊥) → listed i (take (k + 1) is) ≡ false
-scan-next is i k h e ne = rw (add-one, take-suc is k 0 h, listed-last (take k is) (getD is k 0) i, e, ne-eqb (getD is k 0) i ne)
-
--- it stands among them
+-- ---- Of the first k: it stands among them
 pub scan-found : (is : List ℕ) (i j k : ℕ) → j < k → k ≤ length is → getD is j 0 ≡ i → listed i (take k is) ≡ true
 scan-found [] i j k a b e = absurd (omega arith)
 scan-found (x ∷ is) i j zero a b e = absurd (omega arith)
@@ -95,11 +90,6 @@ pub up-ext : {A : Type 0} (f g : ℕ → List A) (n : ℕ) → ((k : ℕ) → k 
 unfolding upTo
 up-ext f g zero e = refl
 up-ext f g (suc n) e = rw (up-ext f g n (λ k h. e k (omega arith)), e n (omega arith))
-
--- what r makes of one list after another
-each-append : {A B : Type 0} (r : A → List B) (s t : List A) → each r (s ++ t) ≡ each r s ++ each r t
-each-append r [] t = refl
-each-append r (x ∷ s) t = rw (each-append r s t) (sym (append-assoc (r x) (each r s) (each r t)))
 
 -- what r makes of all that
 pub once-each : {A B : Type 0} (r : A → List B) (f : ℕ → List A) (seen is : List ℕ) → each r (eachOnce f seen is) ≡ eachOnce (λ (i : ℕ). each r (f i)) seen is

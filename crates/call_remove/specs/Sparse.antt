@@ -10,16 +10,13 @@ use lib.Seq.{getD-set-other}
 use Rattle.model.specs.declared.InvalidUse.{InvalidUse}
 use Rattle.model.specs.Base.{if_then_else_}
 use Rattle.model.specs.Representation.{Ends}
-use Rattle.model.specs.Sets.{Slot, Set, Tracker, emptySlot, slotAt}
+use Rattle.model.specs.Sets.{Slot, emptySlot, slotAt}
 use Rattle.model.specs.Calls.{Indexed, CallResult, logSlot, noEnds, sparseOne, sparseAll}
 use Rattle.model.specs.Texture.{Held, Entry, fromHeld, ranged}
-use Rattle.agreement.specs.BoolLaws.{by-test, by-test₂}
+use Rattle.model.specs.BoolLaws.{by-test, by-test₂}
 use Rattle.agreement.specs.LogBound.{listed}
+use Rattle.call_remove.specs.Removed.{Both}
 use Rattle.call_remove.specs.Once.{not-listed, is-listed, eachOnce}
-
--- the sets of the call, and what it gives
-abbrev pub Both : Type 0
-Both = Tracker Held × Set Held
 
 -- what the call gives
 abbrev BothResult : Type 0

@@ -16,22 +16,23 @@ use Rattle.model.specs.Representation.{Ends}
 use Rattle.model.specs.Sets.{Numbers, Slot}
 use Rattle.model.specs.Calls.{CallResult, setSlot, sparseOne, sparseAll}
 use Rattle.model.specs.Texture.{Held, Entry, ranged}
+use Rattle.model.specs.BoolLaws.{by-test}
 use Rattle.set_storage.specs.Stays.{only, onlyOwned, both-refl, both-then, both-more, TrackerFrame}
 use Rattle.set_storage.specs.Frames.{Measured}
-use Rattle.set_storage.specs.Slots.{tracker-head, tracker-other}
+use Rattle.set_storage.specs.Slots.{tracker-other}
 use Rattle.set_storage.specs.Storage.{numbersOf, flagsOf, extentOf, ownedOf, ownedAt, startHalf, endsOf, slotWith, scopeOf, trackerOf, tableLength, texturesAt}
-use Rattle.agreement.specs.BoolLaws.{by-test}
 use Rattle.set_checks.specs.Passed.{SparsePassed}
 use Rattle.set_ready.specs.Named.{within}
 use Rattle.set_ready.specs.Tested.{half-fits, ScopeTested, TrackerTested}
-use Rattle.call_set.specs.Slot.{slotOf, SlotReady, SlotSet, slot-only, slot-view}
-use Rattle.call_join.specs.Given.{givenAt, HalfGiven}
-use Rattle.call_join.specs.Slot.{SetsAt, slotAfter}
+use Rattle.texture_track.specs.Slot.{slotOf, SlotSet, slot-only, slot-view}
+use Rattle.texture_track.specs.Given.{givenAt, HalfGiven}
+use Rattle.texture_track.specs.GivenSlot.{SetsAt, slotAfter}
 use Rattle.call_remove.specs.Gone.{Listed, disowned, set-zero}
-use Rattle.call_remove.specs.Sparse.{Both, given}
-use Rattle.call_remove.specs.Logs.{setsOf, given-is, into-is}
+use Rattle.call_remove.specs.Removed.{Both, setsOf}
+use Rattle.call_remove.specs.Sparse.{given}
+use Rattle.call_remove.specs.Logs.{given-is, into-is}
 use Rattle.call_remove.specs.Fewer.{off, off-not, off-view, Fewer, flags-same, extent-same, still-tested}
-use Rattle.call_remove.specs.Left.{numbers-kept, flags-kept, Left, left-ready}
+use Rattle.set_ready.specs.Half.{HeadStays, BothReady, tracker-keeps, numbers-stay, flags-stay, measured-stays, tracker-still}
 
 -- THE CONTRACT of one texture: nothing where the scope does not own it, otherwise the tracker takes it and the scope has it no more
 pub record TakenAt (t s e g r : List ℕ) (i : ℕ) (p : UsageFlags) (t′ s′ e′ g′ : List ℕ) : Type 0 where
@@ -40,7 +41,7 @@ pub record TakenAt (t s e g r : List ℕ) (i : ℕ) (p : UsageFlags) (t′ s′ 
   pub frame : TrackerFrame (onlyOwned g i) (numbersOf t) t s e t′ s′ e′
 
 -- the test and the checks passed
-pub record Removes (t s e g r is : List ℕ) : Type 0 where
+pub record Listing (t s e g r is : List ℕ) : Type 0 where
   pub tracker : TrackerTested t s e
   pub scope : ScopeTested g r
   pub passed : SparsePassed t g is
@@ -107,9 +108,9 @@ taking-start t s e g r is = record {
   frame = both-refl t s e;
 }
 
-module _ {t s e g r is : List ℕ} (w : Removes t s e g r is) {k : ℕ} {t₁ s₁ e₁ g₁ : List ℕ} (q : Taking t s e g r is k t₁ s₁ e₁ g₁) (h : k < length is) where
-  head : (x : ℕ) → x < 8 → getD t₁ x 0 ≡ getD t x 0
-  head = tracker-head (q .frame)
+module _ {t s e g r is : List ℕ} (w : Listing t s e g r is) {k : ℕ} {t₁ s₁ e₁ g₁ : List ℕ} (q : Taking t s e g r is k t₁ s₁ e₁ g₁) (h : k < length is) where
+  keeps : HeadStays t t₁
+  keeps = tracker-keeps (q .frame)
 
   -- the scope passes the test still
   taking-scope : ScopeTested g₁ r
@@ -121,10 +122,7 @@ module _ {t s e g r is : List ℕ} (w : Removes t s e g r is) {k : ℕ} {t₁ s�
 
   -- so can the tracker's storage be indexed
   taking-measured : Measured (numbersOf t₁) startHalf t₁ s₁
-  taking-measured =
-      let m = w .tracker .starts in
-      subst (λ (n : Numbers). Measured n startHalf t₁ s₁) (sym (numbers-kept t t₁ head))
-      (record { dims = numbers-kept t t₁ head; textures = m .textures; mips = m .mips; some = m .some; layers = m .layers; fits = rw (q .frame .starts .long) (m .fits); half = m .half; table = q .frame .words .long ∙ m .table })
+  taking-measured = measured-stays keeps (q .frame .starts .long) (w .tracker .starts)
 
   -- the index at k is ready
   pub taking-ready : {p : UsageFlags} → p ≡ flagsOf t → SetsAt t₁ s₁ e₁ (getD is k 0) startHalf startHalf g₁ r r p
@@ -133,7 +131,7 @@ module _ {t s e g r is : List ℕ} (w : Removes t s e g r is) {k : ℕ} {t₁ s�
       let half : ownedOf g₁ i ≡ true → HalfGiven t₁ i (extentOf g₁ i) startHalf g₁ r = λ o. record {
         measured = sc .measured;
         texture = b;
-        flags = flags-same (q .scope) ∙ w .passed .flags ∙ sym (flags-kept t t₁ head);
+        flags = flags-same (q .scope) ∙ w .passed .flags ∙ sym (flags-stay keeps);
         extent = refl;
         fits = sc .slots i b .extent o;
         held = half-fits startHalf g₁ r i (sc .slots i b .extent o .mips) (sc .slots i b .held o);
@@ -142,9 +140,9 @@ module _ {t s e g r is : List ℕ} (w : Removes t s e g r is) {k : ℕ} {t₁ s�
         index = omega (arith, sc .measured .textures);
         ready = λ o.
             let x = w .passed .each k h (q .scope .less i o) in
-            let l : Left t s e i t₁ s₁ e₁ = record { head = head; slot = q .left i (x .texture) o; start-long = q .frame .starts .long; end-long = q .frame .ends .long; table = q .frame .words .long } in
-            subst (SlotReady t₁ s₁ e₁ i) (sym (extent-same (q .scope) i)) (left-ready l (w .tracker) x);
-        given = λ o. record { flags = f ∙ sym (flags-kept t t₁ head); start = half o; end = half o };
+            subst (BothReady t₁ s₁ e₁ i) (sym (extent-same (q .scope) i))
+            (tracker-still (w .tracker) x (q .frame) (q .left i (x .texture) o));
+        given = λ o. record { flags = f ∙ sym (flags-stay keeps); start = half o; end = half o };
       }
 
   -- what is left of the list after it
@@ -152,13 +150,13 @@ module _ {t s e g r is : List ℕ} (w : Removes t s e g r is) {k : ℕ} {t₁ s�
   after-turn {t₂} {s₂} {e₂} {g₂} f z =
       let i = getD is k 0 in let m = taking-scope .measured in
       let rest : drop k is ≡ i ∷ drop (k + 1) is = rw add-one (drop-cons is k 0 h) in
-      let view = one-view z taking-below (omega (arith, taking-below, m .textures)) (m .table) (f ∙ sym (flags-kept t t₁ head)) taking-measured (λ o. rw (head 0 (omega arith)) (w .passed .each k h (q .scope .less i o) .texture)) in
+      let view = one-view z taking-below (omega (arith, taking-below, m .textures)) (m .table) (f ∙ sym (flags-stay keeps)) taking-measured (λ o. rw (keeps .words 0 (omega arith)) (w .passed .each k h (q .scope .less i o) .texture)) in
       ap (λ (y : Both). sparseAll ranged (drop (k + 1) is) y .after) view ∙ sym (ap (λ (l : List ℕ). setsAfter t₁ s₁ e₁ g₁ r l) rest) ∙ q .after
 
   -- what it changed is of an index that is listed and owned
   frame-turn : {t₂ s₂ e₂ g₂ : List ℕ} {p : UsageFlags} → TakenAt t₁ s₁ e₁ g₁ r (getD is k 0) p t₂ s₂ e₂ g₂ → TrackerFrame (within t (Listed is g)) (numbersOf t) t s e t₂ s₂ e₂
   frame-turn {t₂} {s₂} {e₂} z =
-      both-then (q .frame) (subst (λ (n : Numbers). TrackerFrame (within t (Listed is g)) n t₁ s₁ e₁ t₂ s₂ e₂) (numbers-kept t t₁ head)
+      both-then (q .frame) (subst (λ (n : Numbers). TrackerFrame (within t (Listed is g)) n t₁ s₁ e₁ t₂ s₂ e₂) (numbers-stay keeps)
       (both-more (λ j n. let o = q .scope .less j (n .1) in (subst (λ (y : ℕ). y < getD t texturesAt 0) (sym (n .0)) (w .passed .each k h (subst (λ (y : ℕ). ownedOf g y ≡ true) (n .0) o) .texture), record { at = k; below = h; here = sym (n .0); owned = o })) (λ j x o. o) (z .frame)))
 
   -- what is left of the list makes of the scope's table what all of it makes at entry
@@ -208,7 +206,7 @@ module _ {t s e g r is : List ℕ} (w : Removes t s e g r is) {k : ℕ} {t₁ s�
 
       other : (j : ℕ) → j < getD t texturesAt 0 → (j ≡ getD is k 0 → ⊥) → slotWith (endsOf (numbersOf t) t₂ s₂ e₂) t₂ j ≡ slotWith (endsOf (numbersOf t) t₁ s₁ e₁) t₁ j
       other j b ne =
-          subst (λ (n : Numbers). slotWith (endsOf n t₂ s₂ e₂) t₂ j ≡ slotWith (endsOf n t₁ s₁ e₁) t₁ j) (numbers-kept t t₁ head) (tracker-other (taking-measured .textures) (taking-measured .mips) (z .frame) j (rw (head 0 (omega arith)) b) ne)
+          subst (λ (n : Numbers). slotWith (endsOf n t₂ s₂ e₂) t₂ j ≡ slotWith (endsOf n t₁ s₁ e₁) t₁ j) (numbers-stay keeps) (tracker-other (taking-measured .textures) (taking-measured .mips) (z .frame) j (rw (keeps .words 0 (omega arith)) b) ne)
 
   -- one more is taken
   pub taking-turn : {t₂ s₂ e₂ g₂ : List ℕ} {p : UsageFlags} → p ≡ flagsOf t → TakenAt t₁ s₁ e₁ g₁ r (getD is k 0) p t₂ s₂ e₂ g₂ → Taking t s e g r is (k + 1) t₂ s₂ e₂ g₂

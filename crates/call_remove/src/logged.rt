@@ -1,23 +1,23 @@
 // The transitions of the listed textures that a scope owns.
-use call_join::slot::both_single;
-use call_join::slot::log_owned_at;
-use call_join::slot::log_single;
 use model::UsageFlags;
 use set_storage::OWNED;
 use set_storage::START;
 use set_storage::Table;
 use set_storage::wide;
+use texture_track::given::both_single;
+use texture_track::given::log_owned_at;
+use texture_track::given::log_single;
 ghost use Prim.Native.Nat.{_+_, _≤_};
 ghost use lib.ListN.{length};
 ghost use Rattle.texture_barrier.specs.Steps.{logTop};
 ghost use Rattle.texture_barrier.specs.Logged.{Room, Logged};
-ghost use Rattle.call_join.specs.Adds.{RoomFor, Adds};
+ghost use Rattle.log_head.specs.Adds.{RoomFor, Adds};
 ghost use Rattle.call_remove.specs.Logs.{LogsListed, mostEntries, onceEntries, entriesTo};
 ghost use Rattle.set_storage.specs.Storage.{startHalf};
-ghost use Rattle.call_join.specs.Slot.{LogsAt};
+ghost use Rattle.texture_track.specs.GivenSlot.{LogsAt};
 
 // Those of index i, counted, or written after the first `at` entries of the log: none if the scope does not own it, or if it was listed
-// before. As `call_join`'s `log_at`, with no call where both are Single.
+// before. As `texture_track`'s `log_at`, with no call where both are Single.
 pub fn log_listed_at(
     table: &Table,
     ends: &[u32],
@@ -34,7 +34,8 @@ pub fn log_listed_at(
     requires { ⌜ LogsAt (now table) (now ends) i startHalf (now given) (now lent) ⌝ }
     requires { ⌜ at ≤ logTop ⌝ }
     requires { ⌜ Room write (now log) at (onceEntries again p mask (now table) (now ends) (now given) (now lent) i) ⌝ }
-    ensures { λ x. ⌜ Logged 1048576 i write (now (log .entry)) at (onceEntries again p mask (now (table .entry)) (now (ends .entry)) (now (given .entry)) (now (lent .entry)) i) x (now (log .exit)) ⌝ }
+    ensures { λ x. let t = now (table .entry) in let e = now (ends .entry) in let g = now (given .entry) in let r = now (lent .entry) in
+        ⌜ Logged 1048576 i write (now (log .entry)) at (onceEntries again p mask t e g r i) x (now (log .exit)) ⌝ }
 {
     if again {
         return 0;
@@ -67,8 +68,12 @@ pub fn log_listed(
     requires { ⌜ LogsListed (now table) (now ends) (now given) (now lent) (now indices) ⌝ }
     requires { ⌜ length (entriesTo p mask (now table) (now ends) (now given) (now lent) (now indices) (length (now indices))) ≤ mostEntries ⌝ }
     requires { ⌜ at + mostEntries ≤ logTop ⌝ }
-    requires { ⌜ RoomFor write (now log) at (entriesTo p mask (now table) (now ends) (now given) (now lent) (now indices) (length (now indices))) ⌝ }
-    ensures { λ x. ⌜ Adds mostEntries write (now (log .entry)) at (entriesTo p mask (now (table .entry)) (now (ends .entry)) (now (given .entry)) (now (lent .entry)) (now (indices .entry)) (length (now (indices .entry)))) x (now (log .exit)) ⌝ }
+    requires { ⌜ RoomFor write (now log) at (entriesTo p mask (now table) (now ends) (now given) (now lent) (now indices) (length (now indices)))
+        ⌝ }
+    ensures { λ x.
+        let t = now (table .entry) in let e = now (ends .entry) in let g = now (given .entry) in let is = now (indices .entry) in
+        let r = now (lent .entry) in
+        ⌜ Adds mostEntries write (now (log .entry)) at (entriesTo p mask t e g r is (length is)) x (now (log .exit)) ⌝ }
 {
     let mut seen = [0u8; 64];
     let mut x = 0;

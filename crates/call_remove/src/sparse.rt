@@ -1,65 +1,35 @@
 // `TextureTracker::set_and_remove_from_usage_scope_sparse`: the listed textures of a scope.
 use crate::logged::log_listed;
 use crate::taken::set_listed;
-use call_set::Answered;
-use call_set::head::head_fits;
-use call_set::head::lent_entries;
-use call_set::head::moved_on;
-use call_set::head::refused;
-use call_set::head::subresources;
+use log_head::head_fits;
+use log_head::lent_entries;
+use log_head::moved_on;
+use log_head::refused;
+use log_head::subresources;
+use model::Answered;
 use model::LogHead;
-use model::Outcome;
 use model::Refusal;
-use model::UsageFlags;
+use model::Verdict;
 use set_checks::check_sparse;
 use set_storage::MASK;
 use set_storage::Table;
 use set_storage::flags_of;
-use set_storage::table_len;
 use set_wellformed::scope_fits;
 use set_wellformed::tracker_fits;
 ghost use mathlib.Core.Path.{_≡_};
-ghost use mathlib.Core.Bool.{true, _&&_};
+ghost use mathlib.Core.Bool.{true};
 ghost use Prim.Native.Nat.{_/_, _≤_, _<_};
-ghost use lib.Dec.{leb};
-ghost use lib.ListN.{length, getD};
+ghost use lib.ListN.{length};
 ghost use Rattle.model.specs.Sets.{capacity};
-ghost use Rattle.model.specs.Calls.{setAndRemoveSparse};
-ghost use Rattle.model.specs.Texture.{ranged};
-ghost use Rattle.model.specs.WellFormed.{wellFormedScope, wellFormedTracker};
-ghost use Rattle.set_storage.specs.Storage.{numbersOf, scopeOf, trackerOf, layerLimitAt, mipLimitAt, texturesAt};
-ghost use Rattle.call_set.specs.Logging.{headFits};
-ghost use Rattle.call_remove.specs.Logs.{LogsListed, mostEntries, entriesTo, removedEntries};
-ghost use Rattle.call_remove.specs.Taken.{Removes, setsAfter};
-ghost use Rattle.call_remove.specs.Changed.{Changed};
-ghost use Rattle.call_remove.specs.Removed.{Removed};
+ghost use Rattle.set_storage.specs.Storage.{numbersOf};
+ghost use Rattle.set_storage.specs.Lent.{LentScope, LentTracker};
+ghost use Rattle.log_head.specs.Log.{headWithin};
+ghost use Rattle.call_remove.specs.Logs.{mostEntries, removedEntries};
+ghost use Rattle.call_remove.specs.Taken.{Listing, setsAfter};
+ghost use Rattle.call_remove.specs.Removed.{Removes, SetAndRemoveSparse};
 
-// 15: whether the entries of the list fit in what is free. Where there is a free entry for every subresource they do, and nothing is
-// counted.
-fn entries_fit(
-    table: &Table,
-    ends: &[u32],
-    p: UsageFlags,
-    mask: u32,
-    given: &Table,
-    lent: &[u32],
-    indices: &[u32],
-    log: &mut [u32],
-    free: usize,
-) -> bool
-    requires { ⌜ LogsListed (now table) (now ends) (now given) (now lent) (now indices) ⌝ }
-    requires { ⌜ (getD (now table) texturesAt 0 ≤ 64) × ((getD (now table) mipLimitAt 0 ≤ 16) × (getD (now table) layerLimitAt 0 ≤ 256)) ⌝ }
-    requires { ⌜ length (entriesTo p mask (now table) (now ends) (now given) (now lent) (now indices) (length (now indices))) ≤ capacity (numbersOf (now table)) ⌝ }
-    requires { ⌜ length (entriesTo p mask (now table) (now ends) (now given) (now lent) (now indices) (length (now indices))) ≤ mostEntries ⌝ }
-    ensures { λ x. ⌜ (x ≡ leb (length (entriesTo p mask (now (table .entry)) (now (ends .entry)) (now (given .entry)) (now (lent .entry)) (now (indices .entry)) (length (now (indices .entry))))) free) × (now (log .exit) ≡ now (log .entry)) ⌝ }
-{
-    if subresources(table) <= free {
-        return true;
-    }
-    log_listed(table, ends, p, mask, given, lent, indices, log, 0, false) <= free
-}
-
-// The listed textures, once the checks passed: their entries are written, if they fit, and the textures change.
+// The listed textures, once the checks passed: their entries are written, if they fit, and the textures change. Where there is a free entry
+// for every subresource they fit, and nothing is counted.
 pub fn remove_checked(
     table: &mut Table,
     starts: &mut [u32],
@@ -70,18 +40,24 @@ pub fn remove_checked(
     log: &mut [u32],
     head: LogHead,
 ) -> Answered
-    requires { ⌜ Removes (now table) (now starts) (now ends) (now given) (now lent) (now indices) ⌝ }
+    requires { ⌜ Listing (now table) (now starts) (now ends) (now given) (now lent) (now indices) ⌝ }
     requires { ⌜ length (removedEntries (now table) (now ends) (now given) (now lent) (now indices)) ≤ capacity (numbersOf (now table)) ⌝ }
     requires { ⌜ length (removedEntries (now table) (now ends) (now given) (now lent) (now indices)) ≤ mostEntries ⌝ }
-    requires { ⌜ headFits (length (now log) / 7) head ≡ true ⌝ }
+    requires { ⌜ headWithin (length (now log) / 7) head ≡ true ⌝ }
     requires { ⌜ length (now log) < 18446744073709551616 ⌝ }
-    ensures { λ x. ⌜ Changed (now (indices .entry)) (removedEntries (now (table .entry)) (now (ends .entry)) (now (given .entry)) (now (lent .entry)) (now (indices .entry))) (setsAfter (now (table .entry)) (now (starts .entry)) (now (ends .entry)) (now (given .entry)) (now (lent .entry)) (now (indices .entry))) head (now (table .entry)) (now (starts .entry)) (now (ends .entry)) (now (given .entry)) (now (lent .entry)) (now (log .entry)) x (now (table .exit)) (now (starts .exit)) (now (ends .exit)) (now (given .exit)) (now (log .exit)) ⌝ }
+    ensures { λ x. let t = now (table .entry) in let s = now (starts .entry) in let e = now (ends .entry) in
+        let g = now (given .entry) in let r = now (lent .entry) in let is = now (indices .entry) in
+        ⌜ Removes is (removedEntries t e g r is) (setsAfter t s e g r is) head t s e g r (now (log .entry))
+        x (now (table .exit)) (now (starts .exit)) (now (ends .exit)) (now (given .exit)) (now (log .exit)) ⌝ }
 {
     let p = flags_of(table);
     let mask = table[MASK];
     let free = head.free;
-    if !entries_fit(table, ends, p, mask, given, lent, indices, log, free) {
-        return refused(Refusal::NoFreeEntry, head);
+    if free < subresources(table) {
+        let n = log_listed(table, ends, p, mask, given, lent, indices, log, 0, false);
+        if free < n {
+            return refused(Refusal::NoFreeEntry, head);
+        }
     }
     let at = head.written;
     let n = log_listed(table, ends, p, mask, given, lent, indices, log, at, true);
@@ -100,10 +76,12 @@ pub fn set_and_remove_from_usage_scope_sparse(
     log: &mut [u32],
     head: LogHead,
 ) -> Answered
-    ensures { λ x. ⌜ Removed (now (indices .entry)) (wellFormedTracker (length (now (starts .entry)) / 3) (length (now (ends .entry)) / 3) (trackerOf (now (table .entry)) (now (starts .entry)) (now (ends .entry))) && wellFormedScope (length (now (lent .entry)) / 3) (scopeOf (now (given .entry)) (now (lent .entry)))) (setAndRemoveSparse ranged (trackerOf (now (table .entry)) (now (starts .entry)) (now (ends .entry))) (scopeOf (now (given .entry)) (now (lent .entry))) (now (indices .entry))) head (now (table .entry)) (now (starts .entry)) (now (ends .entry)) (now (given .entry)) (now (lent .entry)) (now (log .entry)) x (now (table .exit)) (now (starts .exit)) (now (ends .exit)) (now (given .exit)) (now (log .exit)) ⌝ }
+    ensures { λ x.
+        let t : LentTracker = record { table = now (table .entry); starts = now (starts .entry); ends = now (ends .entry) } in
+        let g : LentScope = record { table = now (given .entry); ranges = now (lent .entry) } in
+        let t′ : LentTracker = record { table = now (table .exit); starts = now (starts .exit); ends = now (ends .exit) } in
+        ⌜ SetAndRemoveSparse t g (now (indices .entry)) head (now (log .entry)) x t′ (now (given .exit)) (now (log .exit)) ⌝ }
 {
-    table_len(table);
-    table_len(given);
     if !tracker_fits(table, starts, ends) {
         return refused(Refusal::NotWellFormed, head);
     }
@@ -114,11 +92,7 @@ pub fn set_and_remove_from_usage_scope_sparse(
         return refused(Refusal::LogTooShort, head);
     }
     match check_sparse(table, given, indices) {
-        Outcome::Done => remove_checked(table, starts, ends, given, lent, indices, log, head),
-        Outcome::Refused(r) => refused(r, head),
-        Outcome::Conflict(k) => Answered {
-            outcome: Outcome::Conflict(k),
-            head,
-        },
+        Verdict::Accepted => remove_checked(table, starts, ends, given, lent, indices, log, head),
+        Verdict::Refused(r) => refused(r, head),
     }
 }

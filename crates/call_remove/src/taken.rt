@@ -1,6 +1,4 @@
 // The listed textures that a scope owns go into a tracker, and the scope no longer owns them.
-use call_join::slot::both_single;
-use call_join::slot::set_owned_at;
 use model::UsageFlags;
 use set_storage::END;
 use set_storage::OWNED;
@@ -8,16 +6,18 @@ use set_storage::START;
 use set_storage::Table;
 use set_storage::wide;
 use texture_merge::using::set_state;
+use texture_track::given::both_single;
+use texture_track::given::set_owned_at;
 ghost use mathlib.Core.Path.{_≡_};
 ghost use Rattle.set_storage.specs.Storage.{flagsOf, startHalf, ownedAt};
 ghost use Rattle.set_storage.specs.Stays.{onlyOwned};
 ghost use Prim.Native.Nat.{_+_};
 ghost use lib.ListN.{getD};
-ghost use Rattle.call_set.specs.Slot.{slotOf, SlotSet};
-ghost use Rattle.call_join.specs.Slot.{SetsAt, slotAfter};
-ghost use Rattle.call_remove.specs.Taken.{Removes, TakenAt, Takes};
+ghost use Rattle.texture_track.specs.Slot.{slotOf, SlotSet};
+ghost use Rattle.texture_track.specs.GivenSlot.{SetsAt, slotAfter};
+ghost use Rattle.call_remove.specs.Taken.{Listing, TakenAt, Takes};
 
-// What texture i, which the scope owns, becomes. As `call_join`'s `set_at`, with no call where both are Single.
+// What texture i, which the scope owns, becomes. As `texture_track`'s `set_at`, with no call where both are Single.
 fn set_taken(
     table: &mut Table,
     starts: &mut [u32],
@@ -29,7 +29,11 @@ fn set_taken(
 )
     requires { ⌜ SetsAt (now table) (now starts) (now ends) i startHalf startHalf (now given) (now lent) (now lent) p ⌝ }
     requires { ⌜ (getD (now given) (ownedAt i) 0 ≡ 0 → ⊥) ⌝ }
-    ensures { λ _. ⌜ SlotSet (onlyOwned (now (given .entry)) i) (now (table .entry)) (now (starts .entry)) (now (ends .entry)) i (slotAfter p startHalf startHalf (now (given .entry)) (now (lent .entry)) (now (lent .entry)) i (slotOf (now (table .entry)) (now (starts .entry)) (now (ends .entry)) i)) (now (table .exit)) (now (starts .exit)) (now (ends .exit)) ⌝ }
+    ensures { λ _.
+        let t = now (table .entry) in let s = now (starts .entry) in let e = now (ends .entry) in let g = now (given .entry) in
+        let r = now (lent .entry) in
+        ⌜ SlotSet (onlyOwned g i) t s e i (slotAfter p startHalf startHalf g r r i (slotOf t s e i)) (now (table .exit))
+        (now (starts .exit)) (now (ends .exit)) ⌝ }
 {
     if table[OWNED + i] == 0 {
         set_owned_at(table, starts, ends, i, given, lent, START, lent, START, p);
@@ -53,7 +57,10 @@ pub fn take_at(
     p: UsageFlags,
 )
     requires { ⌜ SetsAt (now table) (now starts) (now ends) i startHalf startHalf (now given) (now lent) (now lent) p ⌝ }
-    ensures { λ _. ⌜ TakenAt (now (table .entry)) (now (starts .entry)) (now (ends .entry)) (now (given .entry)) (now (lent .entry)) i p (now (table .exit)) (now (starts .exit)) (now (ends .exit)) (now (given .exit)) ⌝ }
+    ensures { λ _.
+        let t = now (table .entry) in let s = now (starts .entry) in let e = now (ends .entry) in let g = now (given .entry) in
+        let r = now (lent .entry) in
+        ⌜ TakenAt t s e g r i p (now (table .exit)) (now (starts .exit)) (now (ends .exit)) (now (given .exit)) ⌝ }
 {
     if given[OWNED + i] == 0 {
         return;
@@ -72,9 +79,12 @@ pub fn set_listed(
     indices: &[u32],
     p: UsageFlags,
 )
-    requires { ⌜ Removes (now table) (now starts) (now ends) (now given) (now lent) (now indices) ⌝ }
+    requires { ⌜ Listing (now table) (now starts) (now ends) (now given) (now lent) (now indices) ⌝ }
     requires { ⌜ p ≡ flagsOf (now table) ⌝ }
-    ensures { λ _. ⌜ Takes (now (table .entry)) (now (starts .entry)) (now (ends .entry)) (now (given .entry)) (now (lent .entry)) (now (indices .entry)) (now (table .exit)) (now (starts .exit)) (now (ends .exit)) (now (given .exit)) ⌝ }
+    ensures { λ _.
+        let t = now (table .entry) in let s = now (starts .entry) in let e = now (ends .entry) in let g = now (given .entry) in
+        let is = now (indices .entry) in let r = now (lent .entry) in
+        ⌜ Takes t s e g r is (now (table .exit)) (now (starts .exit)) (now (ends .exit)) (now (given .exit)) ⌝ }
 {
     let mut k = 0;
     while k < indices.len() {

@@ -1,13 +1,10 @@
--- `set_checked` and `set_single`: from what the code counted, wrote and changed to the contract.
+-- `set_checked` and `set_single`: from what the code found, wrote and changed to the contract.
 use Prim.Native.Nat.{ℕ, _+_, _*_, _/_, _≤_, _<_}
-use native.Mathlib.Omega.{arith}
 use mathlib.Core.Path.{_≡_, refl, sym, ap, subst, _∙_}
-use mathlib.Core.Bool.{Bool, true, false, false≢true}
-use mathlib.Core.List.{List, []}
+use mathlib.Core.Bool.{Bool, true}
+use mathlib.Core.List.{List}
 use mathlib.Core.Option.{Option, none, some}
-use lib.Dec.{leb}
 use lib.ListN.{length, getD, set, length-map}
-use borrow.Author.Tests.{le-leb}
 use Rattle.model.specs.declared.Extent.{Extent}
 use Rattle.model.specs.declared.InvalidUse.{InvalidUse}
 use Rattle.model.specs.declared.LogHead.{LogHead}
@@ -15,73 +12,55 @@ use Rattle.model.specs.declared.Selector.{Selector}
 use Rattle.model.specs.declared.Selection.the-variants.{Part}
 use Rattle.model.specs.declared.UsageFlags.{UsageFlags}
 use Rattle.model.specs.declared.Refusal.{Refusal}
-use Rattle.model.specs.declared.Refusal.the-variants.{NoFreeEntry}
-use Rattle.model.specs.declared.Outcome.the-variants as outcome
 use Rattle.model.specs.Representation.{Ends, isFull}
 use Rattle.model.specs.WellFormed.{trackerFits, wellFormedTracker}
-use Rattle.agreement.specs.BoolLaws.{and-left}
 use Rattle.agreement.specs.LogRoom.{entries-written}
 use Rattle.agreement.specs.EachCall.{set-single-room}
-use Rattle.model.specs.Sets.{capacity, Head, Slot, Tracker, slotAt, emptySlot, withTracker, headOf}
+use Rattle.model.specs.Sets.{capacity, Head, Slot, Tracker, slotAt, emptySlot, withTracker}
 use Rattle.model.specs.Refusals.{singleRefusal}
-use Rattle.model.specs.Calls.{CallResult, done, unless, turnedAway, setSlot, logSlot, setSingle, noEnds}
+use Rattle.model.specs.Calls.{CallResult, done, unless, setSlot, logSlot, setSingle, noEnds}
 use Rattle.model.specs.Calls as calls
 use Rattle.model.specs.Log.{pending}
 use Rattle.model.specs.Texture.{Held, Given, Entry, fromUse, ranged}
+use Rattle.model.specs.BoolLaws.{and-left}
 use Rattle.set_storage.specs.Lists.{list-at}
-use Rattle.set_storage.specs.Storage.{numbersOf, flagsOf, startHalf, endHalf, trackerOf, maskAt, texturesAt}
-use Rattle.set_storage.specs.Stays.{only, both-refl, both-more}
+use Rattle.set_storage.specs.Storage.{numbersOf, flagsOf, trackerOf, maskAt, texturesAt}
+use Rattle.set_storage.specs.Stays.{only, both-more}
 use Rattle.texture_merge.specs.Uses.{useOf}
-use Rattle.texture_barrier.specs.Logged.{entriesAt, Room, Logged, logged-added, logged-unchanged}
-use Rattle.texture_barrier.specs.Steps.{logTop}
-use Rattle.set_checks.specs.Head.{headIn, useRefusal, tracker-head, UseTold}
-use Rattle.set_checks.specs.Told.{use-done, use-refused}
+use Rattle.set_checks.specs.Head.{useRefusal, tracker-head, UseTold}
+use Rattle.model.specs.declared.Verdict.the-variants as verdict
 use Rattle.set_checks.specs.Passed.{use-passed, texture-passed, selector-passed, state-passed}
-use Rattle.set_ready.specs.Tested.{TrackerTested, half-fits}
+use Rattle.set_ready.specs.Tested.{TrackerTested}
+use Rattle.set_ready.specs.Half.{BothReady, tracker-texture}
 use Rattle.set_ready.specs.Selectors.{full-is}
-use Rattle.call_set.specs.declared.Answered.{Answered}
-use Rattle.call_set.specs.Tracked.{Tracked}
-use Rattle.call_set.specs.Slot.{slotOf, slotEntries, SlotReady, SlotSet, slot-view, slot-pending}
+use Rattle.model.specs.declared.Answered.{Answered}
+use Rattle.texture_track.specs.Tracked.{Same, Tracked, Changes, away-own, changes-tracked}
+use Rattle.texture_track.specs.Slot.{slotOf, slotEntries, SlotSet, slot-view, slot-pending}
 use Rattle.set_ready.specs.Merges.{TakenUse}
-use Rattle.call_set.specs.Single.{usedEntries, usedTracker}
-use Rattle.call_set.specs.Logging.{headFits, refusedWith, movedOn, head-le}
-use Rattle.call_set.specs.Changed.{Changed, away-own, changed-tracked}
+use Rattle.call_set.specs.Used.{usedEntries, usedTracker}
+use Rattle.log_head.specs.Log.{headWithin, refusedWith}
+use Rattle.log_head.specs.Called.{Changed, room-for}
 
--- ---- The log
-as-entries : (i : ℕ) (es : List Entry) → length (entriesAt i es) ≡ length es
-as-entries i es = length-map es _
-
--- a free entry for every subresource is enough
-pub all-fit : (n top free k : ℕ) → n ≤ top → k ≡ top → k ≤ free → true ≡ leb n free
-all-fit n top free k a e b = sym (le-leb n free (omega arith))
-
-module _ (t s e l : List ℕ) (i : ℕ) (sh : Extent) (g : Given) (h : LogHead) where
+-- ---- `set_checked`
+module _ (t s e : List ℕ) (i : ℕ) (sh : Extent) (g : Given) where
   abbrev es : List Entry
   es = slotEntries (flagsOf t) (getD t maskAt 0) sh g (slotOf t s e i)
 
   -- as the log's entries they are as many
-  pub used-few : length (usedEntries t s e i sh g) ≤ capacity (numbersOf t) → length es ≤ capacity (numbersOf t)
-  used-few k = omega (arith, as-entries i es)
+  as-many : length (usedEntries t s e i sh g) ≡ length es
+  as-many = length-map es _
 
   -- what fits in what is free fits where it is written
-  pub room-for : headFits (length l / 7) h ≡ true → length es ≤ h .free → 7 * (h .written + length es) ≤ length l
-  room-for f k = omega (arith, head-le (length l / 7) h f)
+  pub used-room : (h : LogHead) (l : List ℕ) → headWithin (length l / 7) h ≡ true → length (usedEntries t s e i sh g) ≤ h .free → 7 * (h .written + length es) ≤ length l
+  used-room h l f k = rw as-many at (room-for h l (usedEntries t s e i sh g) f k)
 
-  -- 15
-  pub not-enough : h .free < length es → Changed (only i) (usedEntries t s e i sh g) (usedTracker t s e i sh g) h t s e l (refusedWith NoFreeEntry h) t s e l
-  not-enough k = record {
-    few = λ q. (refl, (refl, (refl, (refl, refl))));
-    enough = λ q. absurd (omega (arith, as-entries i es));
-    frame = both-refl t s e;
-  }
-
-  -- written, and the texture changed
-  pub written : {top k : ℕ} {t′ s′ e′ l₂ : List ℕ} → length es ≤ h .free → headFits (length l / 7) h ≡ true → SlotReady t s e i sh → Logged top i true l (h .written) es k l₂ → SlotSet (only i) t s e i (setSlot ranged (flagsOf t) sh g g (slotOf t s e i)) t′ s′ e′
-      → Changed (only i) (usedEntries t s e i sh g) (usedTracker t s e i sh g) h t s e l (movedOn h k) t′ s′ e′ l₂
-  written {top} {k} {t′} {s′} {e′} {l₂} le f x w q = record {
-    few = λ z. absurd (omega (arith, as-entries i es));
-    enough = λ z. (ap (movedOn h) (w .count ∙ sym (as-entries i es)), (logged-added (room-for f le) w, slot-view (x .starts) (x .texture .texture) q));
-    frame = both-more (λ j n. (subst (λ (y : ℕ). y < getD t texturesAt 0) (sym n) (x .texture .texture), n)) (λ j y o. o) (q .frame);
+  -- the texture changed
+  pub used : {h : LogHead} {l l′ : List ℕ} {x : Answered} {t′ s′ e′ : List ℕ} → BothReady t s e i sh → SlotSet (only i) t s e i (setSlot ranged (flagsOf t) sh g g (slotOf t s e i)) t′ s′ e′
+      → (trackerOf t′ s′ e′ ≡ usedTracker t s e i sh g → Changed (trackerOf t s e) (trackerOf t′ s′ e′) (Same t s e t′ s′ e′) (usedEntries t s e i sh g) (usedTracker t s e i sh g) h l x l′)
+      → Changes (only i) (usedEntries t s e i sh g) (usedTracker t s e i sh g) h t s e l x t′ s′ e′ l′
+  used x q c = record {
+    change = c (slot-view (x .start .measured) (x .start .texture .texture) q);
+    frame = both-more (λ j n. (subst (λ (y : ℕ). y < getD t texturesAt 0) (sym n) (x .start .texture .texture), n)) (λ j y o. o) (q .frame);
   }
 
 -- ---- `set_single`
@@ -108,26 +87,26 @@ module _ (t s e : List ℕ) (i : ℕ) (sh : Extent) (q : Selector) (st : ℕ) wh
   unfolding trackerOf
   read-here h = ap (passing (flagsOf t) (getD t maskAt 0)) (list-at (slotOf t s e) (getD t texturesAt 0) i (emptySlot (noEnds ranged)) h)
 
-module _ {t s e : List ℕ} {i : ℕ} {sh : Extent} {q : Selector} {st : ℕ} {fits : Bool} {h : LogHead} {l : List ℕ} (f : fits ≡ true) (k : headFits (length l / 7) h ≡ true) where
-  pub single-away : {r : Refusal} → UseTold t i sh (Part q) st (outcome.Refused r) → Tracked (only i) fits (setSingle ranged (trackerOf t s e) i sh q st) h t s e l (refusedWith r h) t s e l
-  single-away {r} z = away-own r f k (ap (λ (y : CallResult InvalidUse (List Entry) (Tracker Held)). y .answer) (call-is t s e i sh q st (some r) (use-refused z refl)))
+module _ {t s e : List ℕ} {i : ℕ} {sh : Extent} {q : Selector} {st : ℕ} {fits : Bool} {h : LogHead} {l : List ℕ} (f : fits ≡ true) (k : headWithin (length l / 7) h ≡ true) where
+  pub single-away : {r : Refusal} → UseTold t i sh (Part q) st (verdict.Refused r) → Tracked (only i) fits (setSingle ranged (trackerOf t s e) i sh q st) h t s e l (refusedWith r h) t s e l
+  single-away {r} z = away-own r f k (ap (λ (y : CallResult InvalidUse (List Entry) (Tracker Held)). y .answer) (call-is t s e i sh q st (some r) (z .is)))
 
-  pub single-done : {x : Answered} {t′ s′ e′ l′ : List ℕ} (g : Given) → UseTold t i sh (Part q) st outcome.Done → fromUse sh (some q) st ≡ g → Changed (only i) (usedEntries t s e i sh g) (usedTracker t s e i sh g) h t s e l x t′ s′ e′ l′
+  pub single-done : {x : Answered} {t′ s′ e′ l′ : List ℕ} (g : Given) → UseTold t i sh (Part q) st verdict.Accepted → fromUse sh (some q) st ≡ g → Changes (only i) (usedEntries t s e i sh g) (usedTracker t s e i sh g) h t s e l x t′ s′ e′ l′
       → Tracked (only i) fits (setSingle ranged (trackerOf t s e) i sh q st) h t s e l x t′ s′ e′ l′
   single-done {x} {t′} {s′} {e′} {l′} g z w c =
-      let n = use-done z refl in
+      let n = z .is in
       let m : setSingle ranged (trackerOf t s e) i sh q st ≡ passing t s e i sh q st (flagsOf t) (getD t maskAt 0) (slotOf t s e i) =
       call-is t s e i sh q st none n ∙ read-here t s e i sh q st (texture-passed t i sh (use-passed t i sh (Part q) st n .0) .texture) in
-      let d : Changed (only i) (usedEntries t s e i sh (fromUse sh (some q) st)) (usedTracker t s e i sh (fromUse sh (some q) st)) h t s e l x t′ s′ e′ l′ = rw w c in
+      let d : Changes (only i) (usedEntries t s e i sh (fromUse sh (some q) st)) (usedTracker t s e i sh (fromUse sh (some q) st)) h t s e l x t′ s′ e′ l′ = rw w c in
       subst (λ (y : CallResult InvalidUse (List Entry) (Tracker Held)). Tracked (only i) fits y h t s e l x t′ s′ e′ l′) (sym m)
-      (changed-tracked f k refl (rw (slot-pending (flagsOf t) (getD t maskAt 0) sh (fromUse sh (some q) st) i (slotOf t s e i)) d))
+      (changes-tracked f k refl (rw (slot-pending (flagsOf t) (getD t maskAt 0) sh (fromUse sh (some q) st) i (slotOf t s e i)) d))
 
 -- no more entries than the tracker has subresources
-pub single-few : (t s e : List ℕ) {i : ℕ} {sh : Extent} {q : Selector} {st : ℕ} (room : ℕ) (room₂ : ℕ) → wellFormedTracker room room₂ (trackerOf t s e) ≡ true → st < 65536 → UseTold t i sh (Part q) st outcome.Done → (g : Given) → fromUse sh (some q) st ≡ g
+pub single-few : (t s e : List ℕ) {i : ℕ} {sh : Extent} {q : Selector} {st : ℕ} (room : ℕ) (room₂ : ℕ) → wellFormedTracker room room₂ (trackerOf t s e) ≡ true → st < 65536 → UseTold t i sh (Part q) st verdict.Accepted → (g : Given) → fromUse sh (some q) st ≡ g
     → length (usedEntries t s e i sh g) ≤ capacity (numbersOf t)
 unfolding trackerOf
 single-few t s e {i} {sh} {q} {st} room room₂ f b z g w =
-    let n = use-done z refl in
+    let n = z .is in
     let m : setSingle ranged (trackerOf t s e) i sh q st ≡ passing t s e i sh q st (flagsOf t) (getD t maskAt 0) (slotOf t s e i) =
     call-is t s e i sh q st none n ∙ read-here t s e i sh q st (texture-passed t i sh (use-passed t i sh (Part q) st n .0) .texture) in
     let d = set-single-room (trackerOf t s e) (and-left (trackerFits (trackerOf t s e)) _ (and-left _ _ f)) i sh q st b in
@@ -135,22 +114,13 @@ single-few t s e {i} {sh} {q} {st} room room₂ f b z g w =
     rw (m, slot-pending (flagsOf t) (getD t maskAt 0) sh (fromUse sh (some q) st) i (slotOf t s e i), w) at k
 
 -- ---- What one texture asks for
-module _ {t : List ℕ} {i : ℕ} {sh : Extent} {q : Selector} {st : ℕ} (z : UseTold t i sh (Part q) st outcome.Done) where
-  pub single-ready : {s e : List ℕ} → TrackerTested t s e → SlotReady t s e i sh
-  single-ready {s} {e} k =
-      let x = texture-passed t i sh (use-passed t i sh (Part q) st (use-done z refl) .0) in
-      let f = k .slots i (x .texture) in
-      record {
-        starts = k .starts;
-        ends = k .ends;
-        texture = x;
-        start-held = λ o. half-fits startHalf t s i (f .extent o .mips) (f .held o .start);
-        end-held = λ o. half-fits endHalf t e i (f .extent o .mips) (f .held o .end);
-      }
+module _ {t : List ℕ} {i : ℕ} {sh : Extent} {q : Selector} {st : ℕ} (z : UseTold t i sh (Part q) st verdict.Accepted) where
+  pub single-ready : {s e : List ℕ} → TrackerTested t s e → BothReady t s e i sh
+  single-ready k = tracker-texture k (texture-passed t i sh (use-passed t i sh (Part q) st (z .is) .0))
 
   pub single-use : {all : Bool} → all ≡ isFull sh q → TakenUse t sh all q (flagsOf t) st
   single-use {all} e =
-      let a = use-passed t i sh (Part q) st (use-done z refl) in
+      let a = use-passed t i sh (Part q) st (z .is) in
       record { flags = refl; selector = selector-passed sh q (a .1 .0); whole = λ y. full-is sh q (sym e ∙ y); state = state-passed (flagsOf t) st (a .1 .1) }
 
 pub as-use : (sh : Extent) (q : Selector) (st : ℕ) (all : Bool) → all ≡ isFull sh q → fromUse sh (some q) st ≡ useOf all q st

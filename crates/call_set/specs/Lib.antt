@@ -1,5 +1,2 @@
-pub mod Tracked
-pub mod Slot
-pub mod Single
-pub mod Logging
-pub mod Changed
+pub mod Used
+pub mod Contract

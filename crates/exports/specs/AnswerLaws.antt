@@ -5,11 +5,11 @@ use Rattle.model.specs.declared.Outcome.the-variants.{Done, Refused, Conflict}
 use Rattle.model.specs.declared.Refusal.{Refusal}
 use Rattle.model.specs.declared.Refusal.the-variants.{NumbersOutOfLimits, FlagsBreakRule, ShortRoom, NotWellFormed, LogTooShort, FlagsDiffer, NoSuchIndex, ExtentOutOfLimits, ExtentDiffers, SelectorEmpty, SelectorPastExtent, StateReserved, StateIncompatible, RangesOutOfOrder, NoFreeEntry}
 use Rattle.model.specs.Refusals.{numberOf, placeOf}
-use Rattle.call_set.specs.declared.Answered.{Answered}
-use Rattle.exports.specs.Answers.{answerOf, outcomeOf, refusalOf, loggedOf, answeredOf}
+use Rattle.model.specs.declared.Answered.{Answered}
+use Rattle.exports.specs.Answers.{answerOf, outcomeOf, refusalFrom, loggedOf, answeredOf}
 
 -- a refusal, by its number and place
-pub refusal-told : (r : Refusal) → refusalOf (numberOf r) (placeOf r) ≡ r
+pub refusal-told : (r : Refusal) → refusalFrom (numberOf r) (placeOf r) ≡ r
 refusal-told NumbersOutOfLimits = refl
 refusal-told FlagsBreakRule = refl
 refusal-told ShortRoom = refl

@@ -16,7 +16,7 @@ use Rattle.model.specs.declared.UsageFlags.{UsageFlags}
 use Rattle.model.specs.Base.{if_then_else_}
 use Rattle.model.specs.Refusals.{numberOf, placeOf, trackerIndex}
 use Rattle.model.specs.Representation.{select, mipStart, mipEnd, layerStart, layerEnd}
-use Rattle.call_set.specs.declared.Answered.{Answered}
+use Rattle.model.specs.declared.Answered.{Answered}
 use Rattle.exports.specs.declared.Answer.{Answer}
 use Rattle.exports.specs.declared.LoggedAnswer.{LoggedAnswer}
 
@@ -52,8 +52,8 @@ loggedOf x = record { answer = answerOf (x .outcome); written = x .head .written
 
 -- ---- The outcome that numbers tell
 -- the row of 01's table, by its number, with the place
-abbrev pub refusalOf : ℕ → ℕ → Refusal
-refusalOf n i =
+abbrev pub refusalFrom : ℕ → ℕ → Refusal
+refusalFrom n i =
     getD
     (NumbersOutOfLimits ∷ FlagsBreakRule ∷ ShortRoom ∷ NotWellFormed ∷ LogTooShort ∷ FlagsDiffer
     ∷ NoSuchIndex (trackerIndex i) ∷ ExtentOutOfLimits (trackerIndex i) ∷ ExtentDiffers (trackerIndex i)
@@ -70,7 +70,7 @@ conflictOf a = record {
 
 -- each kind
 abbrev pub outcomeOf : Answer → Outcome
-outcomeOf a = if eqb (a .kind) 0 then Done else if eqb (a .kind) 1 then Refused (refusalOf (a .number) (a .place)) else Conflict (conflictOf a)
+outcomeOf a = if eqb (a .kind) 0 then Done else if eqb (a .kind) 1 then Refused (refusalFrom (a .number) (a .place)) else Conflict (conflictOf a)
 
 -- and with the head of the log
 abbrev pub answeredOf : LoggedAnswer → Answered

@@ -11,7 +11,7 @@ use Rattle.range_calls.specs.declared.CoalesceAnswer.the-variants as coalesce
 use Rattle.range_calls.specs.declared.FilterAnswer.{FilterAnswer}
 use Rattle.range_calls.specs.declared.FilterAnswer.the-variants as filter
 use Rattle.exports.specs.declared.RangesAnswer.{RangesAnswer}
-use Rattle.exports.specs.Answers.{answerOf, refusalOf}
+use Rattle.exports.specs.Answers.{answerOf, refusalFrom}
 
 -- ---- The numbers of an answer: what is not told is 0
 abbrev pub numbersOf : Outcome → ℕ → ℕ → ℕ → RangesAnswer
@@ -36,10 +36,10 @@ filterAs (filter.Filtered n) = numbersOf Done 0 n 0
 abbrev pub isolateIn : RangesAnswer → IsolateAnswer
 isolateIn a =
     if eqb (a .answer .kind) 0 then isolate.Isolated (record { position = a .position; count = a .count; told = a .told })
-    else isolate.Refused (refusalOf (a .answer .number) (a .answer .place))
+    else isolate.Refused (refusalFrom (a .answer .number) (a .answer .place))
 
 abbrev pub coalesceIn : RangesAnswer → CoalesceAnswer
-coalesceIn a = if eqb (a .answer .kind) 0 then coalesce.Coalesced (a .told) else coalesce.Refused (refusalOf (a .answer .number) (a .answer .place))
+coalesceIn a = if eqb (a .answer .kind) 0 then coalesce.Coalesced (a .told) else coalesce.Refused (refusalFrom (a .answer .number) (a .answer .place))
 
 abbrev pub filterIn : RangesAnswer → FilterAnswer
-filterIn a = if eqb (a .answer .kind) 0 then filter.Filtered (a .count) else filter.Refused (refusalOf (a .answer .number) (a .answer .place))
+filterIn a = if eqb (a .answer .kind) 0 then filter.Filtered (a .count) else filter.Refused (refusalFrom (a .answer .number) (a .answer .place))

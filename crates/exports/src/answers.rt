@@ -1,7 +1,7 @@
 // Outcomes in numbers, and numbers as what the calls take.
 use crate::Answer;
 use crate::LoggedAnswer;
-use call_set::Answered;
+use model::Answered;
 use model::Conflict;
 use model::Layer;
 use model::LayerRange;

@@ -3,7 +3,7 @@ use crate::LoggedAnswer;
 use crate::answers::logged;
 use model::LogHead;
 ghost use mathlib.Core.Path.{_≡_};
-ghost use Rattle.track.specs.Trace.{Emptying};
+ghost use Rattle.log_head.specs.Log.{Emptying};
 ghost use Rattle.exports.specs.Answers.{loggedOf, answeredOf, headOf};
 
 // `track::empty_log`.

@@ -8,7 +8,7 @@ use set_wellformed::tracker_fits;
 ghost use mathlib.Core.Path.{_≡_};
 ghost use Rattle.model.specs.Base.{if_then_else_};
 ghost use Rattle.call_open.specs.Open.{OpenedScope, OpenedTracker};
-ghost use Rattle.track.specs.Trace.{scopeTest, trackerTest};
+ghost use Rattle.set_storage.specs.Lent.{LentTracker, scopeTest, trackerTest};
 ghost use Rattle.exports.specs.Answers.{answerOf, outcomeOf, flagsOf};
 
 // `track::open_scope`.
@@ -77,7 +77,9 @@ pub extern "C" fn track_scope_is_well_formed(table: &Table, ranges: &[u32]) -> u
 // `set_wellformed::tracker_fits`.
 #[no_mangle]
 pub extern "C" fn track_tracker_is_well_formed(table: &Table, starts: &[u32], ends: &[u32]) -> u32
-    ensures { λ r. ⌜ r ≡ (if trackerTest (record { table = now (table .entry); starts = now (starts .entry); ends = now (ends .entry) }) then 1 else 0) ⌝ }
+    ensures { λ r.
+        let t : LentTracker = record { table = now (table .entry); starts = now (starts .entry); ends = now (ends .entry) } in
+        ⌜ r ≡ (if trackerTest t then 1 else 0) ⌝ }
 {
     if tracker_fits(table, starts, ends) {
         return 1;

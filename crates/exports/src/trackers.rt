@@ -6,10 +6,13 @@ use model::Extent;
 use model::LogHead;
 use model::TrackerIndex;
 use set_storage::Table;
+ghost use Rattle.set_storage.specs.Lent.{LentScope, LentTracker};
 ghost use mathlib.Core.Path.{_≡_};
 ghost use Rattle.model.specs.Refusals.{trackerIndex};
 ghost use Rattle.model.specs.Representation.{select};
-ghost use Rattle.track.specs.Trace.{SetSingle, SetFromUsageScope, SetFromTracker, SetAndRemoveSparse};
+ghost use Rattle.call_set.specs.Contract.{SetSingle};
+ghost use Rattle.call_join.specs.Contract.{SetFromUsageScope, SetFromTracker};
+ghost use Rattle.call_remove.specs.Removed.{SetAndRemoveSparse};
 ghost use Rattle.exports.specs.Answers.{loggedOf, answeredOf, headOf};
 
 // `track::set_single`.
@@ -31,7 +34,12 @@ pub extern "C" fn track_set_single(
     free: usize,
 ) -> LoggedAnswer
     ensures { λ r. ⌜ r ≡ loggedOf (answeredOf r) ⌝ }
-    ensures { λ r. ⌜ SetSingle (record { table = now (table .entry); starts = now (starts .entry); ends = now (ends .entry) }) (trackerIndex index) (record { mips = mips; layers = layers }) (select «mip_start» «mip_end» «layer_start» «layer_end») state (headOf written free) (now (log .entry)) (answeredOf r) (record { table = now (table .exit); starts = now (starts .exit); ends = now (ends .exit) }) (now (log .exit)) ⌝ }
+    ensures { λ r.
+        let t : LentTracker = record { table = now (table .entry); starts = now (starts .entry); ends = now (ends .entry) } in
+        let t′ : LentTracker = record { table = now (table .exit); starts = now (starts .exit); ends = now (ends .exit) } in
+        ⌜ SetSingle t (trackerIndex index) (record { mips = mips; layers = layers })
+        (select «mip_start» «mip_end» «layer_start» «layer_end») state (headOf written free) (now (log .entry)) (answeredOf r) t′
+        (now (log .exit)) ⌝ }
 {
     let extent = Extent { mips, layers };
     let named = selector(mip_start, mip_end, layer_start, layer_end);
@@ -63,7 +71,11 @@ pub extern "C" fn track_set_from_usage_scope(
     free: usize,
 ) -> LoggedAnswer
     ensures { λ r. ⌜ r ≡ loggedOf (answeredOf r) ⌝ }
-    ensures { λ r. ⌜ SetFromUsageScope (record { table = now (table .entry); starts = now (starts .entry); ends = now (ends .entry) }) (record { table = now (given .entry); ranges = now (lent .entry) }) (headOf written free) (now (log .entry)) (answeredOf r) (record { table = now (table .exit); starts = now (starts .exit); ends = now (ends .exit) }) (now (log .exit)) ⌝ }
+    ensures { λ r.
+        let g : LentScope = record { table = now (given .entry); ranges = now (lent .entry) } in
+        let t : LentTracker = record { table = now (table .entry); starts = now (starts .entry); ends = now (ends .entry) } in
+        let t′ : LentTracker = record { table = now (table .exit); starts = now (starts .exit); ends = now (ends .exit) } in
+        ⌜ SetFromUsageScope t g (headOf written free) (now (log .entry)) (answeredOf r) t′ (now (log .exit)) ⌝ }
 {
     let head = LogHead { written, free };
     let x = track::set_from_usage_scope(table, starts, ends, given, lent, log, head);
@@ -84,7 +96,11 @@ pub extern "C" fn track_set_from_tracker(
     free: usize,
 ) -> LoggedAnswer
     ensures { λ r. ⌜ r ≡ loggedOf (answeredOf r) ⌝ }
-    ensures { λ r. ⌜ SetFromTracker (record { table = now (table .entry); starts = now (starts .entry); ends = now (ends .entry) }) (record { table = now (given .entry); starts = now (first .entry); ends = now (last .entry) }) (headOf written free) (now (log .entry)) (answeredOf r) (record { table = now (table .exit); starts = now (starts .exit); ends = now (ends .exit) }) (now (log .exit)) ⌝ }
+    ensures { λ r.
+        let t : LentTracker = record { table = now (table .entry); starts = now (starts .entry); ends = now (ends .entry) } in
+        let t′ : LentTracker = record { table = now (table .exit); starts = now (starts .exit); ends = now (ends .exit) } in
+        let g : LentTracker = record { table = now (given .entry); starts = now (first .entry); ends = now (last .entry) } in
+        ⌜ SetFromTracker t g (headOf written free) (now (log .entry)) (answeredOf r) t′ (now (log .exit)) ⌝ }
 {
     let head = LogHead { written, free };
     let x = track::set_from_tracker(table, starts, ends, given, first, last, log, head);
@@ -105,7 +121,12 @@ pub extern "C" fn track_set_and_remove_from_usage_scope_sparse(
     free: usize,
 ) -> LoggedAnswer
     ensures { λ r. ⌜ r ≡ loggedOf (answeredOf r) ⌝ }
-    ensures { λ r. ⌜ SetAndRemoveSparse (record { table = now (table .entry); starts = now (starts .entry); ends = now (ends .entry) }) (record { table = now (given .entry); ranges = now (lent .entry) }) (now (indices .entry)) (headOf written free) (now (log .entry)) (answeredOf r) (record { table = now (table .exit); starts = now (starts .exit); ends = now (ends .exit) }) (now (given .exit)) (now (log .exit)) ⌝ }
+    ensures { λ r.
+        let g : LentScope = record { table = now (given .entry); ranges = now (lent .entry) } in
+        let t : LentTracker = record { table = now (table .entry); starts = now (starts .entry); ends = now (ends .entry) } in
+        let t′ : LentTracker = record { table = now (table .exit); starts = now (starts .exit); ends = now (ends .exit) } in
+        ⌜ SetAndRemoveSparse t g (now (indices .entry)) (headOf written free) (now (log .entry)) (answeredOf r) t′ (now (given .exit))
+        (now (log .exit)) ⌝ }
 {
     let head = LogHead { written, free };
     let x = track::set_and_remove_from_usage_scope_sparse(

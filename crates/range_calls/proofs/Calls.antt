@@ -1,13 +1,11 @@
 -- The three calls, refused and done, from what the checks and the functions below ensure.
 use Prim.Native.Nat.{ℕ, _-_}
-use native.Mathlib.Omega.{arith}
-use mathlib.Core.Path.{_≡_, refl, sym, ap, _∙_}
+use mathlib.Core.Path.{_≡_, refl, sym}
 use mathlib.Core.List.{List}
 use mathlib.Core.Option.{none, some}
-use lib.ListN.{length}
 use Rattle.model.specs.declared.Refusal.{Refusal}
-use Rattle.model.specs.RangeCalls.{isolateRefusal, isolated, coalesceRefusal, coalesced, filterRefusal, filtered}
-use Rattle.range_states.specs.View.{view, becomes-none}
+use Rattle.model.specs.RangeCalls.{isolateRefusal, coalesceRefusal, filterRefusal}
+use Rattle.range_states.specs.View.{view}
 use Rattle.range_states.specs.Coalescing.{Coalesced}
 use Rattle.range_states.specs.Filtering.{Filtered}
 use Rattle.range_isolate.specs.declared.isolation.Isolated.{Isolated}

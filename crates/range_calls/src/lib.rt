@@ -7,7 +7,7 @@
 // definitions of model/specs/RangeCalls (specs/Answers); a refusal (10, 14, 15) leaves every number as it was, and up to two numbers that
 // make no whole record always stay.
 use model::Refusal;
-use range_checks::Verdict;
+use model::Verdict;
 ghost use Rattle.range_calls.specs.Answers.{Isolates, Coalesces, Filters};
 
 // Where the run is, how many ranges it has, and how many records are in use now.

@@ -4,27 +4,18 @@ use native.Mathlib.Omega.{arith}
 use mathlib.Core.Path.{_≡_, refl, sym}
 use mathlib.Core.Bool.{Bool, true, false, _||_, not}
 use mathlib.Core.List.{List, _∷_, append-assoc}
-use mathlib.Core.Option.{Option, none, some}
+use mathlib.Core.Option.{none, some}
 use borrow.Author.Tests.{ltb-false}
 use lib.Dec.{ltb}
 use lib.ListN.{length, take}
-use Rattle.model.specs.declared.Refusal.{Refusal}
 use Rattle.model.specs.Base.{if_then_else_}
 use Rattle.model.specs.Refusals.{Check, firstFailing}
 use Rattle.model.specs.RangedStates.{listOf, isolate, iterFilter}
-use Rattle.model.specs.RangeCalls.{ascends, isolateRefusal, isolated, coalesceRefusal, coalesced, filterRefusal, filtered}
-use Rattle.range_checks.specs.declared.checking.Verdict.{Verdict}
-use Rattle.range_checks.specs.declared.checking.Verdict.the-variants.{Accepted, Refused}
+use Rattle.model.specs.RangeCalls.{ascends, isolateRefusal, isolated, coalesceRefusal, coalesced, filterRefusal}
 use Rattle.range_isolate.specs.declared.isolation.Isolated.{Isolated as Told}
 use Rattle.range_states.specs.View.{view, decode, view-count}
 use Rattle.range_isolate.specs.Isolation.{IsolateRoom, Isolating}
 use Rattle.range_states.specs.Coalescing.{Coalesced as Coalescing}
-use Rattle.range_states.specs.Filtering.{Filtered as Filtering}
-
--- what a verdict means: the model's refusal, if there is one
-abbrev pub refusalOf : Verdict → Option Refusal
-refusalOf Accepted = none
-refusalOf (Refused r) = some r
 
 -- ---- what is accepted has the room
 first-passes : (c : Check) (cs : List Check) → firstFailing (c ∷ cs) ≡ none → (c .fails ≡ false) × (firstFailing cs ≡ none)
@@ -81,6 +72,3 @@ isolated-is {l} {len} {a} {e} {d} {r} {l′} h =
 
 pub coalesced-is : {l : List ℕ} {len r : ℕ} {l′ : List ℕ} → Coalescing l len r l′ → coalesced len (view l) .records ≡ view l′
 coalesced-is {l} {len} {r} {l′} h = rw (h .into .seen, h .count, append-assoc)
-
-pub filtered-is : {l : List ℕ} {len a e : ℕ} {m : List ℕ} {r : ℕ} {m′ : List ℕ} → Filtering l len a e m r m′ → filtered a e len (view l) (view m) ≡ record { count = r; output = view m′ }
-filtered-is {l} {len} {a} {e} {m} {r} {m′} h = rw (h .into .seen, h .count)

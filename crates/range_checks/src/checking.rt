@@ -2,6 +2,7 @@
 //
 // Each tells the refusal or `Accepted`; what is accepted has the room that the call asks for (specs/Calls).
 use model::Refusal;
+use model::Verdict;
 use range_isolate::isolated_count;
 use range_states::filtered_count;
 use range_states::get;
@@ -11,14 +12,8 @@ ghost use Prim.Native.Nat.{ℕ, _*_, _/_, _≤_};
 ghost use lib.Dec.{ltb};
 ghost use lib.ListN.{length, take};
 ghost use Rattle.model.specs.RangeCalls.{ascends as ascendsOf, isolateRefusal, coalesceRefusal, filterRefusal};
+ghost use Rattle.model.specs.Refusals.{refusedFor};
 ghost use Rattle.range_states.specs.View.{view, decode};
-ghost use Rattle.range_checks.specs.Calls.{refusalOf};
-
-// What a check tells.
-pub enum Verdict {
-    Accepted,
-    Refused(Refusal),
-}
 
 // How many whole records a run has.
 fn records(s: &[u32]) -> usize
@@ -62,7 +57,7 @@ fn out_of_order(s: &[u32], told: usize) -> bool
 
 // What `isolate` is refused for: 10, 14, or 15 for all ranges that it would leave.
 pub fn check_isolate(s: &[u32], told: usize, start: u32, end: u32) -> Verdict
-    ensures { λ r. ⌜ ((d : ℕ) → refusalOf r ≡ isolateRefusal start end d told (view (now (s .entry)))) ⌝ }
+    ensures { λ r. ⌜ ((d : ℕ) → refusedFor r ≡ isolateRefusal start end d told (view (now (s .entry)))) ⌝ }
 {
     if end <= start {
         return Verdict::Refused(Refusal::SelectorEmpty);
@@ -79,7 +74,7 @@ pub fn check_isolate(s: &[u32], told: usize, start: u32, end: u32) -> Verdict
 
 // What `coalesce` is refused for: 14.
 pub fn check_coalesce(s: &[u32], told: usize) -> Verdict
-    ensures { λ r. ⌜ refusalOf r ≡ coalesceRefusal told (view (now (s .entry))) ⌝ }
+    ensures { λ r. ⌜ refusedFor r ≡ coalesceRefusal told (view (now (s .entry))) ⌝ }
 {
     if out_of_order(s, told) {
         return Verdict::Refused(Refusal::RangesOutOfOrder);
@@ -89,7 +84,7 @@ pub fn check_coalesce(s: &[u32], told: usize) -> Verdict
 
 // What `iter_filter` is refused for: 10, 14, or 15 for the second run.
 pub fn check_filter(s: &[u32], told: usize, start: u32, end: u32, out: &[u32]) -> Verdict
-    ensures { λ r. ⌜ refusalOf r ≡ filterRefusal start end told (view (now (s .entry))) (view (now (out .entry))) ⌝ }
+    ensures { λ r. ⌜ refusedFor r ≡ filterRefusal start end told (view (now (s .entry))) (view (now (out .entry))) ⌝ }
 {
     if end <= start {
         return Verdict::Refused(Refusal::SelectorEmpty);

@@ -1,5 +1,5 @@
 // A call: what it is lent, the call, and what it leaves.
-use call_set::Answered;
+use model::Answered;
 use model::Extent;
 use model::Layer;
 use model::LayerRange;

@@ -1,7 +1,6 @@
 // Runs of numbers: read, written, copied, compared. A place outside of a run reads as 0, and what is written there is dropped.
 use set_storage::wide;
 ghost use Prim.Native.Nat.{_≤_};
-ghost use lib.ListN.{length};
 
 // The number at i, or 0.
 pub fn at(s: &[u32], i: usize) -> u32 {

@@ -2,7 +2,7 @@
 use Prim.Native.Nat.{ℕ, zero, suc, _+_, _≤_, _<_}
 use native.Mathlib.Omega.{arith}
 use mathlib.Core.Path.{_≡_, refl, sym, _∙_}
-use mathlib.Core.Bool.{Bool, true, false, _&&_, _||_, not, false≢true}
+use mathlib.Core.Bool.{Bool, true, false, _&&_, not}
 use mathlib.Core.List.{List}
 use mathlib.Core.Option.{Option, none}
 use lib.Dec.{eqb}
@@ -10,11 +10,11 @@ use lib.ListN.{getD}
 use borrow.Author.Tests.{lt-ltb}
 use Rattle.model.specs.declared.Extent.{Extent}
 use Rattle.model.specs.declared.Refusal.{Refusal}
-use Rattle.model.specs.declared.Outcome.the-variants as outcome
+use Rattle.model.specs.declared.Verdict.the-variants.{Accepted}
 use Rattle.model.specs.Flags.{sameFlags}
 use Rattle.model.specs.Refusals.{firstFailing, sameExtent, extentOutside, otherExtent}
+use Rattle.model.specs.BoolLaws.{by-lt, nor as neither, and-both as both}
 use Rattle.set_storage.specs.Storage.{numbersOf, flagsOf, extentOf, ownedAt, texturesAt}
-use Rattle.set_storage.specs.Part.{by-lt}
 use Rattle.set_checks.specs.Head.{ownedExtent, extent-at}
 use Rattle.set_checks.specs.Sets.{firstOf, ownedRefusal, ownedPasses, AllPass, SetTold, set-splits}
 
@@ -25,11 +25,6 @@ other-is t i sh = go (eqb (getD t (ownedAt i) 0) 0) refl
     go : (b : Bool) → eqb (getD t (ownedAt i) 0) 0 ≡ b → (not (eqb (getD t (ownedAt i) 0) 0) && not (sameExtent (extentOf t i) sh)) ≡ otherExtent (ownedExtent t i) sh
     go true e = rw e
     go false e = rw e
-
-neither : (a b : Bool) → not (a || b) ≡ true → (a ≡ false) × (b ≡ false)
-neither true b e = absurd (false≢true e)
-neither false true e = absurd (false≢true e)
-neither false false e = (refl, refl)
 
 -- 7, 8 and 9 at an index within the set
 passes-none : (t g : List ℕ) (i : ℕ) → i < getD t texturesAt 0 → ownedPasses t g i ≡ true → ownedRefusal t g i ≡ none
@@ -47,15 +42,10 @@ unfolding firstOf
 first-all f k zero e = refl
 first-all f k (suc n) e = rw (e k (omega arith) (omega arith)) (first-all f (suc k) n (λ i a b. e i (omega arith) (omega arith)))
 
-pub set-passes : (t g : List ℕ) → sameFlags (flagsOf t) (flagsOf g) ≡ true → getD g texturesAt 0 ≤ getD t texturesAt 0 → AllPass t g (getD g texturesAt 0) → SetTold t g outcome.Done
+pub set-passes : (t g : List ℕ) → sameFlags (flagsOf t) (flagsOf g) ≡ true → getD g texturesAt 0 ≤ getD t texturesAt 0 → AllPass t g (getD g texturesAt 0) → SetTold t g Accepted
 set-passes t g e h a = record {
   is = rw (set-splits t g, e, first-all (ownedRefusal t g) 0 (getD g texturesAt 0) (λ i x y. passes-none t g i (omega arith) (a .each i (omega arith))));
 }
-
--- one index more
-both : (a b : Bool) → (a && b) ≡ true → (a ≡ true) × (b ≡ true)
-both true b e = (refl, e)
-both false b e = absurd (false≢true e)
 
 pub passes-more : {t g : List ℕ} {i : ℕ} (a b : Bool) → (a ≡ true → AllPass t g i) → b ≡ ownedPasses t g i → (a && b) ≡ true → AllPass t g (i + 1)
 passes-more {t} {g} {i} a b f e p =

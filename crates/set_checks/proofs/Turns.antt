@@ -1,23 +1,21 @@
--- A loop of checks: what is left of it from a place on, what a turn does to it, and what its answers tell.
+-- A loop of checks: what is left of it from a place on, what a turn does to it, and what it tells.
 use Prim.Native.Nat.{ℕ, suc, _+_, _-_, _≤_, _<_}
 use native.Mathlib.Omega.{arith}
 use native.Mathlib.Numerals.{add-one}
-use mathlib.Core.Path.{_≡_, _∙_}
+use mathlib.Core.Path.{_≡_, ap, _∙_}
 use mathlib.Core.Bool.{true, false}
 use mathlib.Core.List.{List}
-use mathlib.Core.Option.{Option, none}
+use mathlib.Core.Option.{Option, none, some}
 use lib.ListN.{length, getD}
 use Rattle.model.specs.declared.Refusal.{Refusal}
 use Rattle.model.specs.declared.Refusal.the-variants.{FlagsDiffer}
-use Rattle.model.specs.declared.Conflict.{Conflict}
-use Rattle.model.specs.declared.Outcome.{Outcome}
-use Rattle.model.specs.declared.Outcome.the-variants as outcome
+use Rattle.model.specs.declared.Verdict.{Verdict}
+use Rattle.model.specs.declared.Verdict.the-variants.{Accepted, Refused}
 use Rattle.model.specs.Flags.{sameFlags}
-use Rattle.model.specs.Refusals.{setRefusal, sparseRefusal}
-use Rattle.model.specs.Log.{verdict, orNext}
+use Rattle.model.specs.Refusals.{setRefusal, sparseRefusal, refusedFor}
+use Rattle.model.specs.Log.{orNext}
 use Rattle.set_storage.specs.Storage.{flagsOf, texturesAt}
 use Rattle.set_checks.specs.Head.{headIn}
-use Rattle.set_checks.specs.Verdict.{done-none, refused-some, no-conflict}
 use Rattle.set_checks.specs.Sets.{firstOf, ownedRefusal, listedAt, set-splits, sparse-splits, SetTold, SparseTold}
 
 -- place i of n: q, the refusal of all, is the first of what is left
@@ -32,19 +30,15 @@ next f n i h = let e : n - i ≡ suc (n - (i + 1)) = omega arith in rw (e, add-o
 
 module _ {f : ℕ → Option Refusal} {n : ℕ} {q : Option Refusal} {i : ℕ} (w : Left f n q i) where
   -- a check that passed
-  pub turn : i < n → {x : Outcome} → x ≡ verdict (f i) → x ≡ outcome.Done → Left f n q (i + 1)
-  turn h t e = record { within = omega arith; first = w .first ∙ next f n i h ∙ rw (done-none (f i) t e) }
+  pub turn : i < n → {x : Verdict} → f i ≡ refusedFor x → x ≡ Accepted → Left f n q (i + 1)
+  turn h t e = record { within = omega arith; first = w .first ∙ next f n i h ∙ rw (t ∙ ap refusedFor e) }
 
   -- one that failed decides
-  pub stop : i < n → {x : Outcome} {r : Refusal} → x ≡ verdict (f i) → x ≡ outcome.Refused r → outcome.Refused r ≡ verdict q
-  stop h t e = rw (w .first ∙ next f n i h, refused-some (f i) t e)
-
-  -- and none meets a conflict
-  pub never : {x : Outcome} {k : Conflict} → x ≡ verdict (f i) → x ≡ outcome.Conflict k → ⊥
-  never t e = no-conflict (f i) t e
+  pub stop : i < n → {x : Verdict} {r : Refusal} → f i ≡ refusedFor x → x ≡ Refused r → q ≡ some r
+  stop h t e = rw (w .first ∙ next f n i h, t ∙ ap refusedFor e)
 
   -- all passed
-  pub end : n ≤ i → outcome.Done ≡ verdict q
+  pub end : n ≤ i → q ≡ none
   unfolding firstOf
   end h = let e : n - i ≡ 0 = omega arith in rw (w .first, e)
 
@@ -59,7 +53,7 @@ module _ (t g : List ℕ) where
   set-begins e = all-left (ownedRefusal t g) (getD g texturesAt 0) (setRefusal (headIn t) (headIn g)) (set-splits t g ∙ rw e)
 
   -- they differ
-  pub set-differs : sameFlags (flagsOf t) (flagsOf g) ≡ false → SetTold t g (outcome.Refused FlagsDiffer)
+  pub set-differs : sameFlags (flagsOf t) (flagsOf g) ≡ false → SetTold t g (Refused FlagsDiffer)
   set-differs e = record { is = rw (set-splits t g, e) }
 
   -- a scope's are the same
@@ -67,5 +61,5 @@ module _ (t g : List ℕ) where
   sparse-begins list e = all-left (listedAt t g list) (length list) (sparseRefusal (headIn t) (headIn g) list) (sparse-splits t g list ∙ rw e)
 
   -- they differ
-  pub sparse-differs : (list : List ℕ) → sameFlags (flagsOf t) (flagsOf g) ≡ false → SparseTold t g list (outcome.Refused FlagsDiffer)
+  pub sparse-differs : (list : List ℕ) → sameFlags (flagsOf t) (flagsOf g) ≡ false → SparseTold t g list (Refused FlagsDiffer)
   sparse-differs list e = record { is = rw (sparse-splits t g list, e) }

@@ -12,11 +12,11 @@ use Rattle.model.specs.declared.Refusal.{Refusal}
 use Rattle.model.specs.declared.Selector.{Selector}
 use Rattle.model.specs.declared.Selection.{Selection}
 use Rattle.model.specs.declared.Selection.the-variants.{Full, Part}
+use Rattle.model.specs.declared.Verdict.{Verdict}
 use Rattle.model.specs.Base.{if_then_else_}
 use Rattle.model.specs.Sets.{Head, ownExtent, headOf}
-use Rattle.model.specs.Refusals.{Check, firstFailing, textureChecks, selectorChecks, stateChecks, singleRefusal}
-use Rattle.model.specs.Log.{verdict, orNext}
-use Rattle.model.specs.declared.Outcome.{Outcome}
+use Rattle.model.specs.Refusals.{Check, firstFailing, textureChecks, selectorChecks, stateChecks, singleRefusal, refusedFor}
+use Rattle.model.specs.Log.{orNext}
 use Rattle.set_storage.specs.Storage.{numbersOf, flagsOf, ownedOf, extentOf, slotWith, setWith, scopeOf, trackerOf, listFrom, texturesAt}
 use Rattle.set_storage.specs.Lists.{list-at}
 
@@ -45,18 +45,18 @@ stateRefusal p st = firstFailing (stateChecks p st)
 unfoldable pub useRefusal : List ℕ → ℕ → Extent → Selection → ℕ → Option Refusal
 useRefusal t i sh s st = singleRefusal (headIn t) i sh (selectorOf s) st
 
--- THE CONTRACTS: the answer of each
-pub record TextureTold (t : List ℕ) (i : ℕ) (sh : Extent) (x : Outcome) : Type 0 where
-  pub is : x ≡ verdict (textureRefusal t i sh)
+-- THE CONTRACTS: what each tells
+pub record TextureTold (t : List ℕ) (i : ℕ) (sh : Extent) (x : Verdict) : Type 0 where
+  pub is : textureRefusal t i sh ≡ refusedFor x
 
-pub record SelectorTold (sh : Extent) (s : Selection) (x : Outcome) : Type 0 where
-  pub is : x ≡ verdict (selectorRefusal sh s)
+pub record SelectorTold (sh : Extent) (s : Selection) (x : Verdict) : Type 0 where
+  pub is : selectorRefusal sh s ≡ refusedFor x
 
-pub record StateTold (p : UsageFlags) (st : ℕ) (x : Outcome) : Type 0 where
-  pub is : x ≡ verdict (stateRefusal p st)
+pub record StateTold (p : UsageFlags) (st : ℕ) (x : Verdict) : Type 0 where
+  pub is : stateRefusal p st ≡ refusedFor x
 
-pub record UseTold (t : List ℕ) (i : ℕ) (sh : Extent) (s : Selection) (st : ℕ) (x : Outcome) : Type 0 where
-  pub is : x ≡ verdict (useRefusal t i sh s st)
+pub record UseTold (t : List ℕ) (i : ℕ) (sh : Extent) (s : Selection) (st : ℕ) (x : Verdict) : Type 0 where
+  pub is : useRefusal t i sh s st ≡ refusedFor x
 
 -- ---- it is the head of a scope's view and of a tracker's
 extents-are : {H : Type 0} (held : ℕ → H) (t : List ℕ) (k n : ℕ) → map ownExtent (listFrom (slotWith held t) k n) ≡ listFrom (ownedExtent t) k n
@@ -89,6 +89,11 @@ checks-append (c ∷ xs) ys = go (c .fails) (checks-append xs ys)
         → (if b then some (c .answer) else firstFailing (xs ++ ys)) ≡ orNext (if b then some (c .answer) else firstFailing xs) (firstFailing ys)
     go true e = refl
     go false e = e
+
+-- none of two refusals: none in either
+pub none-both : (p q : Option Refusal) → orNext p q ≡ none → (p ≡ none) × (q ≡ none)
+none-both none q e = (refl, e)
+none-both (some r) q e = absurd (let z : _≡_ {A = ℕ} 0 1 = cc in omega arith)
 
 pub use-splits : (t : List ℕ) (i : ℕ) (sh : Extent) (s : Selection) (st : ℕ) → useRefusal t i sh s st ≡ orNext (orNext (textureRefusal t i sh) (selectorRefusal sh s)) (stateRefusal (flagsOf t) st)
 unfolding useRefusal textureRefusal selectorRefusal stateRefusal

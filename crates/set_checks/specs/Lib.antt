@@ -1,5 +1,3 @@
 pub mod Head
-pub mod Verdict
 pub mod Sets
-pub mod Told
 pub mod Passed

@@ -1,13 +1,13 @@
 -- What checks that passed show: of a texture, a selector, a state, a use, a set and a list.
-use Prim.Native.Nat.{ℕ, zero, suc, _≤_, _<_}
+use Prim.Native.Nat.{ℕ, _≤_, _<_}
 use native.Mathlib.Omega.{arith}
 use mathlib.Core.Path.{_≡_, refl, sym}
 use mathlib.Core.Bool.{Bool, true, false, _||_, and-eq-true-iff}
-use mathlib.Core.List.{List, _∷_}
+use mathlib.Core.List.{List}
 use mathlib.Core.Option.{Option, none, some}
 use lib.Dec.{ltb, eqb}
 use lib.ListN.{length, getD}
-use borrow.Author.Tests.{ltb-true, ltb-false, eqb-true, eqb-false, not-false}
+use borrow.Author.Tests.{ltb-true, ltb-false, eqb-false, not-false}
 use Rattle.model.specs.declared.Extent.{Extent}
 use Rattle.model.specs.declared.Refusal.{Refusal}
 use Rattle.model.specs.declared.Refusal.the-variants.{FlagsDiffer}
@@ -19,12 +19,12 @@ use Rattle.model.specs.Base.{if_then_else_}
 use Rattle.model.specs.Flags.{meets, incompatible, sameFlags}
 use Rattle.model.specs.Representation.{mipStart, mipEnd, layerStart, layerEnd}
 use Rattle.model.specs.Sets.{outside}
-use Rattle.model.specs.Refusals.{Check, firstFailing, sameExtent, otherExtent, setRefusal, sparseRefusal}
+use Rattle.model.specs.Refusals.{sameExtent, otherExtent, setRefusal, sparseRefusal}
 use Rattle.model.specs.Log.{orNext}
-use Rattle.set_storage.specs.Part.{by-lt}
+use Rattle.model.specs.BoolLaws.{by-lt, neither}
+use Rattle.model.specs.CheckLaws.{first-passed, inside, same-extent, same-flags}
 use Rattle.set_storage.specs.Storage.{flagsOf, ownedOf, extentOf, layerLimitAt, mipLimitAt, texturesAt}
-use Rattle.set_checks.specs.Head.{ownedExtent, headIn, extent-at, textureRefusal, selectorRefusal, stateRefusal, useRefusal, use-splits}
-use Rattle.set_checks.specs.Verdict.{none-both}
+use Rattle.set_checks.specs.Head.{ownedExtent, headIn, extent-at, textureRefusal, selectorRefusal, stateRefusal, useRefusal, use-splits, none-both}
 use Rattle.set_checks.specs.Sets.{firstOf, first-none, ownedRefusal, listedRefusal, listedAt, listed-in, listed-past, set-splits, sparse-splits}
 
 -- what 7, 8 and 9 show of texture i with extent sh
@@ -62,39 +62,6 @@ pub record SparsePassed (t g list : List ℕ) : Type 0 where
   pub each : (k : ℕ) → k < length list → ownedOf g (getD list k 0) ≡ true → TexturePassed t (getD list k 0) (extentOf g (getD list k 0))
 
 -- ---- tests that failed, and what they tell
-neither : (a b : Bool) → a || b ≡ false → (a ≡ false) × (b ≡ false)
-neither true b e = absurd (let z : _≡_ {A = ℕ} 0 1 = cc in omega arith)
-neither false b e = (refl, e)
-
--- the first check of several passed, and so did the others
-first-passed : (c : Check) (cs : List Check) → firstFailing (c ∷ cs) ≡ none → (c .fails ≡ false) × (firstFailing cs ≡ none)
-unfolding firstFailing
-first-passed c cs e = go (c .fails) e
-  where
-    go : (b : Bool) → (if b then some (c .answer) else firstFailing cs) ≡ none → (b ≡ false) × (firstFailing cs ≡ none)
-    go true h = absurd (let z : _≡_ {A = ℕ} 0 1 = cc in omega arith)
-    go false h = (refl, h)
-
-positive : (n : ℕ) → (n ≡ 0 → ⊥) → 0 < n
-positive zero e = absurd (e refl)
-positive (suc n) e = omega arith
-
-inside : (n top : ℕ) → outside n top ≡ false → (0 < n) × (n ≤ top)
-inside n top e =
-    let s = neither (eqb n 0) (ltb top n) e in (positive n (eqb-false n 0 (s .0)), ltb-false top n (s .1))
-
-same-extent : (a b : Extent) → sameExtent a b ≡ true → a ≡ b
-same-extent a b e =
-    let h = and-eq-true-iff (eqb (a .mips) (b .mips)) (eqb (a .layers) (b .layers)) .0 e in
-    let m = eqb-true (a .mips) (b .mips) (h .0) in let l = eqb-true (a .layers) (b .layers) (h .1) in
-    λ i. record { mips = m i; layers = l i }
-
-same-flags : (p q : UsageFlags) → sameFlags p q ≡ true → q ≡ p
-same-flags p q e =
-    let h = and-eq-true-iff _ _ .0 e in let g = and-eq-true-iff _ _ .0 (h .0) in let f = and-eq-true-iff _ _ .0 (g .0) in
-    let x = sym (eqb-true (p .exclusive) (q .exclusive) (f .0)) in let u = sym (eqb-true (p .uninitialized) (q .uninitialized) (f .1)) in
-    let c = sym (eqb-true (p .complex) (q .complex) (g .1)) in let n = sym (eqb-true (p .unknown) (q .unknown) (h .1)) in
-    λ i. record { exclusive = x i; uninitialized = u i; complex = c i; unknown = n i }
 
 -- ---- 7, 8, 9
 pub texture-passed : (t : List ℕ) (i : ℕ) (sh : Extent) → textureRefusal t i sh ≡ none → TexturePassed t i sh
@@ -150,7 +117,7 @@ listed-passed t g i e =
 
 -- the flags are the same, and of the rest none fails
 flags-passed : (t g : List ℕ) (q : Option Refusal) → (if sameFlags (flagsOf t) (flagsOf g) then q else some FlagsDiffer) ≡ none → (flagsOf g ≡ flagsOf t) × (q ≡ none)
-flags-passed t g q e = let s = go (sameFlags (flagsOf t) (flagsOf g)) e in (same-flags (flagsOf t) (flagsOf g) (s .0), s .1)
+flags-passed t g q e = let s = go (sameFlags (flagsOf t) (flagsOf g)) e in (sym (same-flags (flagsOf t) (flagsOf g) (s .0)), s .1)
   where
     go : (b : Bool) → (if b then q else some FlagsDiffer) ≡ none → (b ≡ true) × (q ≡ none)
     go true h = (refl, h)

@@ -10,15 +10,14 @@ use lib.ListN.{length, getD}
 use borrow.Author.Tests.{lt-ltb, le-ltb}
 use Rattle.model.specs.declared.Refusal.{Refusal}
 use Rattle.model.specs.declared.Refusal.the-variants.{FlagsDiffer, NoSuchIndex}
-use Rattle.model.specs.declared.Outcome.{Outcome}
+use Rattle.model.specs.declared.Verdict.{Verdict}
 use Rattle.model.specs.Base.{if_then_else_, each, eachAt}
 use Rattle.model.specs.Flags.{sameFlags}
-use Rattle.model.specs.Refusals.{Check, firstFailing, extentOutside, otherExtent, flagsCheck, ownedChecks, setRefusal, sparseChecks, sparseRefusal, trackerIndex}
-use Rattle.model.specs.Log.{verdict, orNext}
-use Rattle.set_storage.specs.Part.{by-lt}
+use Rattle.model.specs.Refusals.{Check, firstFailing, extentOutside, otherExtent, flagsCheck, ownedChecks, setRefusal, sparseChecks, sparseRefusal, trackerIndex, refusedFor}
+use Rattle.model.specs.Log.{orNext}
 use Rattle.set_storage.specs.Storage.{numbersOf, flagsOf, extentOf, listFrom, ownedAt, texturesAt}
-use Rattle.set_checks.specs.Head.{ownedExtent, headIn, extent-at, checks-append}
-use Rattle.set_checks.specs.Verdict.{none-both}
+use Rattle.set_checks.specs.Head.{ownedExtent, headIn, extent-at, checks-append, none-both}
+use Rattle.model.specs.BoolLaws.{by-lt}
 
 -- ---- The first refusal of f k, f (k + 1) and so on, n of them
 unfoldable pub firstOf : (ℕ → Option Refusal) → ℕ → ℕ → Option Refusal
@@ -44,18 +43,18 @@ ownedPasses t g i = eqb (getD g (ownedAt i) 0) 0 || not (extentOutside (numbersO
 pub record AllPass (t g : List ℕ) (n : ℕ) : Type 0 where
   pub each : (i : ℕ) → i < n → ownedPasses t g i ≡ true
 
--- THE CONTRACTS: the answer of each
-pub record OwnedTold (t g : List ℕ) (i : ℕ) (x : Outcome) : Type 0 where
-  pub is : x ≡ verdict (ownedRefusal t g i)
+-- THE CONTRACTS: what each tells
+pub record OwnedTold (t g : List ℕ) (i : ℕ) (x : Verdict) : Type 0 where
+  pub is : ownedRefusal t g i ≡ refusedFor x
 
-pub record ListedTold (t g : List ℕ) (i : ℕ) (x : Outcome) : Type 0 where
-  pub is : x ≡ verdict (listedRefusal t g i)
+pub record ListedTold (t g : List ℕ) (i : ℕ) (x : Verdict) : Type 0 where
+  pub is : listedRefusal t g i ≡ refusedFor x
 
-pub record SetTold (t g : List ℕ) (x : Outcome) : Type 0 where
-  pub is : x ≡ verdict (setRefusal (headIn t) (headIn g))
+pub record SetTold (t g : List ℕ) (x : Verdict) : Type 0 where
+  pub is : setRefusal (headIn t) (headIn g) ≡ refusedFor x
 
-pub record SparseTold (t g list : List ℕ) (x : Outcome) : Type 0 where
-  pub is : x ≡ verdict (sparseRefusal (headIn t) (headIn g) list)
+pub record SparseTold (t g list : List ℕ) (x : Verdict) : Type 0 where
+  pub is : sparseRefusal (headIn t) (headIn g) list ≡ refusedFor x
 
 -- ---- laws of the first refusal
 module _ (f : ℕ → Option Refusal) where

@@ -4,17 +4,17 @@
 // log's entries last (15, `texture_barrier`). Each check equals the model's (model/specs/Refusals) at the head of the view: the numbers, the
 // flags, and the extents of the indices that are owned. One function checks a selector, one a state.
 //
-// What holds: nothing is written. A check that passes answers `Outcome::Done`, and one that fails the refusal with its place. What
-// passed checks show is in specs/Passed, from an answer to it in specs/Told.
+// What holds: nothing is written. A check that passes answers `Accepted`, and one that fails the refusal with its place. What
+// passed checks show is in specs/Passed.
 pub mod sets;
 
 use model::Extent;
-use model::Outcome;
 use model::Refusal;
 use model::Selection;
 use model::Selector;
 use model::TrackerIndex;
 use model::UsageFlags;
+use model::Verdict;
 use set_storage::LAYER_LIMIT;
 use set_storage::LAYERS;
 use set_storage::MIP_LIMIT;
@@ -45,72 +45,72 @@ pub fn other_extent(table: &Table, k: usize, extent: Extent) -> bool
 }
 
 // 7, 8, 9: a texture.
-pub fn check_texture(table: &Table, index: TrackerIndex, extent: Extent) -> Outcome
+pub fn check_texture(table: &Table, index: TrackerIndex, extent: Extent) -> Verdict
     requires { ⌜ getD (now table) texturesAt 0 ≤ 64 ⌝ }
     ensures { λ x. ⌜ TextureTold (now (table .entry)) (index .0) extent x ⌝ }
 {
     let i = index.0;
     if table[TEXTURES] <= i {
-        return Outcome::Refused(Refusal::NoSuchIndex(index));
+        return Verdict::Refused(Refusal::NoSuchIndex(index));
     }
     if extent.mips == 0 {
-        return Outcome::Refused(Refusal::ExtentOutOfLimits(index));
+        return Verdict::Refused(Refusal::ExtentOutOfLimits(index));
     }
     if table[MIP_LIMIT] < extent.mips {
-        return Outcome::Refused(Refusal::ExtentOutOfLimits(index));
+        return Verdict::Refused(Refusal::ExtentOutOfLimits(index));
     }
     if extent.layers == 0 {
-        return Outcome::Refused(Refusal::ExtentOutOfLimits(index));
+        return Verdict::Refused(Refusal::ExtentOutOfLimits(index));
     }
     if table[LAYER_LIMIT] < extent.layers {
-        return Outcome::Refused(Refusal::ExtentOutOfLimits(index));
+        return Verdict::Refused(Refusal::ExtentOutOfLimits(index));
     }
     if other_extent(table, wide(i), extent) {
-        return Outcome::Refused(Refusal::ExtentDiffers(index));
+        return Verdict::Refused(Refusal::ExtentDiffers(index));
     }
-    Outcome::Done
+    Verdict::Accepted
 }
 
 // 10, 11: a selector.
-pub fn check_selector(extent: Extent, q: Selector) -> Outcome
+pub fn check_selector(extent: Extent, q: Selector) -> Verdict
     ensures { λ x. ⌜ SelectorTold extent (Selection.Part q) x ⌝ }
 {
     if q.mips.end.0 <= q.mips.start.0 {
-        return Outcome::Refused(Refusal::SelectorEmpty);
+        return Verdict::Refused(Refusal::SelectorEmpty);
     }
     if q.layers.end.0 <= q.layers.start.0 {
-        return Outcome::Refused(Refusal::SelectorEmpty);
+        return Verdict::Refused(Refusal::SelectorEmpty);
     }
     if extent.mips < q.mips.end.0 {
-        return Outcome::Refused(Refusal::SelectorPastExtent);
+        return Verdict::Refused(Refusal::SelectorPastExtent);
     }
     if extent.layers < q.layers.end.0 {
-        return Outcome::Refused(Refusal::SelectorPastExtent);
+        return Verdict::Refused(Refusal::SelectorPastExtent);
     }
-    Outcome::Done
+    Verdict::Accepted
 }
 
 // 10, 11: a selector, if one is given.
-pub fn check_selection(extent: Extent, selection: Selection) -> Outcome
+pub fn check_selection(extent: Extent, selection: Selection) -> Verdict
     ensures { λ x. ⌜ SelectorTold extent selection x ⌝ }
 {
     match selection {
-        Selection::Full => Outcome::Done,
+        Selection::Full => Verdict::Accepted,
         Selection::Part(q) => check_selector(extent, q),
     }
 }
 
 // 12, 13: a state.
-pub fn check_state(p: UsageFlags, state: u32) -> Outcome
+pub fn check_state(p: UsageFlags, state: u32) -> Verdict
     ensures { λ x. ⌜ StateTold p state x ⌝ }
 {
     if state_reserved(p, state) {
-        return Outcome::Refused(Refusal::StateReserved);
+        return Verdict::Refused(Refusal::StateReserved);
     }
     if incompatible(p, state) {
-        return Outcome::Refused(Refusal::StateIncompatible);
+        return Verdict::Refused(Refusal::StateIncompatible);
     }
-    Outcome::Done
+    Verdict::Accepted
 }
 
 // 7 to 13: a use of one texture.
@@ -120,17 +120,15 @@ pub fn check_single(
     extent: Extent,
     selection: Selection,
     state: u32,
-) -> Outcome
+) -> Verdict
     requires { ⌜ getD (now table) texturesAt 0 ≤ 64 ⌝ }
     ensures { λ x. ⌜ UseTold (now (table .entry)) (index .0) extent selection state x ⌝ }
 {
     match check_texture(table, index, extent) {
-        Outcome::Done => match check_selection(extent, selection) {
-            Outcome::Done => check_state(flags_of(table), state),
-            Outcome::Refused(r) => Outcome::Refused(r),
-            Outcome::Conflict(k) => Outcome::Conflict(k),
+        Verdict::Accepted => match check_selection(extent, selection) {
+            Verdict::Accepted => check_state(flags_of(table), state),
+            Verdict::Refused(r) => Verdict::Refused(r),
         },
-        Outcome::Refused(r) => Outcome::Refused(r),
-        Outcome::Conflict(k) => Outcome::Conflict(k),
+        Verdict::Refused(r) => Verdict::Refused(r),
     }
 }

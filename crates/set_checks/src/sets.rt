@@ -5,9 +5,9 @@
 use crate::check_texture;
 use crate::other_extent;
 use model::Extent;
-use model::Outcome;
 use model::Refusal;
 use model::TrackerIndex;
+use model::Verdict;
 use set_storage::LAYER_LIMIT;
 use set_storage::LAYERS;
 use set_storage::MIP_LIMIT;
@@ -33,13 +33,13 @@ pub fn same_flags(table: &Table, given: &Table) -> bool
 }
 
 // 7, 8, 9: a texture with the extent that the given set has, if it owns it.
-pub fn check_owned(table: &Table, given: &Table, index: TrackerIndex) -> Outcome
+pub fn check_owned(table: &Table, given: &Table, index: TrackerIndex) -> Verdict
     requires { ⌜ (getD (now table) texturesAt 0 ≤ 64) × (index .0 < 64) ⌝ }
     ensures { λ x. ⌜ OwnedTold (now (table .entry)) (now (given .entry)) (index .0) x ⌝ }
 {
     let k = wide(index.0);
     if given[OWNED + k] == 0 {
-        return Outcome::Done;
+        return Verdict::Accepted;
     }
     let mips = given[MIPS + k];
     let layers = given[LAYERS + k];
@@ -47,12 +47,12 @@ pub fn check_owned(table: &Table, given: &Table, index: TrackerIndex) -> Outcome
 }
 
 // 7, 8, 9: a listed index, which is to be below the given set's N.
-pub fn check_listed(table: &Table, given: &Table, index: TrackerIndex) -> Outcome
+pub fn check_listed(table: &Table, given: &Table, index: TrackerIndex) -> Verdict
     requires { ⌜ (getD (now table) texturesAt 0 ≤ 64) × (getD (now given) texturesAt 0 ≤ 64) ⌝ }
     ensures { λ x. ⌜ ListedTold (now (table .entry)) (now (given .entry)) (index .0) x ⌝ }
 {
     if given[TEXTURES] <= index.0 {
-        return Outcome::Refused(Refusal::NoSuchIndex(index));
+        return Verdict::Refused(Refusal::NoSuchIndex(index));
     }
     check_owned(table, given, index)
 }
@@ -86,7 +86,7 @@ fn all_pass(table: &Table, given: &Table, n: usize) -> bool
 }
 
 // 7 to 9: every texture that a given set owns, ascending, up to the first that does not pass.
-fn check_each(table: &Table, given: &Table) -> Outcome
+fn check_each(table: &Table, given: &Table) -> Verdict
     requires { ⌜ (getD (now table) texturesAt 0 ≤ 64) × (getD (now given) texturesAt 0 ≤ 64) ⌝ }
     requires { ⌜ sameFlags (flagsOf (now table)) (flagsOf (now given)) ≡ true ⌝ }
     ensures { λ x. ⌜ SetTold (now (table .entry)) (now (given .entry)) x ⌝ }
@@ -95,21 +95,20 @@ fn check_each(table: &Table, given: &Table) -> Outcome
     let mut i = 0;
     while i < n {
         match check_owned(table, given, TrackerIndex(i)) {
-            Outcome::Done => i += 1,
-            Outcome::Refused(r) => return Outcome::Refused(r),
-            Outcome::Conflict(k) => return Outcome::Conflict(k),
+            Verdict::Accepted => i += 1,
+            Verdict::Refused(r) => return Verdict::Refused(r),
         }
     }
-    Outcome::Done
+    Verdict::Accepted
 }
 
 // 6 to 9: every texture that a given set owns. Nearly always all pass; only where one may not are they looked at one by one.
-pub fn check_set(table: &Table, given: &Table) -> Outcome
+pub fn check_set(table: &Table, given: &Table) -> Verdict
     requires { ⌜ (getD (now table) texturesAt 0 ≤ 64) × (getD (now given) texturesAt 0 ≤ 64) ⌝ }
     ensures { λ x. ⌜ SetTold (now (table .entry)) (now (given .entry)) x ⌝ }
 {
     if !same_flags(table, given) {
-        return Outcome::Refused(Refusal::FlagsDiffer);
+        return Verdict::Refused(Refusal::FlagsDiffer);
     }
     if table[TEXTURES] < given[TEXTURES] {
         return check_each(table, given);
@@ -117,25 +116,24 @@ pub fn check_set(table: &Table, given: &Table) -> Outcome
     if !all_pass(table, given, wide(given[TEXTURES])) {
         return check_each(table, given);
     }
-    Outcome::Done
+    Verdict::Accepted
 }
 
 // 6 to 9: the listed textures, in list order.
-pub fn check_sparse(table: &Table, given: &Table, indices: &[u32]) -> Outcome
+pub fn check_sparse(table: &Table, given: &Table, indices: &[u32]) -> Verdict
     requires { ⌜ (getD (now table) texturesAt 0 ≤ 64) × (getD (now given) texturesAt 0 ≤ 64) ⌝ }
     ensures { λ x. ⌜ SparseTold (now (table .entry)) (now (given .entry)) (now (indices .entry)) x ⌝ }
 {
     if !same_flags(table, given) {
-        return Outcome::Refused(Refusal::FlagsDiffer);
+        return Verdict::Refused(Refusal::FlagsDiffer);
     }
     let mut k = 0;
     while k < indices.len() {
         let i = indices[k];
         match check_listed(table, given, TrackerIndex(i)) {
-            Outcome::Done => k += 1,
-            Outcome::Refused(r) => return Outcome::Refused(r),
-            Outcome::Conflict(c) => return Outcome::Conflict(c),
+            Verdict::Accepted => k += 1,
+            Verdict::Refused(r) => return Verdict::Refused(r),
         }
     }
-    Outcome::Done
+    Verdict::Accepted
 }

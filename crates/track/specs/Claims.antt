@@ -12,13 +12,14 @@ use Rattle.model.specs.declared.TrackerIndex.{TrackerIndex}
 use Rattle.model.specs.Sets.{Set}
 use Rattle.model.specs.Calls.{callMergeSingle, newly}
 use Rattle.model.specs.Texture.{ranged}
-use Rattle.set_ready.specs.Answers.{turnedAway}
+use Rattle.model.specs.Log.{isRefused}
 use Rattle.agreement.specs.Shared.{afterCalls}
-use Rattle.agreement.specs.WellFormedSets.{All}
 use Rattle.agreement.specs.WebGpu.{Usage, Renders, Histories, histories, InConflict, GivenUsage, NotCompatible}
-use Rattle.track.specs.Trace.{LentScope, Lent, scopeIn, viewOf, Ready, ScopeOpening, TrackerOpening, scopeAsked, trackerAsked, openedSets, Step, Trace, callsOf, setsAfter, seenOutcome, ModelAlong}
+use Rattle.set_storage.specs.Lent.{LentScope, scopeIn}
+use Rattle.track.specs.Trace.{Lent, viewOf, Ready, ScopeOpening, TrackerOpening, scopeAsked, trackerAsked, openedSets, Step, Trace, callsOf, setsAfter, seenOutcome, ModelAlong}
 use Rattle.track.specs.TraceLaws.{trace-runs, model-runs}
 use Rattle.track.specs.UsageLaws.{trace-judged}
+use Rattle.model.specs.ListLaws.{All}
 
 -- ---- The ranged model's run of the same calls: each step is its call, and at the end the numbers hold its sets
 -- "the port gives what the Rust gives: every strip range by range, start and end states, clashes, and pending transitions in their order", the Rust on lists
@@ -37,7 +38,7 @@ runs-from = model-runs
 pub webgpu : (bit : Usage → ℕ) (scopes : List ScopeOpening) (trackers : List TrackerOpening) (steps : List Step) (s : Step)
     → Trace (openedSets scopes trackers) (steps ++ (s ∷ [])) → All (GivenUsage bit) (callsOf steps)
     → (n : ℕ) (i : TrackerIndex) (sh : Extent) (sel : Option Selector) (u : Usage) → s .call ≡ callMergeSingle n i sh sel (bit u)
-    → (a : LentScope) → getElem? (setsAfter (openedSets scopes trackers) steps .scopes) n ≡ some a → Renders (scopeIn a .flags) bit → turnedAway (s .answered .outcome) ≡ false
+    → (a : LentScope) → getElem? (setsAfter (openedSets scopes trackers) steps .scopes) n ≡ some a → Renders (scopeIn a .flags) bit → isRefused (s .answered .outcome) ≡ false
     → (h : Set Histories) × (getElem? (afterCalls histories (callsOf steps) (newly histories (map scopeAsked scopes) (map trackerAsked trackers)) .scopes) n ≡ some h)
     × (InConflict (seenOutcome (s .answered .outcome)) ↔ NotCompatible bit h (i .0) sh sel u)
 webgpu = trace-judged

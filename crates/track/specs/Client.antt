@@ -11,7 +11,7 @@ use Rattle.model.specs.Sets.{Opening}
 use Rattle.model.specs.StateRules.{Move}
 use Rattle.agreement.specs.Grid.{SubresourceConflict, grid}
 use Rattle.call_open.specs.Open.{asked}
-use Rattle.call_set.specs.declared.Answered.{Answered}
+use Rattle.model.specs.declared.Answered.{Answered}
 use Rattle.track.specs.Trace.{Step}
 
 -- 01's bench samples: their flags, and a tracker of 1 texture, 2 mips and 4 layers

@@ -1,9 +1,9 @@
 -- The client's calls are a trace: newly opened, the log emptied before each of two calls, with a free entry for every subresource.
 use mathlib.Core.Bool.{Bool, true, false}
-use mathlib.Core.List.{List, [], _∷_, map}
+use mathlib.Core.List.{List, [], _∷_}
 use mathlib.Core.Option.{Option, none, some}
 use mathlib.Core.Path.{_≡_, refl, sym, ap, subst, _∙_}
-use Prim.Native.Nat.{ℕ, _+_, _-_, _/_, _≤_, _<_, min}
+use Prim.Native.Nat.{ℕ, _+_, _-_, _/_, _≤_, min}
 use native.Mathlib.Nat.{le-trans, le-min}
 use native.Mathlib.Omega.{arith}
 use lib.Dec.{ltb}
@@ -21,7 +21,7 @@ use Rattle.model.specs.Base.{if_then_else_}
 use Rattle.model.specs.Flags.{flagsFit}
 use Rattle.model.specs.Sets.{Numbers, Tracker, capacity}
 use Rattle.model.specs.Refusals.{firstFailing, openingRefusal, opens}
-use Rattle.model.specs.Calls.{Answer, done, refused, inConflict, CallResult, Call, callSetSingle, setSingle, Sets, step}
+use Rattle.model.specs.Calls.{Answer, done, refused, inConflict, CallResult, Call, callSetSingle, setSingle}
 use Rattle.model.specs.Texture.{Held, Entry, ranged}
 use Rattle.model.specs.Log.{Log, Logged, pending, logging, unlessLogged, refusalOf, orNext, setsCheck, headCheck, freeCheck}
 use Rattle.set_storage.specs.Storage.{numbersOf, trackerOf}
@@ -31,14 +31,16 @@ use Rattle.agreement.specs.WellFormedSets.{Word}
 use Rattle.agreement.specs.LogBound.{capacityOf, ownedOf}
 use Rattle.agreement.specs.Claims.{owned-within}
 use Rattle.call_open.specs.Open.{OpenedTracker}
-use Rattle.call_set.specs.declared.Answered.{Answered}
-use Rattle.call_set.specs.Tracked.{logOf}
-use Rattle.track.specs.Trace.{LentTracker, Lent, trackerIn, trackerTest, viewOf, Ready, TrackerOpening, trackerAsked, openedSets, SetSingle, Emptying, Step, Meets, Trace, SharedAt}
+use Rattle.model.specs.declared.Answered.{Answered}
+use Rattle.track.specs.Trace.{Lent, viewOf, Ready, TrackerOpening, trackerAsked, openedSets, Step, Meets, Trace, SharedAt}
 use Rattle.track.specs.LogLaws.{emptied-head}
 use Rattle.track.specs.OpenedLaws.{tracker-done, opened-ready}
 use Rattle.track.specs.TraceLaws.{ready-after, ready-fits}
 use Rattle.track.specs.Demand3.{demand3}
 use Rattle.track.specs.Client.{clientFlags, clientAsked, clientRun, clientStep}
+use Rattle.log_head.specs.Log.{logOf, Emptying}
+use Rattle.set_storage.specs.Lent.{LentTracker, trackerIn, trackerTest}
+use Rattle.call_set.specs.Contract.{SetSingle}
 
 -- ---- A call that logs moves the head on: written and free stay the same together
 module _ {X : Type 0} (log : Log) (was : X) (r : CallResult InvalidUse (List Entry) X) where
@@ -140,10 +142,10 @@ module _ {t₀ s₀ e₀ : List ℕ} {x : Outcome} {t₁ : List ℕ} (o : Opened
     sum₂ =
         let t = trackerIn (tracker t₁ s₀ e₀) in
         let z = head-sum (logOf l₀ (x₁ .head)) t (setSingle ranged t (i .0) sh sel a) (trackerTest (tracker t₁ s₀ e₀)) in
-        rw (m₂ .log .head) (z ∙ rw free₁)
+        rw (m₂ .call .log .head) (z ∙ rw free₁)
 
     room₂ : x₂ .head .written + x₂ .head .free ≤ length (entriesOf l₂)
-    room₂ = rw (sum₂, entries-long l₂, m₂ .log .long) lent
+    room₂ = rw (sum₂, entries-long l₂, m₂ .call .log .long) lent
 
     free₃ : x₃ .head ≡ record { written = 0; free = 8 }
     free₃ = let z : x₂ .head .free + x₂ .head .written ≡ 8 = omega (arith, sum₂) in rw (emptied-head l₂ (x₂ .head) x₃ room₂ m₃, z)

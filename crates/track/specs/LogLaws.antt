@@ -22,8 +22,8 @@ use Rattle.model.specs.StateRules.{Move}
 use Rattle.model.specs.Texture.{Entry}
 use Rattle.model.specs.Log.{Log, Logged, pendingOf, pending, headCheck, emptied, emptying, logging, outcomeOf}
 use Rattle.texture_barrier.specs.Entries.{entriesOf}
-use Rattle.call_set.specs.declared.Answered.{Answered}
-use Rattle.call_set.specs.Tracked.{logOf, Logs}
+use Rattle.model.specs.declared.Answered.{Answered}
+use Rattle.log_head.specs.Log.{logOf, Logs}
 use Rattle.agreement.specs.Shared.{entriesAt, loggedAt}
 use Rattle.agreement.specs.LogBound.{entries}
 use Rattle.agreement.specs.LogRoom.{entries-written}

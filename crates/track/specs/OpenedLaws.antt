@@ -17,11 +17,11 @@ use Rattle.model.specs.Calls.{newly}
 use Rattle.model.specs.Texture.{single, ranged}
 use Rattle.model.specs.WellFormed.{scopeFits, trackerFits}
 use Rattle.model.specs.Log.{verdict}
-use Rattle.agreement.specs.WellFormedSets.{All}
-use Rattle.agreement.specs.BoolLaws.{by-test, by-test₂, both, and-left}
-use Rattle.agreement.specs.ListLaws.{all-join}
+use Rattle.model.specs.ListLaws.{All, all-join}
+use Rattle.model.specs.BoolLaws.{by-test, by-test₂, both, and-left}
 use Rattle.agreement.specs.CallsAgree.{opened-fits}
-use Rattle.track.specs.Trace.{LentScope, LentTracker, scopeIn, trackerIn, viewOf, scopeTest, trackerTest, Ready, ScopeOpening, TrackerOpening, scopeAsked, trackerAsked, isDone, openedSets}
+use Rattle.set_storage.specs.Lent.{LentScope, LentTracker, scopeIn, trackerIn, scopeTest, trackerTest}
+use Rattle.track.specs.Trace.{viewOf, Ready, ScopeOpening, TrackerOpening, scopeAsked, trackerAsked, isDone, openedSets}
 
 -- an opening is done if and only if it is not refused
 done-opens : (o : Option Refusal) → isDone (verdict o) ≡ accepted o

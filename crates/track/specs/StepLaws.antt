@@ -20,18 +20,24 @@ use Rattle.model.specs.Calls.{done, CallResult, unless, Call, callMergeSingle, 
 use Rattle.model.specs.Texture.{Held, single, Entry, ranged}
 use Rattle.model.specs.WellFormed.{scopeFits, trackerFits}
 use Rattle.model.specs.Log.{pending, outcomeOf, merging, logging}
+use Rattle.model.specs.ListLaws.{All, all-set, AllO, all-elem, elem-map, set-map}
+use Rattle.model.specs.BoolLaws.{by-test, both, and-left, and-right}
 use Rattle.set_checks.specs.Head.{selectorOf}
 use Rattle.call_merge.specs.Merged.{Merged}
-use Rattle.call_set.specs.declared.Answered.{Answered}
-use Rattle.call_set.specs.Tracked.{logOf, Logs}
+use Rattle.model.specs.declared.Answered.{Answered}
+use Rattle.log_head.specs.Log.{logOf, Logs}
 use Rattle.set_storage.specs.Stays.{only}
 use Rattle.call_remove.specs.Removed.{Removed}
-use Rattle.agreement.specs.WellFormedSets.{All, Word, GivenWord}
+use Rattle.agreement.specs.WellFormedSets.{Word, GivenWord}
 use Rattle.agreement.specs.LogBound.{entries, ownedStates, ofTracker, ownedOf}
-use Rattle.agreement.specs.BoolLaws.{by-test, both, and-left, and-right}
-use Rattle.agreement.specs.ListLaws.{all-set, AllO, all-elem, elem-map, set-map}
 use Rattle.agreement.specs.EachCall.{merge-single-fits, merge-usage-scope-fits, set-single-fits, set-from-usage-scope-fits, set-from-tracker-fits, sparse-fits, set-single-owned, set-from-usage-scope-owned, set-from-tracker-owned, sparse-owned}
-use Rattle.track.specs.Trace.{LentScope, LentTracker, Lent, scopeIn, trackerIn, viewOf, scopeTest, trackerTest, Ready, Step, selectionOf, MergeSingle, MergeUsageScope, TrackerCall, SetSingle, SetFromUsageScope, SetFromTracker, SetAndRemoveSparse, LogStays, NoCall, MergedAt, TrackedAt, RemovedAt, At₁, At₂, Ran, written}
+use Rattle.set_storage.specs.Lent.{LentScope, LentTracker, scopeIn, trackerIn, scopeTest, trackerTest}
+use Rattle.call_merge.specs.Contract.{MergeSingle, MergeUsageScope}
+use Rattle.texture_track.specs.Tracked.{TrackerCall}
+use Rattle.call_set.specs.Contract.{SetSingle}
+use Rattle.call_join.specs.Contract.{SetFromUsageScope, SetFromTracker}
+use Rattle.call_remove.specs.Removed.{SetAndRemoveSparse}
+use Rattle.track.specs.Trace.{Lent, viewOf, Ready, Step, selectionOf, LogStays, NoCall, MergedAt, TrackedAt, RemovedAt, At₁, At₂, Ran, written}
 use Rattle.track.specs.LogLaws.{Empty, AsOwn, as-own}
 
 -- ---- A set that passes its test is well formed
@@ -154,11 +160,11 @@ module _ (k : Lent) (ready : Ready k) (s : Step) (empty : Empty (logOf (s .log) 
       let m = unless o (trackerIn a) out in let b = c .tracker in
       let p = subst (λ (t : Bool). TrackerCall named t m a (s .emptied .head) (s .log) (s .answered) b (s .logged)) f (c .contract) in
       let r = le-trans few room in
-      let view : trackerIn b ≡ m .after = p .view ∙ own (trackerIn a) o out d r .after in
+      let view : trackerIn b ≡ m .after = p .call .view ∙ own (trackerIn a) o out d r .after in
       record {
-        answer = logs-answer (trackerIn a) o out d r (p .log);
+        answer = logs-answer (trackerIn a) o out d r (p .call .log);
         after = ap viewOf (c .sets) ∙ ap (withTrackers ranged (viewOf k)) (set-map trackerIn (k .trackers) n b ∙ ap (set (map trackerIn (k .trackers)) n) view);
-        entries = logs-entries (trackerIn a) o out d r (p .log);
+        entries = logs-entries (trackerIn a) o out d r (p .call .log);
         ready = subst Ready (sym (c .sets)) (record {
           scopes = ready .scopes;
           trackers = all-set TrackerReady (k .trackers) n b
@@ -180,16 +186,16 @@ module _ (k : Lent) (ready : Ready k) (s : Step) (empty : Empty (logOf (s .log) 
       let p = subst (λ (t : Bool). Sparse is t r a g (s .emptied .head) (s .log) (s .answered) b (c .table) (s .logged)) f (c .contract) in
       let enough = le-trans few room in
       let after = own was o out d enough .after in
-      let view : trackerIn b ≡ r .after .0 = p .tracker ∙ ap (λ (x : Pair). x .0) after in
-      let view′ : scopeIn h ≡ r .after .1 = p .scope ∙ ap (λ (x : Pair). x .1) after in
+      let view : trackerIn b ≡ r .after .0 = ap (λ (x : Pair). x .0) (p .call .view ∙ after) in
+      let view′ : scopeIn h ≡ r .after .1 = ap (λ (x : Pair). x .1) (p .call .view ∙ after) in
       let numbers = kept o was out numbersIn same in
       record {
-        answer = logs-answer was o out d enough (p .log);
+        answer = logs-answer was o out d enough (p .call .log);
         after = ap viewOf (c .sets) ∙ (λ i. record {
           scopes = (set-map scopeIn (k .scopes) m h ∙ ap (set (map scopeIn (k .scopes)) m) view′) i;
           trackers = (set-map trackerIn (k .trackers) n b ∙ ap (set (map trackerIn (k .trackers)) n) view) i;
         });
-        entries = logs-entries was o out d enough (p .log);
+        entries = logs-entries was o out d enough (p .call .log);
         ready = subst Ready (sym (c .sets)) (record {
           scopes = all-set ScopeReady (k .scopes) m h (scope-again g h (r .after .1) view′ refl (ap (λ (x : Numbers × Numbers). x .1) numbers) (well .1) test′) (ready .scopes);
           trackers = all-set TrackerReady (k .trackers) n b

@@ -7,7 +7,6 @@ use mathlib.Core.Path.{_≡_}
 use Prim.Native.Nat.{ℕ, _+_, _/_, _≤_, min}
 use lib.Dec.{eqb}
 use lib.ListN.{length, set, getElem?, take}
-use Rattle.model.specs.declared.Extent.{Extent}
 use Rattle.model.specs.declared.InvalidUse.{InvalidUse}
 use Rattle.model.specs.declared.LogHead.{LogHead}
 use Rattle.model.specs.declared.Outcome.{Outcome}
@@ -17,67 +16,39 @@ use Rattle.model.specs.declared.Refusal.{Refusal}
 use Rattle.model.specs.declared.Selection.{Selection}
 use Rattle.model.specs.declared.Selection.the-variants.{Full, Part}
 use Rattle.model.specs.declared.Selector.{Selector}
-use Rattle.model.specs.declared.TrackerIndex.{TrackerIndex}
 use Rattle.model.specs.declared.UsageFlags.{UsageFlags}
 use Rattle.model.specs.Base.{if_then_else_, each}
 use Rattle.model.specs.Representation.{holds}
 use Rattle.model.specs.Refusals.{numberOf}
-use Rattle.model.specs.Sets.{Set, Tracker, Opening}
-use Rattle.model.specs.Calls.{Answer, done, refused, inConflict, CallResult, Call, callMergeSingle, callMergeUsageScope, callSetSingle, callSetFromUsageScope, callSetFromTracker, callSetAndRemoveSparse, mergeSingle, mergeUsageScope, setSingle, setFromUsageScope, setFromTracker, setAndRemoveSparse, Sets, step}
+use Rattle.model.specs.Sets.{Tracker, Opening}
+use Rattle.model.specs.Calls.{Answer, done, refused, inConflict, CallResult, Call, callMergeSingle, callMergeUsageScope, callSetSingle, callSetFromUsageScope, callSetFromTracker, callSetAndRemoveSparse, Sets, step}
 use Rattle.model.specs.StateRules.{Move}
 use Rattle.model.specs.Texture.{Held, Entry, ranged}
-use Rattle.model.specs.WellFormed.{wellFormedScope, wellFormedTracker}
-use Rattle.model.specs.Log.{emptying, outcomeOf, pending}
-use Rattle.set_storage.specs.Storage.{scopeOf, trackerOf}
-use Rattle.set_storage.specs.Stays.{only, ownedBy}
+use Rattle.model.specs.Log.{outcomeOf, pending}
+use Rattle.set_storage.specs.Lent.{LentScope, LentTracker, scopeIn, trackerIn, scopeTest, trackerTest}
 use Rattle.texture_barrier.specs.Entries.{entriesOf}
-use Rattle.set_checks.specs.Head.{selectorOf}
 use Rattle.agreement.specs.Grid.{Grid, SubresourceConflict, grid}
 use Rattle.agreement.specs.Shared.{gridOf, gridEnds, firstOf, seen, itself, movedAt}
-use Rattle.agreement.specs.WellFormedSets.{All, GivenWord}
+use Rattle.agreement.specs.WellFormedSets.{GivenWord}
 use Rattle.agreement.specs.LogBound.{ownedOf, listed}
 use Rattle.call_open.specs.Open.{OpenedScope, OpenedTracker, asked}
-use Rattle.call_merge.specs.Merged.{Merged}
-use Rattle.call_set.specs.declared.Answered.{Answered}
-use Rattle.call_set.specs.Tracked.{logOf, Logs, Tracked}
-use Rattle.call_remove.specs.Removed.{Removed}
+use Rattle.log_head.specs.Log.{Emptying}
+use Rattle.model.specs.declared.Answered.{Answered}
+use Rattle.call_merge.specs.Contract.{MergeSingle, MergeUsageScope}
+use Rattle.call_set.specs.Contract.{SetSingle}
+use Rattle.call_join.specs.Contract.{SetFromUsageScope, SetFromTracker}
+use Rattle.call_remove.specs.Removed.{SetAndRemoveSparse}
+use Rattle.model.specs.ListLaws.{All}
 
--- ---- What is lent: "the same scopes and trackers, however many"; nothing is asked of the numbers, nor of how many they are
--- for a scope: a table and the ranges
-pub record LentScope : Type 0 where
-  pub table : List ℕ
-  pub ranges : List ℕ
-
--- for a tracker: a table, the start's ranges and the end's
-pub record LentTracker : Type 0 where
-  pub table : List ℕ
-  pub starts : List ℕ
-  pub ends : List ℕ
-
--- for all of them
+-- ---- What is lent: "the same scopes and trackers, however many"
+-- for all scopes and trackers
 pub record Lent : Type 0 where
   pub scopes : List LentScope
   pub trackers : List LentTracker
 
--- the scope that the numbers hold
-abbrev pub scopeIn : LentScope → Set Held
-scopeIn s = scopeOf (s .table) (s .ranges)
-
--- and the tracker
-abbrev pub trackerIn : LentTracker → Tracker Held
-trackerIn t = trackerOf (t .table) (t .starts) (t .ends)
-
 -- "One stores each mip as a run of layer ranges, as the Rust does.": all sets that the numbers hold
 abbrev pub viewOf : Lent → Sets ranged
 viewOf k = record { scopes = map scopeIn (k .scopes); trackers = map trackerIn (k .trackers) }
-
--- whether a scope is well formed, with the room that is lent for it (01: sound)
-abbrev pub scopeTest : LentScope → Bool
-scopeTest s = wellFormedScope (length (s .ranges) / 3) (scopeIn s)
-
--- and a tracker
-abbrev pub trackerTest : LentTracker → Bool
-trackerTest t = wellFormedTracker (length (t .starts) / 3) (length (t .ends) / 3) (trackerIn t)
 
 -- every set is well formed, with its room
 pub record Ready (k : Lent) : Type 0 where
@@ -131,44 +102,6 @@ openedSets scopes trackers = record {
   scopes = each (λ o. if isDone (o .outcome) then record { table = o .opened; ranges = o .ranges } ∷ [] else []) scopes;
   trackers = each (λ o. if isDone (o .outcome) then record { table = o .opened; starts = o .starts; ends = o .ends } ∷ [] else []) trackers;
 }
-
--- ---- The contracts, as the `ensures` of each call has them: a primed name is what the call left of what was lent
--- `merge_single`
-abbrev pub MergeSingle : LentScope → TrackerIndex → Extent → Selection → ℕ → Outcome → LentScope → Type 0
-MergeSingle s i sh q st x s′ =
-    Merged (only (i .0)) (scopeTest s) (mergeSingle ranged (scopeIn s) (i .0) sh (selectorOf q) st) (s .table) (s .ranges) x (s′ .table) (s′ .ranges)
-
--- `merge_usage_scope`: the given scope g is only read
-abbrev pub MergeUsageScope : LentScope → LentScope → Outcome → LentScope → Type 0
-MergeUsageScope s g x s′ =
-    Merged (ownedBy (g .table)) (scopeTest s && scopeTest g) (mergeUsageScope ranged (scopeIn s) (scopeIn g)) (s .table) (s .ranges) x (s′ .table) (s′ .ranges)
-
--- a call into a tracker, with a log l and its head h: m is the model's call, `named` are the indices that it names, and `fits` says whether every set that
--- it is handed is well formed
-abbrev pub TrackerCall : (ℕ → Type 0) → Bool → CallResult InvalidUse (List Entry) (Tracker Held) → LentTracker → LogHead → List ℕ → Answered → LentTracker → List ℕ → Type 0
-TrackerCall named fits m t h l x t′ l′ = Tracked named fits m h (t .table) (t .starts) (t .ends) l x (t′ .table) (t′ .starts) (t′ .ends) l′
-
--- `set_single`
-abbrev pub SetSingle : LentTracker → TrackerIndex → Extent → Selector → ℕ → LogHead → List ℕ → Answered → LentTracker → List ℕ → Type 0
-SetSingle t i sh sel st = TrackerCall (only (i .0)) (trackerTest t) (setSingle ranged (trackerIn t) (i .0) sh sel st) t
-
--- `set_from_usage_scope`: the given scope g is only read
-abbrev pub SetFromUsageScope : LentTracker → LentScope → LogHead → List ℕ → Answered → LentTracker → List ℕ → Type 0
-SetFromUsageScope t g = TrackerCall (ownedBy (g .table)) (trackerTest t && scopeTest g) (setFromUsageScope ranged (trackerIn t) (scopeIn g)) t
-
--- `set_from_tracker`: the given tracker g is only read
-abbrev pub SetFromTracker : LentTracker → LentTracker → LogHead → List ℕ → Answered → LentTracker → List ℕ → Type 0
-SetFromTracker t g = TrackerCall (ownedBy (g .table)) (trackerTest t && trackerTest g) (setFromTracker ranged (trackerIn t) (trackerIn g)) t
-
--- `set_and_remove_from_usage_scope_sparse`: the scope's table becomes g′, its ranges are only read
-abbrev pub SetAndRemoveSparse : LentTracker → LentScope → List ℕ → LogHead → List ℕ → Answered → LentTracker → List ℕ → List ℕ → Type 0
-SetAndRemoveSparse t g is h l x t′ g′ l′ =
-    Removed is (trackerTest t && scopeTest g) (setAndRemoveSparse ranged (trackerIn t) (scopeIn g) is) h (t .table) (t .starts) (t .ends) (g .table) (g .ranges) l
-    x (t′ .table) (t′ .starts) (t′ .ends) g′ l′
-
--- emptying: the log is only read
-abbrev pub Emptying : LogHead → List ℕ → Answered → Type 0
-Emptying h l x = Logs (emptying (logOf l h)) l x l
 
 -- ---- One step: the log is emptied, then a call is made
 pub record Step : Type 0 where

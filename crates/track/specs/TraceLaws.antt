@@ -1,11 +1,11 @@
 -- Every trace from well-formed storage is, step by step, the ranged model's run, and so shares with the grid's what demand 3 lists.
-use mathlib.Core.Bool.{true, false}
+use mathlib.Core.Bool.{true, false, Bool, true≢false}
 use mathlib.Core.List.{List, [], _∷_, map}
 use mathlib.Core.Option.{Option}
 use mathlib.Core.Path.{_≡_, refl, sym, ap, subst, _∙_}
-use Prim.Native.Nat.{ℕ, _≤_}
+use Prim.Native.Nat.{ℕ}
 use native.Mathlib.Omega.{arith}
-use borrow.Author.Tests.{ne-eqb}
+use lib.Dec.{eqb}
 use Rattle.model.specs.declared.InvalidUse.{InvalidUse}
 use Rattle.model.specs.declared.Outcome.the-variants.{Done, Refused}
 use Rattle.model.specs.declared.Refusal.{Refusal}
@@ -16,16 +16,18 @@ use Rattle.model.specs.StateRules.{Move}
 use Rattle.model.specs.Texture.{Held, ranged}
 use Rattle.model.specs.WellFormed.{scopeFits, trackerFits}
 use Rattle.model.specs.Log.{outcomeOf}
+use Rattle.model.specs.BoolLaws.{both}
+use Rattle.model.specs.ListLaws.{all-every, all-map}
+use Rattle.model.specs.Base.{if_then_else_}
 use Rattle.agreement.specs.Grid.{SubresourceConflict, grid}
 use Rattle.agreement.specs.Shared.{gridOf, gridEnds, toGrids, seenAnswer, seen, Shares, Agree, afterCalls}
 use Rattle.agreement.specs.WellFormedSets.{wellFormed}
 use Rattle.agreement.specs.LogBound.{listed}
-use Rattle.agreement.specs.BoolLaws.{both, all-every}
-use Rattle.agreement.specs.ListLaws.{all-map}
 use Rattle.agreement.specs.Agree.{opened-grids}
 use Rattle.agreement.specs.CallsAgree.{agrees-from}
 use Rattle.agreement.specs.OwnRefusals.{own-refusals}
-use Rattle.track.specs.Trace.{LentScope, LentTracker, Lent, scopeIn, trackerIn, viewOf, scopeTest, trackerTest, Ready, ScopeOpening, TrackerOpening, scopeAsked, trackerAsked, openedSets, Step, Meets, Trace, callsOf, setsAfter, seenOutcome, SharedAt, SharedAlong, IsModel, ModelAlong}
+use Rattle.set_storage.specs.Lent.{LentScope, LentTracker, scopeIn, trackerIn, scopeTest, trackerTest}
+use Rattle.track.specs.Trace.{Lent, viewOf, Ready, ScopeOpening, TrackerOpening, scopeAsked, trackerAsked, openedSets, Step, Meets, Trace, callsOf, setsAfter, seenOutcome, SharedAt, SharedAlong, IsModel, ModelAlong}
 use Rattle.track.specs.LogLaws.{empty-log, transitions-logged}
 use Rattle.track.specs.OpenedLaws.{opened-view, opened-ready}
 use Rattle.track.specs.StepLaws.{scope-well, tracker-well, Follows, follows}
@@ -49,12 +51,20 @@ steps-on k ready s m =
 is-model : (s : Step) (m : Sets ranged) → Follows (step ranged (s .call) m) s → IsModel s (step ranged (s .call) m)
 is-model s m f = record { answer = f .answer; after = f .after; entries = f .entries }
 
--- a number from 6 to 13 is none of these
-not-lent : (n : ℕ) → (6 ≤ n) × (n ≤ 13) → listed n (4 ∷ 5 ∷ 15 ∷ []) ≡ false
-not-lent n h = rw (ne-eqb 4 n (λ e. omega (arith, h .0)), ne-eqb 5 n (λ e. omega (arith, h .0)), ne-eqb 15 n (λ e. omega (arith, h .1)))
+-- a number that is none of these is none of some of them
+fewer : (n : ℕ) (i : ℕ) (is : List ℕ) → listed n (i ∷ is) ≡ false → (eqb i n ≡ false) × (listed n is ≡ false)
+fewer n i is h = go (eqb i n) h
+  where
+    go : (b : Bool) → (if b then true else listed n is) ≡ false → (b ≡ false) × (listed n is ≡ false)
+    go true h = absurd (true≢false h)
+    go false h = (refl, h)
 
-not-opening : (n : ℕ) → (6 ≤ n) × (n ≤ 13) → listed n (1 ∷ 2 ∷ 3 ∷ 14 ∷ []) ≡ false
-not-opening n h = rw (ne-eqb 1 n (λ e. omega (arith, h .0)), ne-eqb 2 n (λ e. omega (arith, h .0)), ne-eqb 3 n (λ e. omega (arith, h .0)), ne-eqb 14 n (λ e. omega (arith, h .1)))
+not-own : (n : ℕ) → listed n (1 ∷ 2 ∷ 3 ∷ 4 ∷ 5 ∷ 14 ∷ 15 ∷ []) ≡ false → (listed n (4 ∷ 5 ∷ 15 ∷ []) ≡ false) × (listed n (1 ∷ 2 ∷ 3 ∷ 14 ∷ []) ≡ false)
+not-own n h =
+    let a = fewer n 1 (2 ∷ 3 ∷ 4 ∷ 5 ∷ 14 ∷ 15 ∷ []) h in let b = fewer n 2 (3 ∷ 4 ∷ 5 ∷ 14 ∷ 15 ∷ []) (a .1) in
+    let c = fewer n 3 (4 ∷ 5 ∷ 14 ∷ 15 ∷ []) (b .1) in let d = fewer n 4 (5 ∷ 14 ∷ 15 ∷ []) (c .1) in
+    let e = fewer n 5 (14 ∷ 15 ∷ []) (d .1) in let f = fewer n 14 (15 ∷ []) (e .1) in
+    (rw (d .0, e .0) (f .1), rw (a .0, b .0, c .0, f .0))
 
 -- and what it shares with the grid's
 share-step : (k : Lent) (s : Step) (g : CallResult SubresourceConflict (List (List (Option Move))) (Sets grid)) → s .emptied .outcome ≡ Done
@@ -67,12 +77,12 @@ share-step k s g e f a =
       trackers = ap (λ (x : Sets ranged). map (λ (t : Tracker Held). seen gridEnds (t .set)) (x .trackers)) (f .after) ∙ a .trackers;
       transitions = λ i m l. rw (f .entries, transitions-logged i m l (r .log)) (a .moves i m l);
       once = λ i m l. rw (f .entries, transitions-logged i m l (r .log)) (a .once i m l);
-      refusals = λ x h. not-lent (numberOf x) (own x h);
-      others = λ x h. not-opening (numberOf x) (own x h);
+      refusals = λ x h. not-own (numberOf x) (own x h) .0;
+      others = λ x h. not-own (numberOf x) (own x h) .1;
       emptied = e;
     }
   where
-    own : (x : Refusal) → s .answered .outcome ≡ Refused x → (6 ≤ numberOf x) × (numberOf x ≤ 13)
+    own : (x : Refusal) → s .answered .outcome ≡ Refused x → listed (numberOf x) (1 ∷ 2 ∷ 3 ∷ 4 ∷ 5 ∷ 14 ∷ 15 ∷ []) ≡ false
     own x h = own-refusals ranged (s .call) (viewOf k) x (told-refused (step ranged (s .call) (viewOf k) .answer) x (sym (f .answer) ∙ h))
 
 -- ---- Every step, from well-formed sets

@@ -1,7 +1,7 @@
 -- "More room is ignored", of the public calls' own contracts: what no call changes, whatever it answers.
-use Prim.Native.Nat.{ℕ, _+_, _*_, _≤_, _<_}
+use Prim.Native.Nat.{ℕ, _≤_, _<_}
 use mathlib.Core.Path.{_≡_}
-use mathlib.Core.Bool.{true, false}
+use mathlib.Core.Bool.{false}
 use mathlib.Core.List.{List}
 use lib.ListN.{getD}
 use Rattle.model.specs.declared.Extent.{Extent}
@@ -10,13 +10,17 @@ use Rattle.model.specs.declared.Outcome.{Outcome}
 use Rattle.model.specs.declared.Selection.{Selection}
 use Rattle.model.specs.declared.Selector.{Selector}
 use Rattle.model.specs.declared.TrackerIndex.{TrackerIndex}
-use Rattle.set_storage.specs.Storage.{numbersOf, ownedOf, tableIndices, rangesAt, texturesAt}
+use Rattle.set_storage.specs.Storage.{numbersOf, tableIndices, rangesAt, texturesAt}
 use Rattle.set_storage.specs.Stays.{only, ownedBy, ScopeFrame, TrackerFrame}
-use Rattle.set_ready.specs.Answers.{turnedAway}
+use Rattle.model.specs.Log.{isRefused}
 use Rattle.set_ready.specs.Named.{within, WordsStay, scope-room, scope-past, scope-unnamed, tracker-room, tracker-past, tracker-unnamed}
-use Rattle.call_set.specs.declared.Answered.{Answered}
+use Rattle.model.specs.declared.Answered.{Answered}
 use Rattle.call_remove.specs.Gone.{Listed, disowned}
-use Rattle.track.specs.Trace.{LentScope, LentTracker, MergeSingle, MergeUsageScope, SetSingle, SetFromUsageScope, SetFromTracker, SetAndRemoveSparse}
+use Rattle.set_storage.specs.Lent.{LentScope, LentTracker}
+use Rattle.call_merge.specs.Contract.{MergeSingle, MergeUsageScope}
+use Rattle.call_set.specs.Contract.{SetSingle}
+use Rattle.call_join.specs.Contract.{SetFromUsageScope, SetFromTracker}
+use Rattle.call_remove.specs.Removed.{SetAndRemoveSparse}
 
 -- ---- Of a scope: every number from 3 × N × M × W on, every word of an index from N on, every word of a texture that is not named
 pub record ScopeUntouched (named : ℕ → Type 0) (s s′ : LentScope) : Type 0 where
@@ -53,5 +57,5 @@ module _ (t t′ : LentTracker) (h : LogHead) (l : List ℕ) (x : Answered) (l�
   set-from-tracker-leaves g c = untouched₂ t t′ (c .stays)
 
   -- the scope's table g′ is equated
-  pub sparse-leaves : (g : LentScope) (is g′ : List ℕ) → SetAndRemoveSparse t g is h l x t′ g′ l′ → TrackerUntouched (Listed is (g .table)) t t′ × (turnedAway (x .outcome) ≡ false → g′ ≡ disowned is (g .table))
+  pub sparse-leaves : (g : LentScope) (is g′ : List ℕ) → SetAndRemoveSparse t g is h l x t′ g′ l′ → TrackerUntouched (Listed is (g .table)) t t′ × (isRefused (x .outcome) ≡ false → g′ ≡ disowned is (g .table))
   sparse-leaves g is g′ c = (untouched₂ t t′ (c .stays), c .gone)

@@ -16,16 +16,16 @@ use Rattle.model.specs.Sets.{Set, headOf}
 use Rattle.model.specs.Refusals.{singleRefusal}
 use Rattle.model.specs.Calls.{Answer, done, refused, inConflict, Call, callMergeSingle, Sets, step, newly}
 use Rattle.model.specs.Texture.{Held, ranged}
-use Rattle.model.specs.Log.{outcomeOf}
-use Rattle.set_ready.specs.Answers.{turnedAway}
+use Rattle.model.specs.Log.{isRefused, outcomeOf}
 use Rattle.agreement.specs.Shared.{seenAnswer, afterCalls}
-use Rattle.agreement.specs.WellFormedSets.{All, GivenWord}
+use Rattle.agreement.specs.WellFormedSets.{GivenWord}
 use Rattle.agreement.specs.WebGpu.{Usage, Renders, Histories, histories, InConflict, GivenUsage, NotCompatible}
-use Rattle.agreement.specs.ListLaws.{elem-map}
 use Rattle.agreement.specs.UsagesJudged.{usages-judged}
-use Rattle.track.specs.Trace.{LentScope, Lent, scopeIn, viewOf, ScopeOpening, TrackerOpening, scopeAsked, trackerAsked, openedSets, Step, Meets, Trace, callsOf, setsAfter, seenOutcome}
+use Rattle.set_storage.specs.Lent.{LentScope, scopeIn}
+use Rattle.track.specs.Trace.{Lent, viewOf, ScopeOpening, TrackerOpening, scopeAsked, trackerAsked, openedSets, Step, Meets, Trace, callsOf, setsAfter, seenOutcome}
 use Rattle.track.specs.OpenedLaws.{opened-ready}
 use Rattle.track.specs.TraceLaws.{told-seen, steps-on, ready-after, trace-runs}
+use Rattle.model.specs.ListLaws.{All, elem-map}
 
 -- ---- A trace and its last step
 front : (steps : List Step) (s : Step) (k : Lent) → Trace k (steps ++ (s ∷ [])) → Trace k steps
@@ -69,17 +69,17 @@ merge-refused k n i sh sel st r e x h = rw (e, h)
 
 -- so one that is not turned away passed them
 merge-passed : (k : Sets ranged) (n : ℕ) (i : TrackerIndex) (sh : Extent) (sel : Option Selector) (st : ℕ) (r : Set Held) → getElem? (k .scopes) n ≡ some r
-    → turnedAway (outcomeOf (step ranged (callMergeSingle n i sh sel st) k .answer)) ≡ false → singleRefusal (headOf r) (i .0) sh sel st ≡ none
+    → isRefused (outcomeOf (step ranged (callMergeSingle n i sh sel st) k .answer)) ≡ false → singleRefusal (headOf r) (i .0) sh sel st ≡ none
 merge-passed k n i sh sel st r e q = go (singleRefusal (headOf r) (i .0) sh sel st) refl
   where
     go : (o : Option Refusal) → singleRefusal (headOf r) (i .0) sh sel st ≡ o → o ≡ none
     go none h = refl
-    go (some x) h = absurd (false≢true (sym q ∙ ap (λ (a : Answer InvalidUse). turnedAway (outcomeOf a)) (merge-refused k n i sh sel st r e x h)))
+    go (some x) h = absurd (false≢true (sym q ∙ ap (λ (a : Answer InvalidUse). isRefused (outcomeOf a)) (merge-refused k n i sh sel st r e x h)))
 
 pub trace-judged : (bit : Usage → ℕ) (scopes : List ScopeOpening) (trackers : List TrackerOpening) (steps : List Step) (s : Step)
     → Trace (openedSets scopes trackers) (steps ++ (s ∷ [])) → All (GivenUsage bit) (callsOf steps)
     → (n : ℕ) (i : TrackerIndex) (sh : Extent) (sel : Option Selector) (u : Usage) → s .call ≡ callMergeSingle n i sh sel (bit u)
-    → (a : LentScope) → getElem? (setsAfter (openedSets scopes trackers) steps .scopes) n ≡ some a → Renders (scopeIn a .flags) bit → turnedAway (s .answered .outcome) ≡ false
+    → (a : LentScope) → getElem? (setsAfter (openedSets scopes trackers) steps .scopes) n ≡ some a → Renders (scopeIn a .flags) bit → isRefused (s .answered .outcome) ≡ false
     → (h : Set Histories) × (getElem? (afterCalls histories (callsOf steps) (newly histories (map scopeAsked scopes) (map trackerAsked trackers)) .scopes) n ≡ some h)
     × (InConflict (seenOutcome (s .answered .outcome)) ↔ NotCompatible bit h (i .0) sh sel u)
 trace-judged bit ss ts steps s t g n i sh sel u call a at r passed =
@@ -91,6 +91,6 @@ trace-judged bit ss ts steps s t g n i sh sel u call a at r passed =
     let f = steps-on (setsAfter k steps) (ready-after steps k (opened-ready ss ts) (front steps s k t)) s m .1 in
     let told : s .answered .outcome ≡ outcomeOf (step ranged c KR .answer) = f .answer ∙ ap (λ (x : Call). outcomeOf (step ranged x (viewOf (setsAfter k steps)) .answer)) call ∙ ap (λ (x : Sets ranged). outcomeOf (step ranged c x .answer)) run in
     let there : getElem? (KR .scopes) n ≡ some (scopeIn a) = ap (λ (x : Sets ranged). getElem? (x .scopes) n) (sym run) ∙ elem-map scopeIn (setsAfter k steps .scopes) n ∙ ap (Option·map scopeIn) at in
-    let fine = merge-passed KR n i sh sel (bit u) (scopeIn a) there (ap turnedAway (sym told) ∙ passed) in
+    let fine = merge-passed KR n i sh sel (bit u) (scopeIn a) there (ap isRefused (sym told) ∙ passed) in
     let j = usages-judged bit (map scopeAsked ss) (map trackerAsked ts) (callsOf steps) (given-words steps k (front steps s k t)) g n (i .0) sh sel u (subst GivenWord call (m .word)) (scopeIn a) there r fine in
     (j .0, j .1, (λ x. j .2 .0 (to-model (s .answered .outcome) (step ranged c KR .answer) told x), λ x. from-model (s .answered .outcome) (step ranged c KR .answer) told (j .2 .1 x)))

@@ -5,7 +5,7 @@
 use crate::empty_log;
 use crate::open_tracker;
 use crate::set_single;
-use call_set::Answered;
+use model::Answered;
 use model::Extent;
 use model::LogHead;
 use model::Selector;

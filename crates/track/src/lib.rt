@@ -14,10 +14,9 @@
 // entries tell the model's transitions), OpenedLaws (opened storage is the model's, and well formed), StepLaws (a step that meets its contract
 // is the model's), TraceLaws (step by step, for every trace) and UsageLaws (a last step that merges a usage). `client` is a program whose calls
 // are such a trace (Client, ClientLaws): what a trace asks of its steps can be met.
-use call_set::Answered;
-
 pub mod client;
 
+use model::Answered;
 use model::Extent;
 use model::LogHead;
 use model::Outcome;
@@ -26,8 +25,13 @@ use model::Selector;
 use model::TrackerIndex;
 use model::UsageFlags;
 use set_storage::Table;
+ghost use Rattle.set_storage.specs.Lent.{LentScope, LentTracker};
 ghost use Rattle.call_open.specs.Open.{OpenedScope, OpenedTracker};
-ghost use Rattle.track.specs.Trace.{MergeSingle, MergeUsageScope, SetSingle, SetFromUsageScope, SetFromTracker, SetAndRemoveSparse, Emptying};
+ghost use Rattle.call_merge.specs.Contract.{MergeSingle, MergeUsageScope};
+ghost use Rattle.call_set.specs.Contract.{SetSingle};
+ghost use Rattle.call_join.specs.Contract.{SetFromUsageScope, SetFromTracker};
+ghost use Rattle.call_remove.specs.Removed.{SetAndRemoveSparse};
+ghost use Rattle.log_head.specs.Log.{Emptying};
 
 // Opens a scope for n textures of m mips and w layers.
 pub fn open_scope(
@@ -68,7 +72,10 @@ pub fn merge_single(
     selection: Selection,
     state: u16,
 ) -> Outcome
-    ensures { λ x. ⌜ MergeSingle (record { table = now (table .entry); ranges = now (ranges .entry) }) index extent selection state x (record { table = now (table .exit); ranges = now (ranges .exit) }) ⌝ }
+    ensures { λ x.
+        let s : LentScope = record { table = now (table .entry); ranges = now (ranges .entry) } in
+        let s′ : LentScope = record { table = now (table .exit); ranges = now (ranges .exit) } in
+        ⌜ MergeSingle s index extent selection state x s′ ⌝ }
 {
     call_merge::merge_single(table, ranges, index, extent, selection, state)
 }
@@ -80,7 +87,11 @@ pub fn merge_usage_scope(
     given: &Table,
     lent: &[u32],
 ) -> Outcome
-    ensures { λ x. ⌜ MergeUsageScope (record { table = now (table .entry); ranges = now (ranges .entry) }) (record { table = now (given .entry); ranges = now (lent .entry) }) x (record { table = now (table .exit); ranges = now (ranges .exit) }) ⌝ }
+    ensures { λ x.
+        let s : LentScope = record { table = now (table .entry); ranges = now (ranges .entry) } in
+        let g : LentScope = record { table = now (given .entry); ranges = now (lent .entry) } in
+        let s′ : LentScope = record { table = now (table .exit); ranges = now (ranges .exit) } in
+        ⌜ MergeUsageScope s g x s′ ⌝ }
 {
     call_merge::merge_usage_scope(table, ranges, given, lent)
 }
@@ -97,7 +108,10 @@ pub fn set_single(
     log: &mut [u32],
     head: LogHead,
 ) -> Answered
-    ensures { λ x. ⌜ SetSingle (record { table = now (table .entry); starts = now (starts .entry); ends = now (ends .entry) }) index extent selector state head (now (log .entry)) x (record { table = now (table .exit); starts = now (starts .exit); ends = now (ends .exit) }) (now (log .exit)) ⌝ }
+    ensures { λ x.
+        let t : LentTracker = record { table = now (table .entry); starts = now (starts .entry); ends = now (ends .entry) } in
+        let t′ : LentTracker = record { table = now (table .exit); starts = now (starts .exit); ends = now (ends .exit) } in
+        ⌜ SetSingle t index extent selector state head (now (log .entry)) x t′ (now (log .exit)) ⌝ }
 {
     call_set::set_single(
         table,
@@ -122,7 +136,11 @@ pub fn set_from_usage_scope(
     log: &mut [u32],
     head: LogHead,
 ) -> Answered
-    ensures { λ x. ⌜ SetFromUsageScope (record { table = now (table .entry); starts = now (starts .entry); ends = now (ends .entry) }) (record { table = now (given .entry); ranges = now (lent .entry) }) head (now (log .entry)) x (record { table = now (table .exit); starts = now (starts .exit); ends = now (ends .exit) }) (now (log .exit)) ⌝ }
+    ensures { λ x.
+        let t : LentTracker = record { table = now (table .entry); starts = now (starts .entry); ends = now (ends .entry) } in
+        let g : LentScope = record { table = now (given .entry); ranges = now (lent .entry) } in
+        let t′ : LentTracker = record { table = now (table .exit); starts = now (starts .exit); ends = now (ends .exit) } in
+        ⌜ SetFromUsageScope t g head (now (log .entry)) x t′ (now (log .exit)) ⌝ }
 {
     call_join::set_from_usage_scope(table, starts, ends, given, lent, log, head)
 }
@@ -138,7 +156,11 @@ pub fn set_from_tracker(
     log: &mut [u32],
     head: LogHead,
 ) -> Answered
-    ensures { λ x. ⌜ SetFromTracker (record { table = now (table .entry); starts = now (starts .entry); ends = now (ends .entry) }) (record { table = now (given .entry); starts = now (first .entry); ends = now (last .entry) }) head (now (log .entry)) x (record { table = now (table .exit); starts = now (starts .exit); ends = now (ends .exit) }) (now (log .exit)) ⌝ }
+    ensures { λ x.
+        let t : LentTracker = record { table = now (table .entry); starts = now (starts .entry); ends = now (ends .entry) } in
+        let g : LentTracker = record { table = now (given .entry); starts = now (first .entry); ends = now (last .entry) } in
+        let t′ : LentTracker = record { table = now (table .exit); starts = now (starts .exit); ends = now (ends .exit) } in
+        ⌜ SetFromTracker t g head (now (log .entry)) x t′ (now (log .exit)) ⌝ }
 {
     call_join::set_from_tracker(table, starts, ends, given, first, last, log, head)
 }
@@ -154,7 +176,11 @@ pub fn set_and_remove_from_usage_scope_sparse(
     log: &mut [u32],
     head: LogHead,
 ) -> Answered
-    ensures { λ x. ⌜ SetAndRemoveSparse (record { table = now (table .entry); starts = now (starts .entry); ends = now (ends .entry) }) (record { table = now (given .entry); ranges = now (lent .entry) }) (now (indices .entry)) head (now (log .entry)) x (record { table = now (table .exit); starts = now (starts .exit); ends = now (ends .exit) }) (now (given .exit)) (now (log .exit)) ⌝ }
+    ensures { λ x.
+        let t : LentTracker = record { table = now (table .entry); starts = now (starts .entry); ends = now (ends .entry) } in
+        let g : LentScope = record { table = now (given .entry); ranges = now (lent .entry) } in
+        let t′ : LentTracker = record { table = now (table .exit); starts = now (starts .exit); ends = now (ends .exit) } in
+        ⌜ SetAndRemoveSparse t g (now (indices .entry)) head (now (log .entry)) x t′ (now (given .exit)) (now (log .exit)) ⌝ }
 {
     call_remove::set_and_remove_from_usage_scope_sparse(
         table,
@@ -172,5 +198,5 @@ pub fn set_and_remove_from_usage_scope_sparse(
 pub fn empty_log(log: &[u32], head: LogHead) -> Answered
     ensures { λ x. ⌜ Emptying head (now (log .entry)) x ⌝ }
 {
-    call_set::empty_log(log, head)
+    log_head::empty_log(log, head)
 }

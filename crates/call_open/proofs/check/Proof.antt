@@ -31,7 +31,5 @@ unfolding openingRefusal firstFailing
 returns-4 c = let n = (sym (c .before .before .before .before .before .before .before .numbers-fit .ensures) ∙ not-false _ (c .before .before .before .before .before .before .if1 .left)) in let f = (sym (c .before .before .before .before .before .flags-fit .ensures) ∙ not-false _ (c .before .before .before .before .if2 .left)) in let l = rw ((c .before .before .before .wide .ensures) .0, (c .before .before .wide2 .ensures) .0, (c .before .wide3 .ensures) .0) at (c .if3 .left) in rw (n, f, le-ltb _ _ l)
 
 pub check-spec : {M : Type 1} → statement M
-check-spec =
-    tie.close
-    (tie.spec (λ c κs. search needs) returns (λ c κs. search needs) returns-2 (λ c κs. search needs)
+check-spec = tie.close (tie.spec (λ c κs. search needs) returns (λ c κs. search needs) returns-2 (λ c κs. search needs)
     (λ c κs. search needs) mul-if3 (λ c κs. search needs) mul-if3-2 returns-3 returns-4)

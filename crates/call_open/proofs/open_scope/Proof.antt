@@ -1,6 +1,5 @@
 -- `open_scope`: what `check` answers is told, and only an opening that is not refused writes.
-use native.Mathlib.Omega.{arith}
-use Rattle.call_open.proofs.Cleared.{few-of, scope-done, scope-refused, scope-conflict}
+use Rattle.call_open.proofs.Cleared.{few-of, scope-done, scope-refused}
 use borrow.Author.Needs.{needs}
 use Rattle.call_open.proofs.open_scope.Statement.{statement}
 use Rattle.call_open.proofs.open_scope.Tie as tie
@@ -14,11 +13,6 @@ returns c = let e = (rw ((c .before .before .before .before .before .enum-told .
 returns-2 : tie.Need-returns-2
 returns-2 c = scope-refused _ _ _ _ _ _ _ (rw ((c .before .r .given) .1) at (c .before .before .before .check .ensures))
 
-returns-3 : tie.Need-returns-3
-returns-3 c = scope-conflict _ _ _ _ _ _ _ (rw ((c .before .k .given) .1) at (c .before .before .before .check .ensures))
-
 pub open-scope-spec : {M : Type 1} → statement M
-open-scope-spec =
-    tie.close
-    (tie.spec (λ c κs. search needs) (λ c κs. search needs) (λ c. search needs) (λ c κs. search needs)
-    (λ c κs. search needs) clear-requires (λ c. search needs) (λ c. search needs) returns returns-2 returns-3)
+open-scope-spec = tie.close (tie.spec (λ c κs. search needs) (λ c κs. search needs) (λ c. search needs)
+    (λ c κs. search needs) (λ c κs. search needs) clear-requires (λ c. search needs) returns returns-2)

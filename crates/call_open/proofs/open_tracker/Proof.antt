@@ -1,6 +1,5 @@
 -- `open_tracker`: what `check` answers is told, and only an opening that is not refused writes.
-use native.Mathlib.Omega.{arith}
-use Rattle.call_open.proofs.Cleared.{few-of, tracker-done, tracker-refused, tracker-conflict, any-mask}
+use Rattle.call_open.proofs.Cleared.{few-of, tracker-done, tracker-refused, any-mask}
 use borrow.Author.Needs.{needs}
 use Rattle.call_open.proofs.open_tracker.Statement.{statement}
 use Rattle.call_open.proofs.open_tracker.Tie as tie
@@ -14,12 +13,7 @@ returns c = let e = (rw ((c .before .before .before .before .before .enum-told .
 returns-2 : tie.Need-returns-2
 returns-2 c = tracker-refused _ _ _ _ _ _ _ _ _ (rw ((c .before .r .given) .1, any-mask _ _ _ _ (c .before .before .before .before .before .before .before .before .before .args .mask) _, (c .before .before .before .before .smaller .ensures)) at (c .before .before .before .check .ensures))
 
-returns-3 : tie.Need-returns-3
-returns-3 c = tracker-conflict _ _ _ _ _ _ _ _ _ (rw ((c .before .k .given) .1, any-mask _ _ _ _ (c .before .before .before .before .before .before .before .before .before .args .mask) _, (c .before .before .before .before .smaller .ensures)) at (c .before .before .before .check .ensures))
-
 pub open-tracker-spec : {M : Type 1} → statement M
-open-tracker-spec =
-    tie.close
-    (tie.spec (λ c κs. search needs) (λ c κs. search needs) (λ c κs. search needs) (λ c. search needs)
-    (λ c κs. search needs) (λ c κs. search needs) clear-requires (λ c. search needs) (λ c. search needs) returns
-    returns-2 returns-3)
+open-tracker-spec = tie.close (tie.spec (λ c κs. search needs) (λ c κs. search needs) (λ c κs. search needs)
+    (λ c. search needs) (λ c κs. search needs) (λ c κs. search needs) clear-requires (λ c. search needs) returns
+    returns-2)

@@ -16,7 +16,5 @@ returns-2 : tie.Need-returns-2
 returns-2 c = coalesce-done (rw ((c .before .before .before .before .enum-told .given) .1) at (c .before .before .before .before .before .before .check-coalesce .ensures)) (c .before .before .coalesce .ensures)
 
 pub coalesce-spec : {M : Type 1} → statement M
-coalesce-spec =
-    tie.close
-    (tie.spec (λ c κs. search needs) (λ c. search needs) (λ c. search needs) coalesce-requires (λ c. search needs)
-    returns (λ c. search needs) returns-2)
+coalesce-spec = tie.close (tie.spec (λ c κs. search needs) (λ c. search needs) (λ c. search needs) coalesce-requires
+    (λ c. search needs) returns (λ c. search needs) returns-2)

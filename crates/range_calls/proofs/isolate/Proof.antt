@@ -16,7 +16,5 @@ returns-2 : tie.Need-returns-2
 returns-2 c = isolate-done (rw ((c .before .before .before .before .before .enum-told .given) .1) at ((c .before .before .before .before .before .before .before .check-isolate .ensures) (c .before .before .before .before .before .before .before .before .before .before .args .default))) (c .before .before .before .isolate .ensures)
 
 pub isolate-spec : {M : Type 1} → statement M
-isolate-spec =
-    tie.close
-    (tie.spec (λ c κs. search needs) (λ c. search needs) (λ c. search needs) isolate-requires (λ c. search needs)
-    (λ c. search needs) returns (λ c. search needs) returns-2)
+isolate-spec = tie.close (tie.spec (λ c κs. search needs) (λ c. search needs) (λ c. search needs) isolate-requires
+    (λ c. search needs) (λ c. search needs) returns (λ c. search needs) returns-2)

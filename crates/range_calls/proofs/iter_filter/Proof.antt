@@ -16,7 +16,5 @@ returns-2 : tie.Need-returns-2
 returns-2 c = filter-done (rw ((c .before .before .before .before .enum-told .given) .1) at (c .before .before .before .before .before .before .check-filter .ensures)) (c .before .before .iter-filter .ensures)
 
 pub iter-filter-spec : {M : Type 1} → statement M
-iter-filter-spec =
-    tie.close
-    (tie.spec (λ c κs. search needs) (λ c. search needs) (λ c. search needs) iter-filter-requires (λ c. search needs)
-    returns (λ c. search needs) returns-2)
+iter-filter-spec = tie.close (tie.spec (λ c κs. search needs) (λ c. search needs) (λ c. search needs)
+    iter-filter-requires (λ c. search needs) returns (λ c. search needs) returns-2)

@@ -9,8 +9,6 @@ slice-aggregate-answer-line : tie.Need-slice-aggregate-answer-line
 slice-aggregate-answer-line c = let q = length-take-le (c .before .smaller .result) (c .before .before .before .before .before .before .before .before .before .args .words .now) (c .before .smaller .ensures .1) in omega (arith, q)
 
 pub answer-spec : {M : Type 1} → statement M
-answer-spec =
-    tie.close
-    (tie.spec (λ c κs. search needs) slice-aggregate-answer-line (λ c κs. search needs) (λ c. search needs)
+answer-spec = tie.close (tie.spec (λ c κs. search needs) slice-aggregate-answer-line (λ c κs. search needs)
     (λ c. search needs) (λ c. search needs) (λ c. search needs) (λ c. search needs) (λ c. search needs)
-    (λ c. search needs))
+    (λ c. search needs) (λ c. search needs))

@@ -1,7 +1,6 @@
 -- `check_selection`: no selector is no check.
-use native.Mathlib.Omega.{arith}
 use Rattle.model.specs.Refusals.{firstFailing}
-use Rattle.set_checks.specs.Head.{textureRefusal, selectorRefusal, stateRefusal}
+use Rattle.set_checks.specs.Head.{selectorRefusal}
 use borrow.Author.Needs.{needs}
 use Rattle.set_checks.proofs.check_selection.Statement.{statement}
 use Rattle.set_checks.proofs.check_selection.Tie as tie
@@ -14,6 +13,5 @@ returns-2 : tie.Need-returns-2
 returns-2 c = rw ((c .before .before .selection .given) .1) (c .check-selector .ensures)
 
 pub check-selection-spec : {M : Type 1} → statement M
-check-selection-spec =
-    tie.close
-    (tie.spec (λ c. search needs) (λ c. search needs) (λ c κs. search needs) returns returns-2)
+check-selection-spec = tie.close (tie.spec (λ c. search needs) (λ c. search needs) (λ c κs. search needs) returns
+    returns-2)

@@ -1,8 +1,6 @@
 -- `check_selector` is 01's table, 10 and 11.
-use native.Mathlib.Omega.{arith}
-use borrow.Author.Needs.{needs}
 use Rattle.model.specs.Refusals.{firstFailing}
-use Rattle.set_checks.specs.Head.{textureRefusal, selectorRefusal, stateRefusal}
+use Rattle.set_checks.specs.Head.{selectorRefusal}
 use Rattle.set_checks.proofs.Tests.{tests}
 use Rattle.set_checks.proofs.check_selector.Statement.{statement}
 use Rattle.set_checks.proofs.check_selector.Tie as tie
@@ -28,6 +26,4 @@ unfolding selectorRefusal firstFailing
 returns-5 c = record { is = search tests }
 
 pub check-selector-spec : {M : Type 1} → statement M
-check-selector-spec =
-    tie.close
-    (tie.spec returns returns-2 returns-3 returns-4 returns-5)
+check-selector-spec = tie.close (tie.spec returns returns-2 returns-3 returns-4 returns-5)

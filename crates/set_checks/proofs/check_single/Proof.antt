@@ -1,6 +1,5 @@
 -- `check_single`: the texture's checks, then the selector's, then the state's; the first that fails is told.
-use native.Mathlib.Omega.{arith}
-use Rattle.set_checks.proofs.Verdicts.{state-tells, selector-tells, texture-tells, selector-never, texture-never}
+use Rattle.set_checks.proofs.Verdicts.{state-tells, selector-tells, texture-tells}
 use borrow.Author.Needs.{needs}
 use Rattle.set_checks.proofs.check_single.Statement.{statement}
 use Rattle.set_checks.proofs.check_single.Tie as tie
@@ -12,17 +11,9 @@ returns-2 : tie.Need-returns-2
 returns-2 c = selector-tells (rw ((c .before .before .before .before .enum-told .given) .1) at (c .before .before .before .before .before .before .check-texture .ensures)) (rw ((c .before .r .given) .1) at (c .before .before .before .check-selection .ensures))
 
 returns-3 : tie.Need-returns-3
-returns-3 c = selector-never (rw ((c .before .k .given) .1) at (c .before .before .before .check-selection .ensures))
-
-returns-4 : tie.Need-returns-4
-returns-4 c = texture-tells (rw ((c .before .r2 .given) .1) at (c .before .before .before .check-texture .ensures))
-
-returns-5 : tie.Need-returns-5
-returns-5 c = texture-never (rw ((c .before .k2 .given) .1) at (c .before .before .before .check-texture .ensures))
+returns-3 c = texture-tells (rw ((c .before .r2 .given) .1) at (c .before .before .before .check-texture .ensures))
 
 pub check-single-spec : {M : Type 1} → statement M
-check-single-spec =
-    tie.close
-    (tie.spec (λ c κs. search needs) (λ c. search needs) (λ c κs. search needs) (λ c. search needs)
-    (λ c κs. search needs) (λ c κs. search needs) (λ c. search needs) (λ c. search needs) (λ c. search needs)
-    (λ c. search needs) returns returns-2 returns-3 returns-4 returns-5)
+check-single-spec = tie.close (tie.spec (λ c κs. search needs) (λ c. search needs) (λ c κs. search needs)
+    (λ c. search needs) (λ c κs. search needs) (λ c κs. search needs) (λ c. search needs) (λ c. search needs) returns
+    returns-2 returns-3)

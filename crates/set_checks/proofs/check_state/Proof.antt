@@ -1,8 +1,7 @@
 -- `check_state` is 01's table, 12 and 13.
-use native.Mathlib.Omega.{arith}
 use mathlib.Core.Path.{sym, _∙_}
 use Rattle.model.specs.Refusals.{firstFailing}
-use Rattle.set_checks.specs.Head.{textureRefusal, selectorRefusal, stateRefusal}
+use Rattle.set_checks.specs.Head.{stateRefusal}
 use borrow.Author.Needs.{needs}
 use Rattle.set_checks.proofs.check_state.Statement.{statement}
 use Rattle.set_checks.proofs.check_state.Tie as tie
@@ -20,6 +19,4 @@ unfolding stateRefusal firstFailing
 returns-3 c = let e = sym (c .before .before .before .state-reserved .ensures) ∙ (c .before .before .if1 .left) in let f = sym (c .before .incompatible .ensures) ∙ (c .if2 .left) in record { is = rw (e, f) }
 
 pub check-state-spec : {M : Type 1} → statement M
-check-state-spec =
-    tie.close
-    (tie.spec (λ c κs. search needs) returns (λ c κs. search needs) returns-2 returns-3)
+check-state-spec = tie.close (tie.spec (λ c κs. search needs) returns (λ c κs. search needs) returns-2 returns-3)

@@ -3,7 +3,7 @@ use native.Mathlib.Omega.{arith}
 use Rattle.set_checks.proofs.Verdicts.{extent-tells}
 use mathlib.Core.Path.{sym, _∙_}
 use Rattle.model.specs.Refusals.{firstFailing}
-use Rattle.set_checks.specs.Head.{textureRefusal, selectorRefusal, stateRefusal}
+use Rattle.set_checks.specs.Head.{textureRefusal}
 use Rattle.set_checks.proofs.Tests.{tests}
 use borrow.Author.Needs.{needs}
 use Rattle.set_checks.proofs.check_texture.Statement.{statement}
@@ -39,7 +39,5 @@ returns-7 : tie.Need-returns-7
 returns-7 c = let w = (c .before .before .wide .ensures) .0 in extent-tells _ _ _ (c .before .before .before .before .before .before .before .before .before .before .before .before .before .if1 .left) (c .before .before .before .before .before .before .before .before .before .before .before .if2 .left) (c .before .before .before .before .before .before .before .before .if3 .left) (c .before .before .before .before .before .before .if4 .left) (c .before .before .before .if5 .left) _ (sym (rw w at (c .before .other-extent .ensures)) ∙ (c .if6 .left))
 
 pub check-texture-spec : {M : Type 1} → statement M
-check-texture-spec =
-    tie.close
-    (tie.spec (λ c. search needs) returns returns-2 (λ c. search needs) returns-3 returns-4 (λ c. search needs)
-    returns-5 (λ c κs. search needs) other-extent-requires returns-6 returns-7)
+check-texture-spec = tie.close (tie.spec (λ c. search needs) returns returns-2 (λ c. search needs) returns-3 returns-4
+    (λ c. search needs) returns-5 (λ c κs. search needs) other-extent-requires returns-6 returns-7)

@@ -8,7 +8,5 @@ returns : tie.Need-returns
 returns c = other-is ((c .before .before .before .before .before .args) .table .now) ((c .before .before .before .before .before .args) .k) ((c .before .before .before .before .before .args) .extent)
 
 pub other-extent-spec : {M : Type 1} → statement M
-other-extent-spec =
-    tie.close
-    (tie.spec (λ c. search needs) (λ c. search needs) (λ c. search needs) (λ c. search needs) (λ c. search needs)
-    (λ c. search needs) (λ c. search needs) (λ c. search needs) (λ c. search needs) returns)
+other-extent-spec = tie.close (tie.spec (λ c. search needs) (λ c. search needs) (λ c. search needs) (λ c. search needs)
+    (λ c. search needs) (λ c. search needs) (λ c. search needs) (λ c. search needs) (λ c. search needs) returns)

@@ -1,7 +1,7 @@
 -- `log_set`: the entries of the indices below `k` are added, in their order.
 use Prim.Native.Nat.{_-_}
 use native.Mathlib.Omega.{arith}
-use Rattle.call_join.specs.Slot.{givenEntries}
+use Rattle.texture_track.specs.GivenSlot.{givenEntries}
 use Rattle.call_join.proofs.Adding.{Adding, adding-start, adding-room, adding-turn, adding-end}
 use Rattle.call_join.proofs.every.log_set.Statement.{statement}
 use Rattle.call_join.proofs.every.log_set.Tie as tie
@@ -11,9 +11,6 @@ Inv-loop table ends p mask given first from n log₀ at write x₀ k₀ log x k 
 
 abbrev μ-loop : tie.MeasureT-loop
 μ-loop table ends p mask given first from n log₀ at write x₀ k₀ log x k = n - k
-
-loop-holds : tie.Need-loop-holds Inv-loop μ-loop
-loop-holds c = adding-start _ _ _ _ _
 
 add-log-at : tie.Need-add-log-at Inv-loop μ-loop
 add-log-at c = let p = c .before .before .before .before .before .before .pre in let v = c .before .before .loop .inv in omega (arith, v .within, v .into .few, p .0 .few, p .1 .0, (c .before .loop-test .taken))
@@ -40,6 +37,5 @@ returns : tie.Need-returns Inv-loop μ-loop
 returns c = adding-end (c .before .loop .inv) ((c .before .before .before .before .before .pre) .0 .few) (c .loop-test .left)
 
 pub log-set-spec : {M : Type 1} → statement M
-log-set-spec =
-    tie.close
-    (tie.spec Inv-loop μ-loop loop-holds add-log-at log-at-requires add-x add-k loop-less loop-again same-length returns)
+log-set-spec = tie.close (tie.spec Inv-loop μ-loop (λ c. adding-start _ _ _ _ _) add-log-at log-at-requires add-x add-k
+    loop-less loop-again same-length returns)

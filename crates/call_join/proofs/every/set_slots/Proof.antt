@@ -4,7 +4,7 @@ use native.Mathlib.Omega.{arith}
 use Rattle.set_storage.specs.Stays.{ownedBy}
 use Rattle.set_ready.specs.Named.{within}
 use Rattle.call_join.proofs.Setting.{Setting, setting-start, setting-ready, setting-next, setting-end}
-use Rattle.call_join.specs.Slot.{slotAfter}
+use Rattle.texture_track.specs.GivenSlot.{slotAfter}
 use Rattle.call_join.proofs.every.set_slots.Statement.{statement}
 use Rattle.call_join.proofs.every.set_slots.Tie as tie
 
@@ -39,6 +39,5 @@ returns : tie.Need-returns Inv-loop μ-loop
 returns c = let p = c .before .before .before .before .before .before .pre in let v = c .before .loop .inv in setting-end _ _ (p .1 .1) (omega (arith, v .0, (c .loop-test .left), p .1 .0)) (v .1)
 
 pub set-slots-spec : {M : Type 1} → statement M
-set-slots-spec =
-    tie.close
-    (tie.spec Inv-loop μ-loop loop-holds set-at-requires add-k loop-less loop-again same-length same-length-2 returns)
+set-slots-spec = tie.close (tie.spec Inv-loop μ-loop loop-holds set-at-requires add-k loop-less loop-again same-length
+    same-length-2 returns)

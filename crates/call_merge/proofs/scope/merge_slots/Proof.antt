@@ -12,9 +12,6 @@ Inv-loop table₀ ranges₀ given lent p n k₀ table ranges k = Merging p table
 abbrev μ-loop : tie.MeasureT-loop
 μ-loop table₀ ranges₀ given lent p n k₀ table ranges k = n - k
 
-loop-holds : tie.Need-loop-holds Inv-loop μ-loop
-loop-holds c = start _ _ _ _ _
-
 merge-owned-at-requires : tie.Need-merge-owned-at-requires Inv-loop μ-loop
 merge-owned-at-requires c κs = rw ((c .wide .ensures) .0) (lap-ready (c .before .before .before .before .loop .inv) (c .before .before .before .before .before .before .before .before .pre) (c .before .before .before .loop-test .taken))
 
@@ -31,8 +28,6 @@ returns-2 : tie.Need-returns-2 Inv-loop μ-loop
 returns-2 c = finish (c .before .loop .inv) (c .loop-test .left)
 
 pub merge-slots-spec : {M : Type 1} → statement M
-merge-slots-spec =
-    tie.close
-    (tie.spec Inv-loop μ-loop (λ c. search needs) loop-holds (λ c κs. search needs) merge-owned-at-requires
-    (λ c. search needs) same-length returns (λ c. search needs) (λ c. search needs) (λ c. search needs) loop-again
-    (λ c. search needs) returns-2)
+merge-slots-spec = tie.close (tie.spec Inv-loop μ-loop (λ c. search needs) (λ c. start _ _ _ _ _) (λ c κs. search needs)
+    merge-owned-at-requires (λ c. search needs) same-length returns (λ c. search needs) (λ c. search needs)
+    (λ c. search needs) loop-again (λ c. search needs) returns-2)

@@ -3,10 +3,6 @@ use borrow.Author.Needs.{needs}
 use Rattle.call_merge.proofs.single.told.Statement.{statement}
 use Rattle.call_merge.proofs.single.told.Tie as tie
 
-returns-2 : tie.Need-returns-2
-returns-2 c = rw (((c .before .x .given)) .1)
-
 pub told-spec : {M : Type 1} → statement M
-told-spec =
-    tie.close
-    (tie.spec (λ c. search needs) (λ c. search needs) (λ c. search needs) returns-2)
+told-spec = tie.close (tie.spec (λ c. search needs) (λ c. search needs) (λ c. search needs)
+    (λ c. rw (((c .before .x .given)) .1)))

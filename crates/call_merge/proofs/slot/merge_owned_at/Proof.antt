@@ -14,8 +14,6 @@ returns-2 : tie.Need-returns-2
 returns-2 c = slot-taken (c .before .before .before .before .before .before .before .before .before .before .before .pre) (c .before .before .before .before .before .before .before .if1 .left) (c .before .before .merge-given-at .ensures)
 
 pub merge-owned-at-spec : {M : Type 1} → statement M
-merge-owned-at-spec =
-    tie.close
-    (tie.spec (λ c. search needs) (λ c. search needs) (λ c. search needs) returns (λ c. search needs)
+merge-owned-at-spec = tie.close (tie.spec (λ c. search needs) (λ c. search needs) (λ c. search needs) returns
     (λ c. search needs) (λ c. search needs) (λ c. search needs) (λ c. search needs) (λ c. search needs)
-    merge-given-at-requires (λ c. search needs) returns-2)
+    (λ c. search needs) merge-given-at-requires (λ c. search needs) returns-2)

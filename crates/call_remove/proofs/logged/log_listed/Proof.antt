@@ -50,7 +50,6 @@ returns : tie.Need-returns Inv-loop μ-loop
 returns c = adding-end (c .before .loop .inv .0) (c .loop-test .left)
 
 pub log-listed-spec : {M : Type 1} → statement M
-log-listed-spec =
-    tie.close
-    (tie.spec Inv-loop μ-loop loop-holds (λ c. search needs) (λ c. search needs) (λ c κs. search needs) array-read-again
-    add-log-listed-at log-listed-at-requires array-write-seen add-x add-k loop-less loop-again same-length returns)
+log-listed-spec = tie.close (tie.spec Inv-loop μ-loop loop-holds (λ c. search needs) (λ c. search needs)
+    (λ c κs. search needs) array-read-again add-log-listed-at log-listed-at-requires array-write-seen add-x add-k
+    loop-less loop-again same-length returns)

@@ -4,7 +4,7 @@ use mathlib.Core.Path.{sym, _∙_}
 use borrow.Author.Tests.{eq-eqb, ne-eqb}
 use Rattle.set_storage.specs.Storage.{startHalf}
 use Rattle.texture_barrier.specs.Logged.{logged-none, logged-within}
-use Rattle.call_join.proofs.Plain.{plain-entries}
+use Rattle.texture_track.proofs.Plain.{plain-entries}
 use borrow.Author.Needs.{needs}
 use Rattle.call_remove.proofs.logged.log_listed_at.Statement.{statement}
 use Rattle.call_remove.proofs.logged.log_listed_at.Tie as tie
@@ -34,8 +34,6 @@ returns-5 : tie.Need-returns-5
 returns-5 c = rw (c .before .before .before .before .before .before .before .before .before .before .if1 .left) (c .before .before .log-owned-at .ensures)
 
 pub log-listed-at-spec : {M : Type 1} → statement M
-log-listed-at-spec =
-    tie.close
-    (tie.spec returns (λ c. search needs) (λ c. search needs) (λ c. search needs) returns-2 (λ c. search needs)
-    (λ c. search needs) (λ c. search needs) returns-3 both-single-requires log-single-requires (λ c. search needs)
-    returns-4 log-owned-at-requires (λ c. search needs) returns-5)
+log-listed-at-spec = tie.close (tie.spec returns (λ c. search needs) (λ c. search needs) (λ c. search needs) returns-2
+    (λ c. search needs) (λ c. search needs) (λ c. search needs) returns-3 both-single-requires log-single-requires
+    (λ c. search needs) returns-4 log-owned-at-requires (λ c. search needs) returns-5)

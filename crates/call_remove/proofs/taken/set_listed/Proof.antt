@@ -13,9 +13,6 @@ Inv-loop table₀ starts₀ ends₀ given₀ lent indices p k₀ table starts en
 abbrev μ-loop : tie.MeasureT-loop
 μ-loop table₀ starts₀ ends₀ given₀ lent indices p k₀ table starts ends given k = length indices - k
 
-loop-holds : tie.Need-loop-holds Inv-loop μ-loop
-loop-holds c = taking-start _ _ _ _ _ _
-
 mul-wide : tie.Need-mul-wide Inv-loop μ-loop
 mul-wide c = omega (arith, (c .loop-test .taken))
 
@@ -44,7 +41,5 @@ returns : tie.Need-returns Inv-loop μ-loop
 returns c = taking-end (c .before .loop .inv) (c .loop-test .left)
 
 pub set-listed-spec : {M : Type 1} → statement M
-set-listed-spec =
-    tie.close
-    (tie.spec Inv-loop μ-loop loop-holds mul-wide shared-slice-read-wide (λ c κs. search needs) take-at-requires add-k
-    loop-less loop-again same-length same-length-2 returns)
+set-listed-spec = tie.close (tie.spec Inv-loop μ-loop (λ c. taking-start _ _ _ _ _ _) mul-wide shared-slice-read-wide
+    (λ c κs. search needs) take-at-requires add-k loop-less loop-again same-length same-length-2 returns)

@@ -1,7 +1,7 @@
 -- `set_taken`: a texture that both sets hold as Single takes a state; otherwise it is what `set_owned_at` makes.
 use native.Mathlib.Omega.{arith}
 use mathlib.Core.Path.{sym, _∙_}
-use Rattle.call_join.proofs.Plain.{plain-set}
+use Rattle.texture_track.proofs.Plain.{plain-set}
 use borrow.Author.Needs.{needs}
 use Rattle.call_remove.proofs.taken.set_taken.Statement.{statement}
 use Rattle.call_remove.proofs.taken.set_taken.Tie as tie
@@ -46,8 +46,6 @@ returns-3 : tie.Need-returns-3
 returns-3 c = (c .before .before .before .before .set-owned-at2 .ensures)
 
 pub set-taken-spec : {M : Type 1} → statement M
-set-taken-spec =
-    tie.close
-    (tie.spec add-if1 mul-if1 element-copy-out-if1 set-owned-at-requires (λ c. search needs) (λ c. search needs) returns
-    both-single-requires add-set-state mul-set-state element-copy-out-set-state set-state-requires returns-2
-    set-owned-at-requires-2 (λ c. search needs) (λ c. search needs) returns-3)
+set-taken-spec = tie.close (tie.spec add-if1 mul-if1 element-copy-out-if1 set-owned-at-requires (λ c. search needs)
+    (λ c. search needs) returns both-single-requires add-set-state mul-set-state element-copy-out-set-state
+    set-state-requires returns-2 set-owned-at-requires-2 (λ c. search needs) (λ c. search needs) returns-3)

@@ -4,9 +4,6 @@ use borrow.Author.Needs.{needs}
 use Rattle.call_remove.proofs.taken.take_at.Statement.{statement}
 use Rattle.call_remove.proofs.taken.take_at.Tie as tie
 
-returns : tie.Need-returns
-returns c = taken-not (c .if1 .taken)
-
 set-taken-requires : tie.Need-set-taken-requires
 set-taken-requires c κs = ((c .before .before .before .before .before .before .before .before .before .pre), (c .before .before .before .before .if1 .left))
 
@@ -14,7 +11,6 @@ returns-2 : tie.Need-returns-2
 returns-2 c = taken-own (c .before .before .before .before .before .before .before .before .before .if1 .left) (c .before .before .before .before .set-taken .ensures)
 
 pub take-at-spec : {M : Type 1} → statement M
-take-at-spec =
-    tie.close
-    (tie.spec (λ c. search needs) (λ c. search needs) (λ c. search needs) returns set-taken-requires (λ c. search needs)
-    (λ c. search needs) (λ c. search needs) (λ c. search needs) (λ c. search needs) returns-2)
+take-at-spec = tie.close (tie.spec (λ c. search needs) (λ c. search needs) (λ c. search needs)
+    (λ c. taken-not (c .if1 .taken)) set-taken-requires (λ c. search needs) (λ c. search needs) (λ c. search needs)
+    (λ c. search needs) (λ c. search needs) returns-2)

@@ -1,37 +1,99 @@
 -- `set_checked`: 15 where the entries do not fit; otherwise they are written, and the texture changes.
 use Prim.Native.Nat.{_/_}
 use native.Mathlib.Omega.{arith}
-use mathlib.Core.Path.{sym, _∙_}
+use mathlib.Core.Path.{refl, ap, _∙_}
+use mathlib.Core.Bool.{false≢true}
+use mathlib.Core.Logic.{⊎-elim}
 use lib.ListN.{length}
-use borrow.Author.Tests.{not-true, not-false, leb-true, leb-false}
+use Rattle.set_storage.specs.Stays.{both-refl}
 use Rattle.texture_merge.specs.Uses.{useOf}
-use Rattle.call_set.specs.Logging.{head-le}
-use Rattle.call_set.proofs.Uses.{used-few, room-for, not-enough, written}
+use Rattle.log_head.specs.Log.{head-le}
+use Rattle.log_head.specs.Adds.{adds-one}
+use Rattle.log_head.specs.Called.{Fitting, counted-fits, all-fit, not-enough, written}
+use Rattle.call_set.specs.Used.{usedEntries}
+use Rattle.call_set.proofs.Uses.{used, used-room}
 use borrow.Author.Needs.{needs}
 use Rattle.call_set.proofs.single.set_checked.Statement.{statement}
 use Rattle.call_set.proofs.single.set_checked.Tie as tie
 
-entries-fit-requires : tie.Need-entries-fit-requires
-entries-fit-requires c κs = rw (c .before .before .before .before .before .flags-of .ensures) ((c .before .before .before .before .before .before .before .before .before .before .pre .0), ((c .before .before .before .before .before .before .before .before .before .before .pre .1 .0), used-few ((c .before .before .before .before .before .before .before .before .before .before .args) .table .now) ((c .before .before .before .before .before .before .before .before .before .before .args) .starts .now) ((c .before .before .before .before .before .before .before .before .before .before .args) .ends .now) ((c .before .before .before .before .before .before .before .before .before .before .args) .log .now) ((c .before .before .before .before .before .before .before .before .before .before .args) .i) ((c .before .before .before .before .before .before .before .before .before .before .args) .extent) (useOf ((c .before .before .before .before .before .before .before .before .before .before .args) .all) ((c .before .before .before .before .before .before .before .before .before .before .args) .q) ((c .before .before .before .before .before .before .before .before .before .before .args) .new)) ((c .before .before .before .before .before .before .before .before .before .before .args) .head) (c .before .before .before .before .before .before .before .before .before .before .pre .1 .1 .0)))
-
-returns : tie.Need-returns
-returns c = rw ((c .refused .ensures), (c .before .before .before .before .entries-fit .ensures) .1) (not-enough ((c .before .before .before .before .before .before .before .before .before .before .before .before .before .before .before .args) .table .now) ((c .before .before .before .before .before .before .before .before .before .before .before .before .before .before .before .args) .starts .now) ((c .before .before .before .before .before .before .before .before .before .before .before .before .before .before .before .args) .ends .now) ((c .before .before .before .before .before .before .before .before .before .before .before .before .before .before .before .args) .log .now) ((c .before .before .before .before .before .before .before .before .before .before .before .before .before .before .before .args) .i) ((c .before .before .before .before .before .before .before .before .before .before .before .before .before .before .before .args) .extent) (useOf ((c .before .before .before .before .before .before .before .before .before .before .before .before .before .before .before .args) .all) ((c .before .before .before .before .before .before .before .before .before .before .before .before .before .before .before .args) .q) ((c .before .before .before .before .before .before .before .before .before .before .before .before .before .before .before .args) .new)) ((c .before .before .before .before .before .before .before .before .before .before .before .before .before .before .before .args) .head) (leb-false _ _ (sym (rw (c .before .before .before .before .before .before .before .before .before .before .flags-of .ensures) at ((c .before .before .before .before .entries-fit .ensures) .0)) ∙ not-true _ (c .before .if1 .taken))))
+subresources-requires : tie.Need-subresources-requires
+subresources-requires c κs =
+    let at-pre = c .before .before .before .before .before .before .before in
+    let m = (at-pre .pre .0) .start .measured in (m .textures, (m .mips, m .layers))
 
 log-use-at-requires : tie.Need-log-use-at-requires
-log-use-at-requires c κs = rw ((c .before .before .before .before .before .before .before .before .before .before .before .before .before .flags-of .ensures), (c .before .before .before .before .before .before .before .entries-fit .ensures) .1) ((c .before .before .before .before .before .before .before .before .before .before .before .before .before .before .before .before .before .before .pre .0), ((c .before .before .before .before .before .before .before .before .before .before .before .before .before .before .before .before .before .before .pre .1 .0), (omega (arith, head-le (length ((c .before .before .before .before .before .before .before .before .before .before .before .before .before .before .before .before .before .before .args) .log .now) / 7) ((c .before .before .before .before .before .before .before .before .before .before .before .before .before .before .before .before .before .before .args) .head) (c .before .before .before .before .before .before .before .before .before .before .before .before .before .before .before .before .before .before .pre .1 .1 .1 .0), (c .before .before .before .before .before .before .before .before .before .before .before .before .before .before .before .before .before .before .pre .1 .1 .1 .1)), λ w. room-for ((c .before .before .before .before .before .before .before .before .before .before .before .before .before .before .before .before .before .before .args) .table .now) ((c .before .before .before .before .before .before .before .before .before .before .before .before .before .before .before .before .before .before .args) .starts .now) ((c .before .before .before .before .before .before .before .before .before .before .before .before .before .before .before .before .before .before .args) .ends .now) ((c .before .before .before .before .before .before .before .before .before .before .before .before .before .before .before .before .before .before .args) .log .now) ((c .before .before .before .before .before .before .before .before .before .before .before .before .before .before .before .before .before .before .args) .i) ((c .before .before .before .before .before .before .before .before .before .before .before .before .before .before .before .before .before .before .args) .extent) (useOf ((c .before .before .before .before .before .before .before .before .before .before .before .before .before .before .before .before .before .before .args) .all) ((c .before .before .before .before .before .before .before .before .before .before .before .before .before .before .before .before .before .before .args) .q) ((c .before .before .before .before .before .before .before .before .before .before .before .before .before .before .before .before .before .before .args) .new)) ((c .before .before .before .before .before .before .before .before .before .before .before .before .before .before .before .before .before .before .args) .head) (c .before .before .before .before .before .before .before .before .before .before .before .before .before .before .before .before .before .before .pre .1 .1 .1 .0) (leb-true _ _ (sym (rw (c .before .before .before .before .before .before .before .before .before .before .before .before .before .flags-of .ensures) at ((c .before .before .before .before .before .before .before .entries-fit .ensures) .0)) ∙ not-false _ (c .before .before .before .before .if1 .left))))))
+log-use-at-requires c κs =
+    let at-flags-of = c .before .before .before .before .before .before .before .before in
+    let at-pre = at-flags-of .before .before .before .before .before in
+    rw (at-flags-of .flags-of .ensures) ((at-pre .pre .0), ((at-pre .pre .1 .0), (omega arith, λ w. absurd (false≢true w))))
+
+returns : tie.Need-returns
+returns c =
+    let at-log-use-at = c .before .before .before .before in
+    let at-flags-of = at-log-use-at .before .before .before .before .before .before .before .before .before in
+    let n = adds-one (rw (at-flags-of .flags-of .ensures) at (at-log-use-at .log-use-at .ensures)) in
+    rw ((c .refused .ensures), n .content) (record { change = not-enough refl (refl, (refl, refl)) (omega (arith, n .count)); frame = both-refl _ _ _ })
+
+log-use-at-requires-2 : tie.Need-log-use-at-requires-2
+log-use-at-requires-2 c κs =
+    let at-if1 = c .before .before .before .before in
+    let at-flags-of = at-if1 .before .before .before .before in
+    let at-args = at-flags-of .before .before .before .before .before in
+    let a = (at-args .args) in
+    let f : Fitting (usedEntries (a .table .now) (a .starts .now) (a .ends .now) (a .i) (a .extent) (useOf (a .all) (a .q) (a .new))) (a .head .free) (a .log .now) (at-if1 .if1 .log) =
+    ⊎-elim (λ w. counted-fits (adds-one (rw (at-flags-of .flags-of .ensures) at (w .5 .ensures))) (w .8 .left) (w .9))
+    (λ w. all-fit (at-args .pre .1 .1 .0) (at-if1 .before .subresources .ensures) (w .0 .left) (w .1)) (at-if1 .if1 .came) in
+    let h = head-le (length (a .log .now) / 7) (a .head) (at-args .pre .1 .1 .1 .0) in
+    rw ((at-flags-of .flags-of .ensures), f .same) ((at-args .pre .0), ((at-args .pre .1 .0), (omega (arith, h, (at-args .pre .1 .1 .1 .1)), λ w. used-room (a .table .now) (a .starts .now) (a .ends .now) (a .i) (a .extent) _ (a .head) (a .log .now) (at-args .pre .1 .1 .1 .0) (f .fits))))
 
 set-use-at-requires : tie.Need-set-use-at-requires
-set-use-at-requires c κs = rw (c .before .before .before .before .before .before .before .before .before .before .before .before .before .before .before .before .before .before .before .flags-of .ensures) ((c .before .before .before .before .before .before .before .before .before .before .before .before .before .before .before .before .before .before .before .before .before .before .before .before .pre .0), (c .before .before .before .before .before .before .before .before .before .before .before .before .before .before .before .before .before .before .before .before .before .before .before .before .pre .1 .0))
+set-use-at-requires c κs =
+    let at-flags-of = c .before .before .before .before .before .before .before .before .before .before .before .before .before .before in
+    let at-pre = at-flags-of .before .before .before .before .before in
+    rw (at-flags-of .flags-of .ensures) ((at-pre .pre .0), (at-pre .pre .1 .0))
 
 moved-on-requires : tie.Need-moved-on-requires
-moved-on-requires c κs = (rw ((c .before .before .before .before .before .before .before .before .before .before .log-use-at .ensures) .count, (c .before .before .before .before .before .before .before .before .before .before .before .before .before .before .before .before .before .before .before .before .before .before .before .before .flags-of .ensures)) (leb-true _ _ (sym (rw (c .before .before .before .before .before .before .before .before .before .before .before .before .before .before .before .before .before .before .before .before .before .before .before .before .flags-of .ensures) at ((c .before .before .before .before .before .before .before .before .before .before .before .before .before .before .before .before .before .before .entries-fit .ensures) .0)) ∙ not-false _ (c .before .before .before .before .before .before .before .before .before .before .before .before .before .before .before .if1 .left))), omega (arith, head-le (length ((c .before .before .before .before .before .before .before .before .before .before .before .before .before .before .before .before .before .before .before .before .before .before .before .before .before .before .before .before .before .args) .log .now) / 7) ((c .before .before .before .before .before .before .before .before .before .before .before .before .before .before .before .before .before .before .before .before .before .before .before .before .before .before .before .before .before .args) .head) (c .before .before .before .before .before .before .before .before .before .before .before .before .before .before .before .before .before .before .before .before .before .before .before .before .before .before .before .before .before .pre .1 .1 .1 .0), (c .before .before .before .before .before .before .before .before .before .before .before .before .before .before .before .before .before .before .before .before .before .before .before .before .before .before .before .before .before .pre .1 .1 .1 .1)))
+moved-on-requires c κs =
+    let at-log-use-at2 = c .before .before .before .before .before .before .before .before .before .before in
+    let at-if1 = at-log-use-at2 .before .before .before .before .before in
+    let at-flags-of = at-if1 .before .before .before .before in
+    let at-args = at-flags-of .before .before .before .before .before in
+    let a = (at-args .args) in
+    let f : Fitting (usedEntries (a .table .now) (a .starts .now) (a .ends .now) (a .i) (a .extent) (useOf (a .all) (a .q) (a .new))) (a .head .free) (a .log .now) (at-if1 .if1 .log) =
+    ⊎-elim (λ w. counted-fits (adds-one (rw (at-flags-of .flags-of .ensures) at (w .5 .ensures))) (w .8 .left) (w .9))
+    (λ w. all-fit (at-args .pre .1 .1 .0) (at-if1 .before .subresources .ensures) (w .0 .left) (w .1)) (at-if1 .if1 .came) in
+    let n = adds-one (rw (at-flags-of .flags-of .ensures) at (at-log-use-at2 .log-use-at2 .ensures)) in
+    let h = head-le (length (a .log .now) / 7) (a .head) (at-args .pre .1 .1 .1 .0) in
+    (omega (arith, n .count, f .fits), omega (arith, h, (at-args .pre .1 .1 .1 .1)))
+
+same-length-6 : tie.Need-same-length-6
+same-length-6 c =
+    let at-log-use-at2 = c .before .before .before .before .before .before .before .before .before .before .before in
+    let at-if1 = at-log-use-at2 .before .before .before .before .before in
+    let at-flags-of = at-if1 .before .before .before .before in
+    let at-args = at-flags-of .before .before .before .before .before in
+    let a = (at-args .args) in
+    let f : Fitting (usedEntries (a .table .now) (a .starts .now) (a .ends .now) (a .i) (a .extent) (useOf (a .all) (a .q) (a .new))) (a .head .free) (a .log .now) (at-if1 .if1 .log) =
+    ⊎-elim (λ w. counted-fits (adds-one (rw (at-flags-of .flags-of .ensures) at (w .5 .ensures))) (w .8 .left) (w .9))
+    (λ w. all-fit (at-args .pre .1 .1 .0) (at-if1 .before .subresources .ensures) (w .0 .left) (w .1)) (at-if1 .if1 .came) in
+    (at-log-use-at2 .log-use-at2 .ensures .long) ∙ ap length (f .same)
 
 returns-2 : tie.Need-returns-2
-returns-2 c = rw (c .moved-on .ensures) (written ((c .before .before .before .before .before .before .before .before .before .before .before .before .before .before .before .before .before .before .before .before .before .before .before .before .before .before .before .before .before .before .args) .table .now) ((c .before .before .before .before .before .before .before .before .before .before .before .before .before .before .before .before .before .before .before .before .before .before .before .before .before .before .before .before .before .before .args) .starts .now) ((c .before .before .before .before .before .before .before .before .before .before .before .before .before .before .before .before .before .before .before .before .before .before .before .before .before .before .before .before .before .before .args) .ends .now) ((c .before .before .before .before .before .before .before .before .before .before .before .before .before .before .before .before .before .before .before .before .before .before .before .before .before .before .before .before .before .before .args) .log .now) ((c .before .before .before .before .before .before .before .before .before .before .before .before .before .before .before .before .before .before .before .before .before .before .before .before .before .before .before .before .before .before .args) .i) ((c .before .before .before .before .before .before .before .before .before .before .before .before .before .before .before .before .before .before .before .before .before .before .before .before .before .before .before .before .before .before .args) .extent) (useOf ((c .before .before .before .before .before .before .before .before .before .before .before .before .before .before .before .before .before .before .before .before .before .before .before .before .before .before .before .before .before .before .args) .all) ((c .before .before .before .before .before .before .before .before .before .before .before .before .before .before .before .before .before .before .before .before .before .before .before .before .before .before .before .before .before .before .args) .q) ((c .before .before .before .before .before .before .before .before .before .before .before .before .before .before .before .before .before .before .before .before .before .before .before .before .before .before .before .before .before .before .args) .new)) ((c .before .before .before .before .before .before .before .before .before .before .before .before .before .before .before .before .before .before .before .before .before .before .before .before .before .before .before .before .before .before .args) .head) (leb-true _ _ (sym (rw (c .before .before .before .before .before .before .before .before .before .before .before .before .before .before .before .before .before .before .before .before .before .before .before .before .before .flags-of .ensures) at ((c .before .before .before .before .before .before .before .before .before .before .before .before .before .before .before .before .before .before .before .entries-fit .ensures) .0)) ∙ not-false _ (c .before .before .before .before .before .before .before .before .before .before .before .before .before .before .before .before .if1 .left))) (c .before .before .before .before .before .before .before .before .before .before .before .before .before .before .before .before .before .before .before .before .before .before .before .before .before .before .before .before .before .before .pre .1 .1 .1 .0) ((c .before .before .before .before .before .before .before .before .before .before .before .before .before .before .before .before .before .before .before .before .before .before .before .before .before .before .before .before .before .before .pre .0)) (rw ((c .before .before .before .before .before .before .before .before .before .before .before .before .before .before .before .before .before .before .before .before .before .before .before .before .before .flags-of .ensures), (c .before .before .before .before .before .before .before .before .before .before .before .before .before .before .before .before .before .before .before .entries-fit .ensures) .1) at (c .before .before .before .before .before .before .before .before .before .before .before .log-use-at .ensures)) (rw (c .before .before .before .before .before .before .before .before .before .before .before .before .before .before .before .before .before .before .before .before .before .before .before .before .before .flags-of .ensures) at (c .before .before .before .before .before .set-use-at .ensures)))
+returns-2 c =
+    let at-set-use-at = c .before .before .before .before .before in
+    let at-log-use-at2 = at-set-use-at .before .before .before .before .before .before in
+    let at-if1 = at-log-use-at2 .before .before .before .before .before in
+    let at-flags-of = at-if1 .before .before .before .before in
+    let at-args = at-flags-of .before .before .before .before .before in
+    let a = (at-args .args) in
+    let f : Fitting (usedEntries (a .table .now) (a .starts .now) (a .ends .now) (a .i) (a .extent) (useOf (a .all) (a .q) (a .new))) (a .head .free) (a .log .now) (at-if1 .if1 .log) =
+    ⊎-elim (λ w. counted-fits (adds-one (rw (at-flags-of .flags-of .ensures) at (w .5 .ensures))) (w .8 .left) (w .9))
+    (λ w. all-fit (at-args .pre .1 .1 .0) (at-if1 .before .subresources .ensures) (w .0 .left) (w .1)) (at-if1 .if1 .came) in
+    let n = adds-one (rw ((at-flags-of .flags-of .ensures), f .same) at (at-log-use-at2 .log-use-at2 .ensures)) in
+    rw (c .moved-on .ensures) (used _ _ _ _ _ _ (at-args .pre .0) (rw (at-flags-of .flags-of .ensures) at (at-set-use-at .set-use-at .ensures)) (written (f .fits) (at-args .pre .1 .1 .1 .0) n))
 
 pub set-checked-spec : {M : Type 1} → statement M
-set-checked-spec =
-    tie.close
-    (tie.spec (λ c κs. search needs) (λ c. search needs) entries-fit-requires (λ c κs. search needs) (λ c. search needs)
-    (λ c. search needs) (λ c. search needs) returns log-use-at-requires set-use-at-requires moved-on-requires
-    (λ c. search needs) (λ c. search needs) (λ c. search needs) returns-2)
+set-checked-spec = tie.close (tie.spec (λ c κs. search needs) (λ c. search needs) subresources-requires
+    log-use-at-requires (λ c κs. search needs) (λ c. search needs) (λ c. search needs) (λ c. search needs) returns
+    log-use-at-requires-2 set-use-at-requires moved-on-requires (λ c. search needs) (λ c. search needs) same-length-6
+    returns-2)

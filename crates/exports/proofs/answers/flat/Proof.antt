@@ -3,9 +3,6 @@ use borrow.Author.Needs.{needs}
 use Rattle.exports.proofs.answers.flat.Statement.{statement}
 use Rattle.exports.proofs.answers.flat.Tie as tie
 
-returns : tie.Need-returns
-returns c = rw ((c .enum-told .given) .1)
-
 returns-2 : tie.Need-returns-2
 returns-2 c = rw ((c .before .before .x .given) .1) (c .refused .ensures)
 
@@ -13,7 +10,5 @@ returns-3 : tie.Need-returns-3
 returns-3 c = rw ((c .before .before .x2 .given) .1) (c .conflict .ensures)
 
 pub flat-spec : {M : Type 1} → statement M
-flat-spec =
-    tie.close
-    (tie.spec (λ c. search needs) (λ c. search needs) (λ c κs. search needs) (λ c. search needs) (λ c κs. search needs)
-    returns returns-2 returns-3)
+flat-spec = tie.close (tie.spec (λ c. search needs) (λ c. search needs) (λ c κs. search needs) (λ c. search needs)
+    (λ c κs. search needs) (λ c. rw ((c .enum-told .given) .1)) returns-2 returns-3)

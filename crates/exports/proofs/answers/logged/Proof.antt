@@ -3,10 +3,5 @@ use borrow.Author.Needs.{needs}
 use Rattle.exports.proofs.answers.logged.Statement.{statement}
 use Rattle.exports.proofs.answers.logged.Tie as tie
 
-returns : tie.Need-returns
-returns c = rw (c .flat .ensures)
-
 pub logged-spec : {M : Type 1} → statement M
-logged-spec =
-    tie.close
-    (tie.spec (λ c κs. search needs) returns)
+logged-spec = tie.close (tie.spec (λ c κs. search needs) (λ c. rw (c .flat .ensures)))

@@ -7,6 +7,4 @@ returns : tie.Need-returns
 returns c = rw (c .before .number .ensures, c .place .ensures)
 
 pub refused-spec : {M : Type 1} → statement M
-refused-spec =
-    tie.close
-    (tie.spec (λ c κs. search needs) (λ c κs. search needs) returns)
+refused-spec = tie.close (tie.spec (λ c κs. search needs) (λ c κs. search needs) returns)

@@ -9,6 +9,4 @@ returns : tie.Need-returns
 returns c = rw (c .logged .ensures, outcome-told _) (refl, c .before .empty-log .ensures)
 
 pub track-empty-log-spec : {M : Type 1} → statement M
-track-empty-log-spec =
-    tie.close
-    (tie.spec (λ c κs. search needs) (λ c κs. search needs) returns)
+track-empty-log-spec = tie.close (tie.spec (λ c κs. search needs) (λ c κs. search needs) returns)

@@ -3,10 +3,5 @@ use borrow.Author.Needs.{needs}
 use Rattle.exports.proofs.ranged.numbers.Statement.{statement}
 use Rattle.exports.proofs.ranged.numbers.Tie as tie
 
-returns : tie.Need-returns
-returns c = rw (c .flat .ensures)
-
 pub numbers-spec : {M : Type 1} → statement M
-numbers-spec =
-    tie.close
-    (tie.spec (λ c κs. search needs) returns)
+numbers-spec = tie.close (tie.spec (λ c κs. search needs) (λ c. rw (c .flat .ensures)))

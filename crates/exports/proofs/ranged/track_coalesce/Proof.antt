@@ -9,6 +9,4 @@ returns : tie.Need-returns
 returns c = rw (c .coalesced .ensures, coalesce-told _) (refl, c .before .before .before .coalesce .ensures)
 
 pub track-coalesce-spec : {M : Type 1} → statement M
-track-coalesce-spec =
-    tie.close
-    (tie.spec (λ c κs. search needs) (λ c κs. search needs) (λ c. search needs) returns)
+track-coalesce-spec = tie.close (tie.spec (λ c κs. search needs) (λ c κs. search needs) (λ c. search needs) returns)

@@ -9,6 +9,4 @@ returns : tie.Need-returns
 returns c = rw (c .isolated .ensures, isolate-told _) (refl, c .before .before .before .isolate .ensures)
 
 pub track-isolate-spec : {M : Type 1} → statement M
-track-isolate-spec =
-    tie.close
-    (tie.spec (λ c κs. search needs) (λ c κs. search needs) (λ c. search needs) returns)
+track-isolate-spec = tie.close (tie.spec (λ c κs. search needs) (λ c κs. search needs) (λ c. search needs) returns)

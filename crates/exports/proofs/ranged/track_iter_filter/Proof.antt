@@ -9,6 +9,4 @@ returns : tie.Need-returns
 returns c = rw (c .filtered .ensures, filter-told _) (refl, c .before .before .before .iter-filter .ensures)
 
 pub track-iter-filter-spec : {M : Type 1} → statement M
-track-iter-filter-spec =
-    tie.close
-    (tie.spec (λ c κs. search needs) (λ c κs. search needs) (λ c. search needs) returns)
+track-iter-filter-spec = tie.close (tie.spec (λ c κs. search needs) (λ c κs. search needs) (λ c. search needs) returns)

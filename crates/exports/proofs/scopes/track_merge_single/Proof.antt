@@ -9,7 +9,5 @@ returns : tie.Need-returns
 returns c = rw (c .flat .ensures, outcome-told _, ← c .before .before .before .before .before .before .before .selector .ensures, ← c .before .before .before .before .before .before .selection .ensures) (refl, c .before .before .before .merge-single .ensures)
 
 pub track-merge-single-spec : {M : Type 1} → statement M
-track-merge-single-spec =
-    tie.close
-    (tie.spec (λ c κs. search needs) (λ c κs. search needs) (λ c κs. search needs) (λ c κs. search needs)
-    (λ c. search needs) returns)
+track-merge-single-spec = tie.close (tie.spec (λ c κs. search needs) (λ c κs. search needs) (λ c κs. search needs)
+    (λ c κs. search needs) (λ c. search needs) returns)

@@ -5,12 +5,10 @@ use Rattle.exports.proofs.sets.track_tracker_is_well_formed.Statement.{
 use Rattle.exports.proofs.sets.track_tracker_is_well_formed.Tie as tie
 
 returns : tie.Need-returns
-returns c = rw (sym (c .before .tracker-fits .ensures) ∙ c .if1 .taken)
+returns c = rw (sym (c .before .tracker-fits .ensures .is) ∙ c .if1 .taken)
 
 returns-2 : tie.Need-returns-2
-returns-2 c = rw (sym (c .before .tracker-fits .ensures) ∙ c .if1 .left)
+returns-2 c = rw (sym (c .before .tracker-fits .ensures .is) ∙ c .if1 .left)
 
 pub track-tracker-is-well-formed-spec : {M : Type 1} → statement M
-track-tracker-is-well-formed-spec =
-    tie.close
-    (tie.spec (λ c κs. search needs) returns returns-2)
+track-tracker-is-well-formed-spec = tie.close (tie.spec (λ c κs. search needs) returns returns-2)

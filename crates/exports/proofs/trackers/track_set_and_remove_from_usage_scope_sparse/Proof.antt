@@ -2,9 +2,7 @@
 use Rattle.exports.specs.AnswerLaws.{outcome-told}
 use mathlib.Core.Path.{refl}
 use borrow.Author.Needs.{needs}
-use Rattle.exports.proofs.trackers.track_set_and_remove_from_usage_scope_sparse.Statement.{
-  statement,
-}
+use Rattle.exports.proofs.trackers.track_set_and_remove_from_usage_scope_sparse.Statement.{statement}
 use Rattle.exports.proofs.trackers.track_set_and_remove_from_usage_scope_sparse.Tie as tie
 
 set-and-remove-from-usage-scope-sparse-requires :
@@ -15,7 +13,5 @@ returns : tie.Need-returns
 returns c = rw (c .logged .ensures, outcome-told _) (refl, c .before .before .before .before .before .before .before .set-and-remove-from-usage-scope-sparse .ensures)
 
 pub track-set-and-remove-from-usage-scope-sparse-spec : {M : Type 1} → statement M
-track-set-and-remove-from-usage-scope-sparse-spec =
-    tie.close
-    (tie.spec set-and-remove-from-usage-scope-sparse-requires (λ c κs. search needs) (λ c. search needs)
-    (λ c. search needs) (λ c. search needs) returns)
+track-set-and-remove-from-usage-scope-sparse-spec = tie.close (tie.spec set-and-remove-from-usage-scope-sparse-requires
+    (λ c κs. search needs) (λ c. search needs) (λ c. search needs) (λ c. search needs) returns)

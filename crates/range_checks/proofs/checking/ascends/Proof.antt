@@ -11,9 +11,6 @@ Inv-loop s len k₀ from₀ k from = Testing s len k from
 abbrev μ-loop : tie.MeasureT-loop
 μ-loop s len k₀ from₀ k from = len - k
 
-loop-holds : tie.Need-loop-holds Inv-loop μ-loop
-loop-holds c = search start-of
-
 returns : tie.Need-returns Inv-loop μ-loop
 returns c = early (c .before .before .before .before .before .pre) (c .before .before .before .loop .inv) (c .before .before .loop-test .taken) (c .before .get .ensures) (c .if1 .taken)
 
@@ -23,11 +20,6 @@ returns-2 c = empty (c .before .before .before .before .before .before .pre) (c 
 loop-again : tie.Need-loop-again Inv-loop μ-loop
 loop-again c = turn (c .before .before .before .before .before .before .pre) (c .before .before .before .before .loop .inv) (c .before .before .before .loop-test .taken) (c .before .before .get .ensures) (c .before .if1 .left) (c .if2 .left)
 
-returns-3 : tie.Need-returns-3 Inv-loop μ-loop
-returns-3 c = search finish
-
 pub ascends-spec : {M : Type 1} → statement M
-ascends-spec =
-    tie.close
-    (tie.spec Inv-loop μ-loop loop-holds (λ c κs. search needs) (λ c. search needs) returns returns-2
-    (λ c. search needs) loop-again returns-3)
+ascends-spec = tie.close (tie.spec Inv-loop μ-loop (λ c. search start-of) (λ c κs. search needs) (λ c. search needs)
+    returns returns-2 (λ c. search needs) loop-again (λ c. search finish))

@@ -14,6 +14,4 @@ unfolding firstFailing
 returns-2 c = let o = sym (c .before .out-of-order .ensures) ∙ (c .if1 .left) in rw o
 
 pub check-coalesce-spec : {M : Type 1} → statement M
-check-coalesce-spec =
-    tie.close
-    (tie.spec (λ c κs. search needs) returns returns-2)
+check-coalesce-spec = tie.close (tie.spec (λ c κs. search needs) returns returns-2)

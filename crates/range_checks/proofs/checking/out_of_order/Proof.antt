@@ -16,6 +16,4 @@ returns-2 : tie.Need-returns-2
 returns-2 c = let h = rw (c .before .before .records .ensures) at (c .before .if1 .left) in rw (le-ltb _ _ h, (c .ascends .ensures))
 
 pub out-of-order-spec : {M : Type 1} → statement M
-out-of-order-spec =
-    tie.close
-    (tie.spec (λ c κs. search needs) returns ascends-requires returns-2)
+out-of-order-spec = tie.close (tie.spec (λ c κs. search needs) returns ascends-requires returns-2)

@@ -4,10 +4,5 @@ use Rattle.range_states.specs.View.{view-count}
 use Rattle.range_checks.proofs.checking.records.Statement.{statement}
 use Rattle.range_checks.proofs.checking.records.Tie as tie
 
-returns : tie.Need-returns
-returns c = sym (view-count _)
-
 pub records-spec : {M : Type 1} → statement M
-records-spec =
-    tie.close
-    (tie.spec returns)
+records-spec = tie.close (tie.spec (λ c. sym (view-count _)))

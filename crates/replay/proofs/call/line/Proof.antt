@@ -24,12 +24,10 @@ on-lent-requires : tie.Need-on-lent-requires
 on-lent-requires c κs = ((c .before .before .before .before .before .before .before .before .before .before .before .before .before .before .before .before .before .before .before .before .before .before .before .before .before .before .before .before .before .before .named .ensures), (c .before .before .before .before .before .before .before .before .before .before .before .before .before .before .before .before .before .before .before .before .before .before .before .before .before .before .before .before .before .second .ensures))
 
 pub line-spec : {M : Type 1} → statement M
-line-spec =
-    tie.close
-    (tie.spec (λ c κs. search needs) (λ c κs. search needs) (λ c κs. search needs) (λ c κs. search needs)
+line-spec = tie.close (tie.spec (λ c κs. search needs) (λ c κs. search needs) (λ c κs. search needs)
     (λ c κs. search needs) (λ c κs. search needs) (λ c κs. search needs) (λ c κs. search needs) (λ c κs. search needs)
-    (λ c κs. search needs) (λ c κs. search needs) (λ c κs. search needs) (λ c κs. search needs) (λ c. search needs)
-    slice-aggregate-on-lent (λ c. search needs) slice-aggregate-on-lent-2 (λ c. search needs) slice-aggregate-on-lent-3
-    (λ c. search needs) slice-aggregate-on-lent-4 (λ c. search needs) slice-aggregate-on-lent-5 on-lent-requires
-    (λ c. search needs) (λ c. search needs) (λ c. search needs) (λ c. search needs) (λ c. search needs)
-    (λ c. search needs) (λ c. search needs) (λ c. search needs))
+    (λ c κs. search needs) (λ c κs. search needs) (λ c κs. search needs) (λ c κs. search needs) (λ c κs. search needs)
+    (λ c. search needs) slice-aggregate-on-lent (λ c. search needs) slice-aggregate-on-lent-2 (λ c. search needs)
+    slice-aggregate-on-lent-3 (λ c. search needs) slice-aggregate-on-lent-4 (λ c. search needs)
+    slice-aggregate-on-lent-5 on-lent-requires (λ c. search needs) (λ c. search needs) (λ c. search needs)
+    (λ c. search needs) (λ c. search needs) (λ c. search needs) (λ c. search needs) (λ c. search needs))

@@ -23,7 +23,6 @@ same-length-6 : tie.Need-same-length-6
 same-length-6 c = omega (arith, (c .before .before .before .before .before .before .before .before .before .before .before .before .before .before .before .before .before .before .before .before .before .before .before .before .before .before .before .before .log .given), (c .before .before .before .before .before .before .before .before .before .before .before .before .before .before .log2 .given))
 
 pub on-lent-spec : {M : Type 1} → statement M
-on-lent-spec =
-    tie.close
-    (tie.spec (λ c κs. search needs) (λ c κs. search needs) (λ c κs. search needs) (λ c κs. search needs) leave-requires
-    (λ c. search needs) same-length-2 same-length-3 same-length-4 same-length-5 same-length-6 (λ c. search needs))
+on-lent-spec = tie.close (tie.spec (λ c κs. search needs) (λ c κs. search needs) (λ c κs. search needs)
+    (λ c κs. search needs) leave-requires (λ c. search needs) same-length-2 same-length-3 same-length-4 same-length-5
+    same-length-6 (λ c. search needs))

@@ -11,6 +11,4 @@ returns : tie.Need-returns
 returns c = let s = le-trans (mul-le-mul-right (c .args .b) (c .pre .0)) (mul-le-mul-left 4096 (c .pre .1)) in omega (arith, s)
 
 pub product-spec : {M : Type 1} → statement M
-product-spec =
-    tie.close
-    (tie.spec mul-result returns)
+product-spec = tie.close (tie.spec mul-result returns)

@@ -13,8 +13,6 @@ coalesce-on-requires : tie.Need-coalesce-on-requires
 coalesce-on-requires c κs = let q = length-take-le (3 * (c .before .before .before .wide .result)) (c .before .before .before .before .before .before .before .before .args .records .now) (c .before .before .if1 .taken) in ((c .before .before .before .before .borrowed .ensures), omega (arith, (c .before .before .before .wide .ensures)))
 
 pub coalesce-line-spec : {M : Type 1} → statement M
-coalesce-line-spec =
-    tie.close
-    (tie.spec (λ c κs. search needs) (λ c κs. search needs) (λ c κs. search needs) (λ c. search needs)
-    (λ c. search needs) slice-aggregate-coalesce-on coalesce-on-requires (λ c. search needs) (λ c. search needs)
-    (λ c. search needs))
+coalesce-line-spec = tie.close (tie.spec (λ c κs. search needs) (λ c κs. search needs) (λ c κs. search needs)
+    (λ c. search needs) (λ c. search needs) slice-aggregate-coalesce-on coalesce-on-requires (λ c. search needs)
+    (λ c. search needs) (λ c. search needs))

@@ -16,9 +16,7 @@ filter-on-requires : tie.Need-filter-on-requires
 filter-on-requires c κs = let q = length-take-le (3 * (c .before .before .before .before .before .before .wide .result)) (c .before .before .before .before .before .before .before .before .before .before .before .before .before .before .args .records .now) (c .before .before .before .before .if1 .taken) in let o = length-take-le (3 * (c .before .before .before .before .before .wide2 .result)) (c .before .before .before .before .before .before .before .before .before .before .before .before .before .before .args .found .now) (c .before .before .before .if2 .taken) in ((c .before .before .before .before .before .before .before .before .before .borrowed .ensures), (omega (arith, (c .before .before .before .before .before .before .wide .ensures)), ((c .before .before .before .before .before .before .before .borrowed2 .ensures), omega (arith, (c .before .before .before .before .before .wide2 .ensures)))))
 
 pub filter-line-spec : {M : Type 1} → statement M
-filter-line-spec =
-    tie.close
-    (tie.spec (λ c κs. search needs) (λ c κs. search needs) (λ c κs. search needs) (λ c κs. search needs)
-    (λ c κs. search needs) (λ c. search needs) (λ c κs. search needs) (λ c. search needs) (λ c. search needs)
-    slice-aggregate-filter-on (λ c. search needs) slice-aggregate-filter-on-2 filter-on-requires (λ c. search needs)
-    (λ c. search needs) (λ c. search needs) (λ c. search needs) (λ c. search needs))
+filter-line-spec = tie.close (tie.spec (λ c κs. search needs) (λ c κs. search needs) (λ c κs. search needs)
+    (λ c κs. search needs) (λ c κs. search needs) (λ c. search needs) (λ c κs. search needs) (λ c. search needs)
+    (λ c. search needs) slice-aggregate-filter-on (λ c. search needs) slice-aggregate-filter-on-2 filter-on-requires
+    (λ c. search needs) (λ c. search needs) (λ c. search needs) (λ c. search needs) (λ c. search needs))

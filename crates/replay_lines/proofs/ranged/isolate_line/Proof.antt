@@ -13,8 +13,6 @@ isolate-on-requires : tie.Need-isolate-on-requires
 isolate-on-requires c κs = let q = length-take-le (3 * (c .before .before .before .wide .result)) (c .before .before .before .before .before .before .before .before .args .records .now) (c .before .before .if1 .taken) in ((c .before .before .before .before .borrowed .ensures), omega (arith, (c .before .before .before .wide .ensures)))
 
 pub isolate-line-spec : {M : Type 1} → statement M
-isolate-line-spec =
-    tie.close
-    (tie.spec (λ c κs. search needs) (λ c κs. search needs) (λ c κs. search needs) (λ c. search needs)
-    (λ c. search needs) slice-aggregate-isolate-on isolate-on-requires (λ c. search needs) (λ c. search needs)
-    (λ c. search needs))
+isolate-line-spec = tie.close (tie.spec (λ c κs. search needs) (λ c κs. search needs) (λ c κs. search needs)
+    (λ c. search needs) (λ c. search needs) slice-aggregate-isolate-on isolate-on-requires (λ c. search needs)
+    (λ c. search needs) (λ c. search needs))

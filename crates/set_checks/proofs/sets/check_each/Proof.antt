@@ -3,7 +3,7 @@ use Prim.Native.Nat.{_-_}
 use Rattle.model.specs.Refusals.{setRefusal}
 use Rattle.set_checks.specs.Head.{headIn}
 use Rattle.set_checks.specs.Sets.{ownedRefusal}
-use Rattle.set_checks.proofs.Turns.{Left, turn, stop, never, end, set-begins}
+use Rattle.set_checks.proofs.Turns.{Left, turn, stop, end, set-begins}
 use borrow.Author.Needs.{needs}
 use Rattle.set_checks.proofs.sets.check_each.Statement.{statement}
 use Rattle.set_checks.proofs.sets.check_each.Tie as tie
@@ -24,14 +24,8 @@ returns : tie.Need-returns Inv-loop μ-loop
 returns c = record { is = stop (c .before .before .before .before .before .loop .inv) (c .before .before .before .before .loop-test .taken) ((c .before .before .before .check-owned .ensures) .is) ((c .before .r .given) .1) }
 
 returns-2 : tie.Need-returns-2 Inv-loop μ-loop
-returns-2 c = absurd (never (c .before .before .before .before .before .loop .inv) ((c .before .before .before .check-owned .ensures) .is) ((c .before .k .given) .1))
-
-returns-3 : tie.Need-returns-3 Inv-loop μ-loop
-returns-3 c = record { is = end (c .before .loop .inv) (c .loop-test .left) }
+returns-2 c = record { is = end (c .before .loop .inv) (c .loop-test .left) }
 
 pub check-each-spec : {M : Type 1} → statement M
-check-each-spec =
-    tie.close
-    (tie.spec Inv-loop μ-loop (λ c. search needs) loop-holds (λ c κs. search needs) (λ c. search needs)
-    (λ c. search needs) (λ c. search needs) loop-again (λ c. search needs) returns (λ c. search needs) returns-2
-    returns-3)
+check-each-spec = tie.close (tie.spec Inv-loop μ-loop (λ c. search needs) loop-holds (λ c κs. search needs)
+    (λ c. search needs) (λ c. search needs) (λ c. search needs) loop-again (λ c. search needs) returns returns-2)

@@ -11,8 +11,6 @@ returns-2 : tie.Need-returns-2
 returns-2 c = owned-tells _ _ _ (rw ((c .before .before .before .before .before .wide .ensures) .0) at (c .before .before .before .if1 .left)) (rw ((c .before .before .before .before .before .wide .ensures) .0) at (c .check-texture .ensures))
 
 pub check-owned-spec : {M : Type 1} → statement M
-check-owned-spec =
-    tie.close
-    (tie.spec (λ c κs. search needs) (λ c. search needs) (λ c. search needs) (λ c. search needs) returns
-    (λ c. search needs) (λ c. search needs) (λ c. search needs) (λ c. search needs) (λ c. search needs)
-    (λ c. search needs) (λ c κs. search needs) returns-2)
+check-owned-spec = tie.close (tie.spec (λ c κs. search needs) (λ c. search needs) (λ c. search needs)
+    (λ c. search needs) returns (λ c. search needs) (λ c. search needs) (λ c. search needs) (λ c. search needs)
+    (λ c. search needs) (λ c. search needs) (λ c κs. search needs) returns-2)

@@ -20,8 +20,6 @@ returns-4 : tie.Need-returns-4
 returns-4 c = let z = ((c .before .before .wide .ensures) .0) in set-passes _ _ (sym (c .before .before .before .before .before .before .before .before .same-flags .ensures) ∙ not-false _ (c .before .before .before .before .before .before .before .if1 .left)) (c .before .before .before .before .if2 .left) (rw z at ((c .before .all-pass .ensures) (not-false _ (c .if3 .left))))
 
 pub check-set-spec : {M : Type 1} → statement M
-check-set-spec =
-    tie.close
-    (tie.spec (λ c κs. search needs) returns (λ c. search needs) (λ c. search needs) check-each-requires
-    (λ c. search needs) (λ c. search needs) (λ c κs. search needs) (λ c κs. search needs) check-each-requires-2
-    (λ c. search needs) returns-4)
+check-set-spec = tie.close (tie.spec (λ c κs. search needs) returns (λ c. search needs) (λ c. search needs)
+    check-each-requires (λ c. search needs) (λ c. search needs) (λ c κs. search needs) (λ c κs. search needs)
+    check-each-requires-2 (λ c. search needs) returns-4)

@@ -7,7 +7,7 @@ use borrow.Author.Tests.{not-true, not-false}
 use Rattle.model.specs.Refusals.{sparseRefusal}
 use Rattle.set_checks.specs.Head.{headIn}
 use Rattle.set_checks.specs.Sets.{listedAt}
-use Rattle.set_checks.proofs.Turns.{Left, turn, stop, never, end, sparse-begins, sparse-differs}
+use Rattle.set_checks.proofs.Turns.{Left, turn, stop, end, sparse-begins, sparse-differs}
 use Rattle.set_checks.proofs.sets.check_sparse.Statement.{statement}
 use Rattle.set_checks.proofs.sets.check_sparse.Tie as tie
 
@@ -30,14 +30,9 @@ returns-2 : tie.Need-returns-2 Inv-loop μ-loop
 returns-2 c = record { is = stop (c .before .before .before .before .before .before .loop .inv) (c .before .before .before .before .before .loop-test .taken) ((c .before .before .before .check-listed .ensures) .is) ((c .before .r .given) .1) }
 
 returns-3 : tie.Need-returns-3 Inv-loop μ-loop
-returns-3 c = absurd (never (c .before .before .before .before .before .before .loop .inv) ((c .before .before .before .check-listed .ensures) .is) ((c .before .c .given) .1))
-
-returns-4 : tie.Need-returns-4 Inv-loop μ-loop
-returns-4 c = record { is = end (c .before .loop .inv) (c .loop-test .left) }
+returns-3 c = record { is = end (c .before .loop .inv) (c .loop-test .left) }
 
 pub check-sparse-spec : {M : Type 1} → statement M
-check-sparse-spec =
-    tie.close
-    (tie.spec Inv-loop μ-loop (λ c κs. search needs) returns loop-holds (λ c. search needs) (λ c. search needs)
-    (λ c κs. search needs) (λ c. search needs) (λ c. search needs) (λ c. search needs) loop-again (λ c. search needs)
-    returns-2 (λ c. search needs) returns-3 returns-4)
+check-sparse-spec = tie.close (tie.spec Inv-loop μ-loop (λ c κs. search needs) returns loop-holds (λ c. search needs)
+    (λ c. search needs) (λ c κs. search needs) (λ c. search needs) (λ c. search needs) (λ c. search needs) loop-again
+    (λ c. search needs) returns-2 returns-3)

@@ -12,8 +12,6 @@ returns c =
     (at₁ .empty-log .ensures) (at₂ .set-single .ensures) (at₃ .empty-log2 .ensures) (at₄ .set-single2 .ensures)
 
 pub set-twice-spec : {M : Type 1} → statement M
-set-twice-spec =
-    tie.close
-    (tie.spec (λ c κs. search needs) (λ c κs. search needs) (λ c κs. search needs) (λ c κs. search needs)
-    (λ c κs. search needs) (λ c κs. search needs) (λ c κs. search needs) (λ c. search needs) (λ c. search needs)
-    (λ c. search needs) returns)
+set-twice-spec = tie.close (tie.spec (λ c κs. search needs) (λ c κs. search needs) (λ c κs. search needs)
+    (λ c κs. search needs) (λ c κs. search needs) (λ c κs. search needs) (λ c κs. search needs) (λ c. search needs)
+    (λ c. search needs) (λ c. search needs) returns)

@@ -1,0 +1,121 @@
+-- `merge_single`, and any merge that is turned away: from what the code found to the contract.
+use Prim.Native.Nat.{ℕ, _<_}
+use mathlib.Core.Path.{_≡_, refl, sym, ap, subst, _∙_}
+use mathlib.Core.Bool.{Bool, true, false, false≢true}
+use mathlib.Core.List.{List}
+use mathlib.Core.Option.{Option, none, some}
+use lib.ListN.{getD, set}
+use Rattle.model.specs.declared.UsageFlags.{UsageFlags}
+use Rattle.model.specs.declared.Extent.{Extent}
+use Rattle.model.specs.declared.Selection.{Selection}
+use Rattle.model.specs.declared.InvalidUse.{InvalidUse}
+use Rattle.model.specs.declared.Refusal.{Refusal}
+use Rattle.model.specs.declared.Refusal.the-variants.{NotWellFormed}
+use Rattle.model.specs.declared.Outcome.the-variants as outcome
+use Rattle.model.specs.Base.{Stop}
+use Rattle.model.specs.Sets.{Slot, Set, Head, slotAt, withSlots, emptySlot}
+use Rattle.model.specs.Refusals.{firstFailing, singleRefusal}
+use Rattle.model.specs.Calls.{Indexed, CallResult, answer, turnedAway, unless, mergeSlot, mergeSingle}
+use Rattle.model.specs.Log.{isRefused, outcomeOf, merging}
+use Rattle.model.specs.Texture.{Held, single, Entry, fromUse, ranged}
+use Rattle.set_storage.specs.Storage.{flagsOf, scopeOf, startHalf, texturesAt}
+use Rattle.set_storage.specs.Stays.{only, keeps-refl, keeps-more}
+use Rattle.set_storage.specs.Lists.{list-at}
+use Rattle.texture_merge.specs.declared.Stopped.{Stopped}
+use Rattle.texture_merge.specs.declared.Stopped.the-variants.{Nowhere, At}
+use Rattle.set_checks.specs.Head.{selectorOf, useRefusal, scope-head, UseTold}
+use Rattle.model.specs.declared.Verdict.the-variants as verdict
+use Rattle.set_checks.specs.Passed.{StatePassed, use-passed, texture-passed, state-passed}
+use Rattle.set_ready.specs.Tested.{ScopeTested}
+use Rattle.set_ready.specs.Half.{HalfReady, scope-texture}
+use Rattle.set_ready.specs.Answers.{toldOf}
+use Rattle.call_merge.specs.declared.single.Use.{Use}
+use Rattle.call_merge.specs.Merged.{Merged}
+use Rattle.set_ready.specs.Merges.{TakenUse}
+use Rattle.call_merge.specs.Slot.{slotOf, SlotMerged, slot-view}
+use Rattle.call_merge.specs.Single.{UseIs}
+
+-- ---- The test of the sets comes first
+abbrev pub ScopeResult : Type 0
+ScopeResult = CallResult InvalidUse (List Entry) (Set Held)
+
+unfit : (was : Set Held) (m : ScopeResult) → merging false was m ≡ turnedAway NotWellFormed was
+unfolding merging firstFailing
+unfit was m = refl
+
+pub fit : (was : Set Held) (m : ScopeResult) → merging true was m ≡ m
+unfolding merging firstFailing
+fit was m = refl
+
+-- turned away: nothing was written
+unwritten : {named : ℕ → Type 0} {fits : Bool} {m : ScopeResult} {t r : List ℕ} (x : Refusal) → merging fits (scopeOf t r) m ≡ turnedAway x (scopeOf t r) → Merged named fits m t r (outcome.Refused x) t r
+unwritten {named} {fits} {m} {t} {r} x e = record {
+  answer = ap (λ (c : ScopeResult). outcomeOf (c .answer)) (sym e);
+  view = ap (λ (c : ScopeResult). c .after) (sym e);
+  kept = λ z. (refl, refl);
+  stays = keeps-refl t r;
+}
+
+pub not-fitting : {named : ℕ → Type 0} {fits : Bool} {m : ScopeResult} {t r : List ℕ} → fits ≡ false → Merged named fits m t r (outcome.Refused NotWellFormed) t r
+not-fitting {named} {fits} {m} {t} {r} e = unwritten NotWellFormed (rw e (unfit (scopeOf t r) m))
+
+pub away : {named : ℕ → Type 0} {fits : Bool} {m : ScopeResult} {t r : List ℕ} (x : Refusal) → fits ≡ true → m ≡ turnedAway x (scopeOf t r) → Merged named fits m t r (outcome.Refused x) t r
+away {named} {fits} {m} {t} {r} x e z = unwritten x (rw e (fit (scopeOf t r) m ∙ z))
+
+-- an answer of a walk is no refusal
+told-on : (i : ℕ) (x : Stopped) → isRefused (toldOf i x) ≡ true → ⊥
+told-on i Nowhere e = false≢true e
+told-on i (At c) e = false≢true e
+
+-- ---- `merge_single`
+module _ (t r : List ℕ) (i : ℕ) (sh : Extent) (s : Selection) (st : ℕ) where
+  -- what the model's call gives where no check fails
+  abbrev changed : Stop (Indexed InvalidUse) (Slot Held) → ScopeResult
+  changed w = record { answer = answer (w .conflict); log = mathlib.Core.List.[]; after = withSlots (scopeOf t r) (set (scopeOf t r .slots) i (w .value)) }
+
+  call-is : (o : Option Refusal) → useRefusal t i sh s st ≡ o → mergeSingle ranged (scopeOf t r) i sh (selectorOf s) st ≡ unless o (scopeOf t r) (changed (mergeSlot ranged (scopeOf t r .flags) sh (fromUse sh (selectorOf s) st) i (slotAt (single 0) (scopeOf t r) i)))
+  unfolding useRefusal
+  call-is o e =
+      ap (λ (h : Head). unless (singleRefusal h i sh (selectorOf s) st) (scopeOf t r) (changed (mergeSlot ranged (scopeOf t r .flags) sh (fromUse sh (selectorOf s) st) i (slotAt (single 0) (scopeOf t r) i)))) (scope-head t r)
+      ∙ ap (λ (q : Option Refusal). unless q (scopeOf t r) (changed (mergeSlot ranged (scopeOf t r .flags) sh (fromUse sh (selectorOf s) st) i (slotAt (single 0) (scopeOf t r) i)))) e
+
+  slot-here : i < getD t texturesAt 0 → slotAt (single 0) (scopeOf t r) i ≡ slotOf t r i
+  unfolding scopeOf
+  slot-here h = list-at (slotOf t r) (getD t texturesAt 0) i (emptySlot (single 0)) h
+
+  flags-here : scopeOf t r .flags ≡ flagsOf t
+  unfolding scopeOf
+  flags-here = refl
+
+  changed-is : i < getD t texturesAt 0 → UseTold t i sh s st verdict.Accepted → mergeSingle ranged (scopeOf t r) i sh (selectorOf s) st ≡ changed (mergeSlot ranged (flagsOf t) sh (fromUse sh (selectorOf s) st) i (slotOf t r i))
+  changed-is h z =
+      call-is none (z .is)
+      ∙ ap (λ (p : UsageFlags). changed (mergeSlot ranged p sh (fromUse sh (selectorOf s) st) i (slotAt (single 0) (scopeOf t r) i))) flags-here
+      ∙ ap (λ (y : Slot Held). changed (mergeSlot ranged (flagsOf t) sh (fromUse sh (selectorOf s) st) i y)) (slot-here h)
+
+module _ {t r : List ℕ} {i : ℕ} {sh : Extent} {s : Selection} {st : ℕ} {fits : Bool} (e : fits ≡ true) where
+  pub single-away : {x : Refusal} → UseTold t i sh s st (verdict.Refused x) → Merged (only i) fits (mergeSingle ranged (scopeOf t r) i sh (selectorOf s) st) t r (outcome.Refused x) t r
+  single-away {x} z = away x e (call-is t r i sh s st (some x) (z .is))
+
+  pub single-done : {x : Stopped} {t′ r′ : List ℕ} → ScopeTested t r → UseTold t i sh s st verdict.Accepted → SlotMerged (only i) t r i (mergeSlot ranged (flagsOf t) sh (fromUse sh (selectorOf s) st) i (slotOf t r i)) x t′ r′
+      → Merged (only i) fits (mergeSingle ranged (scopeOf t r) i sh (selectorOf s) st) t r (toldOf i x) t′ r′
+  single-done {x} {t′} {r′} k₀ z q =
+      let h : i < getD t texturesAt 0 = texture-passed t i sh (use-passed t i sh s st (z .is) .0) .texture in
+      let c : merging fits (scopeOf t r) (mergeSingle ranged (scopeOf t r) i sh (selectorOf s) st) ≡ changed t r i sh s st (mergeSlot ranged (flagsOf t) sh (fromUse sh (selectorOf s) st) i (slotOf t r i)) =
+      rw e (fit (scopeOf t r) (mergeSingle ranged (scopeOf t r) i sh (selectorOf s) st) ∙ changed-is t r i sh s st h z) in
+      record {
+        answer = ap (λ (o : Option (Indexed InvalidUse)). outcomeOf (answer o)) (q .conflict) ∙ ap (λ (y : ScopeResult). outcomeOf (y .answer)) (sym c);
+        view = slot-view (k₀ .measured) q ∙ ap (λ (y : ScopeResult). y .after) (sym c);
+        kept = λ k. absurd (told-on i x k);
+        stays = keeps-more (λ j n. (subst (λ (k : ℕ). k < getD t texturesAt 0) (sym n) h, n)) (λ j y o. o) (q .frame);
+      }
+
+-- ---- What the walk over one texture asks for
+module _ {t : List ℕ} {i : ℕ} {sh : Extent} {s : Selection} {st : ℕ} (z : UseTold t i sh s st verdict.Accepted) where
+  pub single-ready : {r : List ℕ} → ScopeTested t r → HalfReady startHalf t r i sh
+  single-ready k = scope-texture k (texture-passed t i sh (use-passed t i sh s st (z .is) .0))
+
+  pub single-use : {u : Use} {p : UsageFlags} → UseIs sh s u → p ≡ flagsOf t → TakenUse t sh (u .all) (u .selector) p st
+  single-use {u} {p} y e =
+      let a = use-passed t i sh s st (z .is) in let x = texture-passed t i sh (a .0) in
+      record { flags = e; selector = y .passed (x .mip) (x .some) (a .1 .0); whole = y .whole; state = subst (λ (f : UsageFlags). StatePassed f st) (sym e) (state-passed (flagsOf t) st (a .1 .1)) }

@@ -1,0 +1,23 @@
+-- THE CONTRACTS of the calls that merge into a scope, of what is lent, and a primed name for what they leave.
+use Prim.Native.Nat.{ℕ}
+use mathlib.Core.Bool.{_&&_}
+use Rattle.model.specs.declared.Extent.{Extent}
+use Rattle.model.specs.declared.Outcome.{Outcome}
+use Rattle.model.specs.declared.Selection.{Selection}
+use Rattle.model.specs.declared.TrackerIndex.{TrackerIndex}
+use Rattle.model.specs.Calls.{mergeSingle, mergeUsageScope}
+use Rattle.model.specs.Texture.{ranged}
+use Rattle.set_storage.specs.Lent.{LentScope, scopeIn, scopeTest}
+use Rattle.set_storage.specs.Stays.{only, ownedBy}
+use Rattle.set_checks.specs.Head.{selectorOf}
+use Rattle.call_merge.specs.Merged.{Merged}
+
+-- `merge_single`
+abbrev pub MergeSingle : LentScope → TrackerIndex → Extent → Selection → ℕ → Outcome → LentScope → Type 0
+MergeSingle s i sh q st x s′ =
+    Merged (only (i .0)) (scopeTest s) (mergeSingle ranged (scopeIn s) (i .0) sh (selectorOf q) st) (s .table) (s .ranges) x (s′ .table) (s′ .ranges)
+
+-- `merge_usage_scope`: the given scope g is only read
+abbrev pub MergeUsageScope : LentScope → LentScope → Outcome → LentScope → Type 0
+MergeUsageScope s g x s′ =
+    Merged (ownedBy (g .table)) (scopeTest s && scopeTest g) (mergeUsageScope ranged (scopeIn s) (scopeIn g)) (s .table) (s .ranges) x (s′ .table) (s′ .ranges)

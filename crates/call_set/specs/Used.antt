@@ -1,0 +1,18 @@
+-- One use of texture i of a tracker: what it adds to the log, and the tracker that it leaves.
+use Prim.Native.Nat.{ℕ}
+use mathlib.Core.List.{List}
+use lib.ListN.{getD, set}
+use Rattle.model.specs.declared.Extent.{Extent}
+use Rattle.model.specs.declared.PendingTransition.{PendingTransition}
+use Rattle.model.specs.Sets.{Tracker, withTracker}
+use Rattle.model.specs.Calls.{setSlot}
+use Rattle.model.specs.Texture.{Held, Given, ranged}
+use Rattle.set_storage.specs.Storage.{flagsOf, trackerOf, maskAt}
+use Rattle.texture_barrier.specs.Logged.{entriesAt}
+use Rattle.texture_track.specs.Slot.{slotOf, slotEntries}
+
+abbrev pub usedEntries : List ℕ → List ℕ → List ℕ → ℕ → Extent → Given → List PendingTransition
+usedEntries t s e i sh g = entriesAt i (slotEntries (flagsOf t) (getD t maskAt 0) sh g (slotOf t s e i))
+
+abbrev pub usedTracker : List ℕ → List ℕ → List ℕ → ℕ → Extent → Given → Tracker Held
+usedTracker t s e i sh g = withTracker (trackerOf t s e) (set (trackerOf t s e .set .slots) i (setSlot ranged (flagsOf t) sh g g (slotOf t s e i)))

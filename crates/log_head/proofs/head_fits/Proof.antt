@@ -1,0 +1,16 @@
+-- `head_fits`: written and free against what was lent, without a sum that could overflow.
+use Rattle.log_head.proofs.Heads.{written-past, free-past, both-in}
+use Rattle.log_head.proofs.head_fits.Statement.{statement}
+use Rattle.log_head.proofs.head_fits.Tie as tie
+
+returns : tie.Need-returns
+returns c = written-past ((c .before .before .args) .lent) ((c .before .before .args) .head) (c .if1 .taken)
+
+returns-2 : tie.Need-returns-2
+returns-2 c = free-past ((c .before .before .before .before .before .args) .lent) ((c .before .before .before .before .before .args) .head) (c .before .before .before .if1 .left) (c .if2 .taken)
+
+returns-3 : tie.Need-returns-3
+returns-3 c = both-in ((c .before .before .before .before .before .args) .lent) ((c .before .before .before .before .before .args) .head) (c .before .before .before .if1 .left) (c .if2 .left)
+
+pub head-fits-spec : {M : Type 1} → statement M
+head-fits-spec = tie.close (tie.spec returns returns-2 returns-3)

@@ -1,0 +1,3 @@
+pub mod Log
+pub mod Adds
+pub mod Called

@@ -1,0 +1,20 @@
+-- `log_owned_at`: no transitions where the given set does not own the index, otherwise those of the texture.
+use borrow.Author.Tests.{eq-eqb, ne-eqb}
+use borrow.Author.Needs.{needs}
+use Rattle.texture_barrier.specs.Logged.{logged-none}
+use Rattle.texture_track.proofs.given.log_owned_at.Statement.{statement}
+use Rattle.texture_track.proofs.given.log_owned_at.Tie as tie
+
+returns : tie.Need-returns
+returns c = rw (eq-eqb _ _ (c .if1 .taken)) (logged-none _ _ _ _ _)
+
+log-given-at-requires : tie.Need-log-given-at-requires
+log-given-at-requires c κs = let p = (c .before .before .before .before .before .before .before .before .pre) in let o = (c .before .before .before .if1 .left) in (p .0 .ready (rw (ne-eqb _ _ o)), (p .0 .given (rw (ne-eqb _ _ o)), (p .1 .0, rw (ne-eqb _ _ o) at (p .1 .1))))
+
+returns-2 : tie.Need-returns-2
+returns-2 c = rw (ne-eqb _ _ (c .before .before .before .before .before .before .if1 .left)) (c .before .before .log-given-at .ensures)
+
+pub log-owned-at-spec : {M : Type 1} → statement M
+log-owned-at-spec = tie.close (tie.spec (λ c. search needs) (λ c. search needs) (λ c. search needs) returns
+    (λ c. search needs) (λ c. search needs) (λ c. search needs) (λ c. search needs) (λ c. search needs)
+    (λ c. search needs) log-given-at-requires (λ c. search needs) returns-2)

@@ -1,0 +1,5 @@
+pub mod Tracked
+pub mod Slot
+pub mod Using
+pub mod Given
+pub mod GivenSlot
