@@ -34,7 +34,7 @@ fn word(state: u16) -> u32
 }
 
 // Sets two uses of one texture of two mips and four layers. The storage holds eight ranges a half and eight entries.
-pub fn set_twice(
+fn set_twice(
     table: &mut Table,
     starts: &mut [u32],
     ends: &mut [u32],
