@@ -9,8 +9,8 @@
 //   - no strict assertion of the Rust fires;
 //   - for single merges, the yes or no on uses is the WebGPU specification's rule, also in its own usages where the states are their bits.
 //
-// In the picture of docs/ARCHITECTURE.md it is the arrow from the ranged model up to the grid and to the WebGPU rule; the crates of code are proved equal to the ranged
-// model, and carry these claims over to it.
+// In the picture of docs/ARCHITECTURE.md it joins the ranged model with the grid and with the WebGPU rule; the crates of code are proved
+// equal to the ranged model, and carry these claims over to it.
 //
 // Reading order, in specs/: Grid, Shared, WellFormedSets, LogBound, Layers, Asserts and WebGpu are definitions, and Claims is every statement with the name of its
 // proof. Below them are proofs alone, from the ground up, as Lib lists them: walks and grids (WalkLaws, GridLaws); the ranges of one mip

@@ -1,4 +1,4 @@
-// Opening: a scope or a tracker begins in lent storage, with no index owned and each state UNINITIALIZED.
+// Call open: a scope or a tracker begins in lent storage, with no index owned and each state UNINITIALIZED.
 //
 // Place in the picture: the first of the public calls, over `set_storage` and the tests of `set_wellformed` and `usage`. Nothing is required of
 // the caller: the checks 1, 2 and 3 of 01's table come first, and a refusal leaves every number as it was.

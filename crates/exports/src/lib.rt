@@ -1,4 +1,4 @@
-// Exports: every public call for C, in target/staticlib/libexports.a after `rt staticlib exports`.
+// Exports: every public call for C. `tools/library` builds it as target/lib/libtexture_tracker.a.
 //
 // Place in the picture: the C boundary over `track` and `range_calls`. Each function makes the values that a call takes of plain numbers,
 // makes the call, and tells its answer in a struct of numbers, since a function for C returns no enum. include/track.h is the header, and

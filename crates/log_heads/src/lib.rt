@@ -1,4 +1,4 @@
-// Heads: the calls that log, with the head of the log lent by `&mut`, the form that 01 names for it.
+// Log heads: the calls that log, with the head of the log lent by `&mut`, the form that 01 names for it.
 //
 // Place in the picture: the top, over `track`. 01: "the head of the log, entries written and entries free, is lent and moved on by the call
 // itself". The borrow checker's own plan covers no reference to a struct; so each function is thin, one call with the head by value and

@@ -1,9 +1,11 @@
 // Model: what the tracker is, before how it is stored.
 //
 // This crate is the root of the picture. Its plain values, below, are shared by the code of every other crate and by the definitions in
-// specs/, so that a contract and a definition speak of the same thing. specs/ says what each call means, in the order that docs/ARCHITECTURE.md
-// gives; the code of the other crates is proved equal to it, and crate `agreement` proves what holds of it.
-// BoolLaws, ListLaws, CheckLaws and RangeLaws hold proofs alone: laws of tests, lists, checks and ranges that every other crate cites.
+// specs/, so that a contract and a definition speak of the same thing. specs/ says what each call means, in the order that
+// docs/ARCHITECTURE.md gives; the code of the other crates is proved equal to it, and crate `agreement` proves what holds of it.
+//
+// BoolLaws, ListLaws, CheckLaws and RangeLaws hold laws of tests, lists, checks and ranges that every other crate cites. Of their definitions
+// statements name one, `All` of ListLaws.
 //
 // A usage state is a number of 16 bits, here in a u32. A tracker index, a mip and a layer are kept apart by their types.
 ghost use mathlib.Core.Path.{_≡_};

@@ -1,4 +1,4 @@
-// Isolating: `RangedStates::isolate` of range.rs, on plain numbers in a borrowed slice, and how many ranges it will leave.
+// Range isolate: `RangedStates::isolate` of range.rs, on plain numbers in a borrowed slice, and how many ranges it will leave.
 //
 // Place in the picture: over `range_states`, whose records it reads, writes and inserts, and under `texture_mips`, which isolates the layers of a use
 // before it changes their states. A crate of its own, since its proofs are the longest of the range functions.

@@ -1,4 +1,4 @@
-// Records: `isolate`, `coalesce` and `iter_filter` over a borrowed run of range records, the form that 01 names for them.
+// Range records: `isolate`, `coalesce` and `iter_filter` over a borrowed run of range records, the form that 01 names for them.
 //
 // Place in the picture: beside `range_calls`, which has the same calls on plain numbers, and over its answers; nothing stands above. 01:
 // "take the strip as a lent run of range records", "although their proofs are long and done by hand": the borrow checker's own plan covers no

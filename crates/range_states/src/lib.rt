@@ -1,4 +1,4 @@
-// Ranges: the Rust's `RangedStates` (range.rs) on plain numbers in a borrowed slice.
+// Range states: the Rust's `RangedStates` (range.rs) on plain numbers in a borrowed slice.
 //
 // Place in the picture: over `model`, whose lists say what each function does, and under `range_isolate`, which cuts ranges, `range_checks`,
 // which checks the calls on ranges, and `texture_mips`, which merges and paints one mip of a texture with them.

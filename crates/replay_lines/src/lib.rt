@@ -1,4 +1,4 @@
-// Lines: the lines of the oracle, read and answered, and the storage that they speak of.
+// Replay lines: the lines of the oracle, read and answered, and the storage that they speak of.
 //
 // Place in the picture: under the program `replay`, which adds the public calls; a crate of its own, so that it is proved while the calls
 // are. Lines, answers and storage: oracle/README.md.

@@ -1,4 +1,4 @@
-// Checks: 01's table from 6 to 13, on the numbers of a table: what a call answers before it changes anything.
+// Set checks: 01's table from 6 to 13, on the numbers of a table: what a call answers before it changes anything.
 //
 // Place in the picture: over `set_storage` and `usage`, under the public calls, which test the sets first (4, `set_wellformed`) and count the
 // log's entries last (15, `texture_barrier`). Each check equals the model's (model/specs/Refusals) at the head of the view: the numbers, the

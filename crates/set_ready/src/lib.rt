@@ -8,7 +8,8 @@
 //     Merges      a texture that passed the checks: `TextureReady` and `TextureHeld`, made once, for a use and for another set's texture
 //     Updates     an owned texture of a tracker, for a use of it
 //     Selectors   a selector that names all of a texture
-//     Answers     what a call answers, and whether it was turned away
+//     Half        one half of a texture, or both, for the functions over it; ready still while other textures change
+//     Answers     what a call answers, by what its walk over textures met
 //     Named       what the frame of a call says of the numbers that no texture uses, and of a texture that it does not name
 use model::Extent;
 use model::Selector;

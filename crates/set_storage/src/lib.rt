@@ -1,4 +1,4 @@
-// Storage: how a set of textures lies in the numbers that a caller lends, and how those numbers read as the model's sets.
+// Set storage: how a set of textures lies in the numbers that a caller lends, and how those numbers read as the model's sets.
 //
 // Place in the picture: over `model` and `range_states`, under `set_wellformed`, `texture_merge` and the public calls. Only this crate knows the layout.
 //

@@ -1,8 +1,8 @@
-// Wellformed: whether the storage that a call is handed is a well-formed set (01: sound), check 4 of every call.
+// Set wellformed: whether the storage that a call is handed is a well-formed set (01: sound), check 4 of every call.
 //
 // Place in the picture: over `set_storage`, whose view says which set the numbers are, and under the public calls. Each test equals the
 // model's definition (model/specs/WellFormed) at the view, so that a call that passes it has a well-formed set, and one that it
-// refuses has not.
+// refuses has not; it also tells how long the table is.
 //
 // What holds: nothing is required and nothing is written. Every call pays for the test, so it is made in two passes: the words of every
 // index (`words`), which decide a set of Single textures, and then the ranges of the textures that are Many, once each. A scope is tested

@@ -1,7 +1,7 @@
 // Track: the public calls of the tracker, and demand 3, proved of their own contracts.
 //
-// Place in the picture: the top of the calls by value; `exports` and `log_heads` stand on it. Each call is proved equal to the ranged model on the view of the lent numbers, in the crate that it is
-// handed on to (`call_open`, `call_merge`, `call_set`, `call_join`, `call_remove`), and the ranged model agrees with the grid (crate `agreement`);
+// Place in the picture: the top of the calls by value; `exports` and `log_heads` stand on it. Each call is proved equal to the ranged model on
+// the view of the lent numbers, in the crate that it is handed on to (`call_open`, `call_merge`, `call_set`, `call_join`, `call_remove`), and the ranged model agrees with the grid (crate `agreement`);
 // here the two meet. The `ensures` below are the definitions that specs/Trace makes traces of: a trace is any list of calls whose steps
 // meet these contracts, from newly opened storage or any that is well formed; at each of its steps the lent numbers show what the grid's run
 // gives, and no step is refused because of what it was lent (4, 5 and 15). So nothing but contracts stands between demand 3 and the code.

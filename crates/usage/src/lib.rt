@@ -4,8 +4,8 @@
 // knows of no texture, range or log, so that buffers can use it as it stands.
 //
 // What holds of every function: a state is any u32, the usage flags are any, nothing is required, and the answer equals the model's
-// definition. The definitions count sixteen bits, so `one_bit` looks at the low sixteen. Laws on states are in specs/StateLaws, on bits
-// in specs/BitLaws, on counts of bits in specs/CountLaws.
+// definition. The definitions count sixteen bits, so `one_bit` looks at the low sixteen. specs/StateLaws has that wgpu-core's test is
+// 01's, specs/BitLaws and CountLaws have laws on bits and on counts of them.
 pub mod flags;
 pub mod united;
 
