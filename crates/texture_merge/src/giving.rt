@@ -46,7 +46,9 @@ pub fn spread_piece(
 ) -> Stopped
     requires { ⌜ ManyReady (numbersOf (now table)) half (now table) (now ranges) i (getD (now table) (layersAt i) 0) ⌝ }
     requires { ⌜ Selects (numbersOf (now table)) (now table) i q ⌝ }
-    ensures { λ x. ⌜ MipsWalked (numbersOf (now (table .entry))) half i (spreadPiece p cur (record { selector = q; state = new }) (mipsOf (numbersOf (now (table .entry))) half (now (table .entry)) (now (ranges .entry)) i)) (now (table .entry)) (now (ranges .entry)) x (now (table .exit)) (now (ranges .exit)) ⌝ }
+    ensures { λ x. let t = now (table .entry) in let r = now (ranges .entry) in let d = numbersOf t in
+        ⌜ MipsWalked d half i (spreadPiece p cur (record { selector = q; state = new }) (mipsOf d half t r i))
+        t r x (now (table .exit)) (now (ranges .exit)) ⌝ }
 {
     let United::State(u) = unite(p, cur, new) else {
         return Stopped::At(InvalidUse {
@@ -72,7 +74,9 @@ pub fn take_piece(
 ) -> Stopped
     requires { ⌜ ManyReady (numbersOf (now table)) half (now table) (now ranges) i (getD (now table) (layersAt i) 0) ⌝ }
     requires { ⌜ Selects (numbersOf (now table)) (now table) i q ⌝ }
-    ensures { λ x. ⌜ MipsWalked (numbersOf (now (table .entry))) half i (taken doing p (record { selector = q; state = new }) (mipsOf (numbersOf (now (table .entry))) half (now (table .entry)) (now (ranges .entry)) i)) (now (table .entry)) (now (ranges .entry)) x (now (table .exit)) (now (ranges .exit)) ⌝ }
+    ensures { λ x. let t = now (table .entry) in let r = now (ranges .entry) in let d = numbersOf t in
+        ⌜ MipsWalked d half i (taken doing p (record { selector = q; state = new }) (mipsOf d half t r i))
+        t r x (now (table .exit)) (now (ranges .exit)) ⌝ }
 {
     match doing {
         Doing::Insert => {
@@ -103,7 +107,9 @@ pub fn give_mip(
 ) -> Stopped
     requires { ⌜ ManyReady (numbersOf (now table)) half (now table) (now ranges) i (getD (now table) (layersAt i) 0) ⌝ }
     requires { ⌜ GivenMip (now table) i m (now part) len ⌝ }
-    ensures { λ x. ⌜ MipsWalked (numbersOf (now (table .entry))) half i (passes (taken doing p) (map (pieceOn m) (decode len (now (part .entry)))) (mipsOf (numbersOf (now (table .entry))) half (now (table .entry)) (now (ranges .entry)) i)) (now (table .entry)) (now (ranges .entry)) x (now (table .exit)) (now (ranges .exit)) ⌝ }
+    ensures { λ x. let t = now (table .entry) in let r = now (ranges .entry) in let d = numbersOf t in
+        ⌜ MipsWalked d half i (passes (taken doing p) (map (pieceOn m) (decode len (now (part .entry)))) (mipsOf d half t r i))
+        t r x (now (table .exit)) (now (ranges .exit)) ⌝ }
 {
     let mut k = 0;
     while k < len {
@@ -133,7 +139,10 @@ pub fn give_mips(
 ) -> Stopped
     requires { ⌜ ManyReady (numbersOf (now table)) half (now table) (now ranges) i (getD (now table) (layersAt i) 0) ⌝ }
     requires { ⌜ GivenTexture (now table) i mips from (now given) (now lent) ⌝ }
-    ensures { λ x. ⌜ MipsWalked (numbersOf (now (table .entry))) half i (passes (taken doing p) (piecesOf (mipsOf (numbersOf (now (given .entry))) from (now (given .entry)) (now (lent .entry)) i)) (mipsOf (numbersOf (now (table .entry))) half (now (table .entry)) (now (ranges .entry)) i)) (now (table .entry)) (now (ranges .entry)) x (now (table .exit)) (now (ranges .exit)) ⌝ }
+    ensures { λ x. let t = now (table .entry) in let r = now (ranges .entry) in let g = now (given .entry) in let d = numbersOf t in
+        ⌜ MipsWalked d half i
+        (passes (taken doing p) (piecesOf (mipsOf (numbersOf g) from g (now (lent .entry)) i)) (mipsOf d half t r i))
+        t r x (now (table .exit)) (now (ranges .exit)) ⌝ }
 {
     let mut m = 0;
     while m < mips {
