@@ -9,7 +9,7 @@ ghost use mathlib.Core.Path.{_≡_};
 ghost use Rattle.model.specs.Base.{if_then_else_};
 ghost use Rattle.call_open.specs.Open.{OpenedScope, OpenedTracker};
 ghost use Rattle.set_storage.specs.Lent.{LentTracker, scopeTest, trackerTest};
-ghost use Rattle.exports.specs.Answers.{answerOf, outcomeOf, flagsOf};
+ghost use Rattle.exports.specs.SetAnswers.{answerOf, outcomeOf, flagsOf};
 
 // `track::open_scope`.
 #[no_mangle]

@@ -27,7 +27,7 @@ use range_states::filtering::clipped;
 ghost use mathlib.Core.Path.{_≡_};
 ghost use Prim.Native.Nat.{_+_, _≤_};
 ghost use lib.ListN.{length, take};
-ghost use Rattle.range_calls.specs.Answers.{isolateAnswer, isolateRecords, coalesceAnswer, coalesceRecords, filterAnswer, filterRecords};
+ghost use Rattle.range_calls.specs.RangeContract.{isolateAnswer, isolateRecords, coalesceAnswer, coalesceRecords, filterAnswer, filterRecords};
 ghost use Rattle.range_states.specs.View.{blank as blankOf};
 ghost use Rattle.range_records.specs.Passes.{begun, scanned, cutting, joining, clipping};
 

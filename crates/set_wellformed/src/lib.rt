@@ -43,7 +43,7 @@ ghost use Rattle.model.specs.WellFormed.{stateFits, singleFits, rangesFit, held
 ghost use Rattle.range_states.specs.View.{decode};
 ghost use Rattle.set_storage.specs.Storage.{numbersOf, flagsOf, extentOf, mipOf, mipsOf, heldOf, startHalf, listFrom, layersAt, mipLimitAt, mipsAt, texturesAt};
 ghost use Rattle.set_storage.specs.Frames.{Measured, MipReady};
-ghost use Rattle.set_wellformed.specs.Tests.{TextureStored, numbers, extentFits, headFits, scopeSlotFits, scopeSlotsFit};
+ghost use Rattle.set_wellformed.specs.Parts.{TextureStored, numbers, extentFits, headFits, scopeSlotFits, scopeSlotsFit};
 ghost use Rattle.set_wellformed.specs.Unknowns.{itself};
 ghost use Rattle.set_wellformed.specs.Words.{scopeWordFits};
 ghost use Rattle.set_wellformed.specs.Whole.{TestsScope};

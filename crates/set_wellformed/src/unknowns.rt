@@ -33,7 +33,7 @@ ghost use Rattle.model.specs.WellFormed.{endsFit};
 ghost use Rattle.range_states.specs.View.{decode};
 ghost use Rattle.set_storage.specs.Storage.{numbersOf, flagsOf, extentOf, startHalf, endHalf, mipOf, mipsOf, endsOf, listFrom, texturesAt};
 ghost use Rattle.set_storage.specs.Frames.{Measured};
-ghost use Rattle.set_wellformed.specs.Tests.{TextureStored};
+ghost use Rattle.set_wellformed.specs.Parts.{TextureStored};
 ghost use Rattle.set_wellformed.specs.Unknowns.{agrees, layersAgree, isKnown, passed, SameLayers, MipFits, MipsFit, EndsReady, HalvesFit, mipAgrees, mipsAgree, endsAgree, itself, trackerSlotFits, trackerSlotsFit};
 ghost use Rattle.set_wellformed.specs.Words.{trackerWordFits};
 ghost use Rattle.set_wellformed.specs.Whole.{TestsTracker};
