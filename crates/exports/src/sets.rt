@@ -25,7 +25,8 @@ pub extern "C" fn track_open_scope(
     unknown: u32,
 ) -> Answer
     ensures { λ r. ⌜ r ≡ answerOf (outcomeOf r) ⌝ }
-    ensures { λ r. ⌜ OpenedScope (now (table .entry)) (now (ranges .entry)) n m w (flagsOf exclusive uninitialized complex unknown) (outcomeOf r) (now (table .exit)) ⌝ }
+    ensures { λ r. let p = flagsOf exclusive uninitialized complex unknown in
+        ⌜ OpenedScope (now (table .entry)) (now (ranges .entry)) n m w p (outcomeOf r) (now (table .exit)) ⌝ }
 {
     let flags = UsageFlags {
         exclusive,
@@ -52,7 +53,8 @@ pub extern "C" fn track_open_tracker(
     mask: u16,
 ) -> Answer
     ensures { λ r. ⌜ r ≡ answerOf (outcomeOf r) ⌝ }
-    ensures { λ r. ⌜ OpenedTracker (now (table .entry)) (now (starts .entry)) (now (ends .entry)) n m w (flagsOf exclusive uninitialized complex unknown) mask (outcomeOf r) (now (table .exit)) ⌝ }
+    ensures { λ r. let p = flagsOf exclusive uninitialized complex unknown in
+        ⌜ OpenedTracker (now (table .entry)) (now (starts .entry)) (now (ends .entry)) n m w p mask (outcomeOf r) (now (table .exit)) ⌝ }
 {
     let flags = UsageFlags {
         exclusive,

@@ -11,7 +11,8 @@ ghost use Prim.Native.Nat.{ℕ, _+_, _*_, _≤_, _<_};
 ghost use lib.ListN.{length, drop, getD};
 ghost use Rattle.model.specs.RangedStates.{listOf, isolate as isolateOf};
 ghost use Rattle.range_states.specs.View.{view, blank, decode};
-ghost use Rattle.range_isolate.specs.Isolation.{Gapped, EndCut, Covered, Found, StartCut, Isolating, CoverRoom, IsolateRoom, gapCount, cutCount, leadCount, Leading, Added};
+ghost use Rattle.range_isolate.specs.Isolation.{Gapped, EndCut, Covered, Found, StartCut, Isolating, CoverRoom, IsolateRoom};
+ghost use Rattle.range_isolate.specs.Isolation.{gapCount, cutCount, leadCount, Leading, Added};
 
 // The new count, and where the run ends.
 struct Placed {

@@ -16,7 +16,9 @@ ghost use Prim.Native.Nat.{_+_, _-_, _≤_, _<_, min};
 ghost use lib.Dec.{ltb};
 ghost use Rattle.model.specs.RangedStates.{joins as joinsOf};
 ghost use Rattle.range_states.specs.View.{blank as blankOf};
-ghost use Rattle.range_records.specs.Passes.{countOf, followsOf, cutsOf, endOf, leftOf, Few, begun, lookOf, isolatePlan, refusedPlan, verdictOf, grantedOf, coalescedOf, filterPlan, filterCount, lowerOf, cutPiece, joinOf};
+ghost use Rattle.range_records.specs.Passes.{countOf, followsOf, cutsOf, Few, begun, lookOf};
+ghost use Rattle.range_records.specs.Passes.{isolatePlan, refusedPlan, verdictOf, grantedOf, coalescedOf, filterPlan, filterCount};
+ghost use Rattle.range_records.specs.Passes.{endOf, lowerOf, leftOf, cutPiece, joinOf};
 
 // What `survey` has found among the records so far: where the last one ends, whether they ascend, and how many end at or before the index's
 // start, overlap the index, leave a gap in it, are cut by its start, and by its end.
