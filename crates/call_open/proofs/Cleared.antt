@@ -2,7 +2,7 @@
 use Prim.Native.Nat.{ℕ, zero, suc, _≤_, _<_}
 use native.Mathlib.Omega.{arith}
 use mathlib.Core.Path.{_≡_, refl, sym, ap, _∙_}
-use mathlib.Core.Bool.{Bool, true, false, not, _&&_, and-eq-true-iff, false≢true}
+use mathlib.Core.Bool.{Bool, true, not, _&&_, false≢true}
 use mathlib.Core.List.{List, [], _∷_}
 use mathlib.Core.Option.{Option, none}
 use lib.Dec.{eqb, ltb}
@@ -18,7 +18,7 @@ use Rattle.model.specs.Sets.{Numbers, Opening, emptySlot, openSet, openTracker}
 use Rattle.model.specs.Refusals.{firstFailing, openingRefusal, accepted, opens}
 use Rattle.model.specs.Log.{verdict}
 use Rattle.model.specs.Texture.{single}
-use Rattle.model.specs.BoolLaws.{by-eq, by-lt}
+use Rattle.model.specs.BoolLaws.{and-left, and-right, by-eq, by-lt}
 use Rattle.set_storage.specs.Storage.{numbersOf, flagsOf, startHalf, endHalf, heldOf, endsOf, slotWith, scopeOf, trackerOf, listFrom}
 use Rattle.set_storage.specs.Storage.{texturesAt, mipLimitAt, layerLimitAt, exclusiveAt, uninitializedAt, complexAt, unknownAt, maskAt}
 use Rattle.set_storage.specs.Storage.{ownedAt, mipsAt, layersAt, stateAt, tableLength}
@@ -96,19 +96,15 @@ module _ (t : List ℕ) (u v : ℕ) (at : ℕ → ℕ) (long : length t ≡ tabl
 
 -- ---- the flags that fit have UNINITIALIZED apart from COMPLEX
 fourth : (a b c d e f g h : Bool) → a && b && c && d && e && f && g && h ≡ true → d ≡ true
-fourth a b c d e f g h q =
-    let x = and-eq-true-iff (a && b && c && d && e && f && g) h .0 q in
-    let y = and-eq-true-iff (a && b && c && d && e && f) g .0 (x .0) in
-    let z = and-eq-true-iff (a && b && c && d && e) f .0 (y .0) in
-    let w = and-eq-true-iff (a && b && c && d) e .0 (z .0) in
-    and-eq-true-iff (a && b && c) d .0 (w .0) .1
+fourth a b c d e f g h q = and-right (a && b && c) d (and-left _ e (and-left _ f (and-left _ g (and-left _ h q))))
 
 flags-apart : (p : UsageFlags) → flagsFit p ≡ true → p .uninitialized ≡ p .complex → ⊥
 unfolding flagsFit
 flags-apart p e z =
-    let a = and-eq-true-iff (isBit (p .unknown)) (apart p) .0 e .1 in
-    let b = fourth (ltb (p .exclusive) 65536) (isBit (p .uninitialized)) (isBit (p .complex)) (not (eqb (p .uninitialized) (p .complex))) (not (eqb (p .uninitialized) (p .unknown))) (not (eqb (p .complex) (p .unknown))) (not (meets (p .complex) (p .exclusive))) (not (meets (p .unknown) (p .exclusive))) a in
-    false≢true (rw (eq-eqb (p .uninitialized) (p .complex) z) at b)
+    let differ = fourth (ltb (p .exclusive) 65536) (isBit (p .uninitialized)) (isBit (p .complex)) (not (eqb (p .uninitialized) (p .complex)))
+    (not (eqb (p .uninitialized) (p .unknown))) (not (eqb (p .complex) (p .unknown))) (not (meets (p .complex) (p .exclusive)))
+    (not (meets (p .unknown) (p .exclusive))) (and-right (isBit (p .unknown)) (apart p) e) in
+    false≢true (rw (eq-eqb (p .uninitialized) (p .complex) z) at differ)
 
 -- ---- the view
 module _ (t : List ℕ) (n m w : ℕ) (p : UsageFlags) (mask : ℕ) (long : length t ≡ tableLength) (few : n ≤ 64) (fit : flagsFit p ≡ true) where

@@ -7,7 +7,6 @@
 mod call;
 
 use libc::STDIN_FILENO;
-use replay_lines::numbers;
 use replay_lines::numbers::at;
 use replay_lines::numbers::smaller;
 use replay_lines::out;

@@ -3,12 +3,10 @@
 // The store has four equal parts, one a set: its table, then the ranges of its two halves, with equal room. A call works on copies: they
 // are loaded before it, and saved after it, or compared where it was refused.
 use crate::numbers;
-use crate::numbers::at;
 use crate::numbers::most;
 use crate::numbers::smaller;
 use set_storage::TABLE_LENGTH;
 use set_storage::Table;
-use set_storage::wide;
 ghost use Prim.Native.Nat.{_≤_};
 
 // What is known of the sets and of the log.

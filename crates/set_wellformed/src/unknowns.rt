@@ -13,7 +13,6 @@ use range_states::get;
 use set_storage::COUNTS;
 use set_storage::END;
 use set_storage::LAYER_LIMIT;
-use set_storage::LAYERS;
 use set_storage::MIP_LIMIT;
 use set_storage::MIPS;
 use set_storage::OWNED;
