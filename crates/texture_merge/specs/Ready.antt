@@ -91,6 +91,10 @@ pub record ManyReady (d : Numbers) (h : ℕ) (t r : List ℕ) (i layers : ℕ) :
   pub low : layers ≤ d .layers
   pub tiled : (k : ℕ) → k < mipsIn d t i → Tiles 0 (mipOf d h t r i k) layers
 
+-- they tile as many layers as the table says that it has
+abbrev pub HalfTiled : ℕ → List ℕ → List ℕ → ℕ → Type 0
+HalfTiled h t r i = ManyReady (numbersOf t) h t r i (getD t (layersAt i) 0)
+
 -- as the half holds it, where its word tells COMPLEX; w is how many layers it has
 pub many-of : {d : Numbers} {h i : ℕ} {sh : Extent} {t r : List ℕ} → TextureHeld d h t r i sh → getD t (h + i) 0 ≡ getD t complexAt 0 → (w : ℕ) → w ≡ sh .layers → ManyReady d h t r i w
 many-of x c w e =

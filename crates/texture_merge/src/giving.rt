@@ -16,13 +16,12 @@ use usage::unite;
 ghost use mathlib.Core.Path.{_≡_};
 ghost use mathlib.Core.List.{map};
 ghost use Prim.Native.Nat.{_+_};
-ghost use lib.ListN.{getD};
 ghost use Rattle.model.specs.Base.{passes};
 ghost use Rattle.model.specs.StateRules.{endAfter};
 ghost use Rattle.model.specs.Texture.{piecesOf, spreadPiece};
 ghost use Rattle.range_states.specs.View.{decode};
-ghost use Rattle.set_storage.specs.Storage.{numbersOf, mipsOf, layersAt};
-ghost use Rattle.texture_merge.specs.Ready.{ManyReady, Selects};
+ghost use Rattle.set_storage.specs.Storage.{numbersOf, mipsOf};
+ghost use Rattle.texture_merge.specs.Ready.{HalfTiled, Selects};
 ghost use Rattle.texture_merge.specs.Walks.{MipsWalked};
 ghost use Rattle.texture_merge.specs.Giving.{taken, pieceOn, GivenMip, GivenTexture};
 
@@ -44,7 +43,7 @@ pub fn spread_piece(
     cur: u32,
     new: u32,
 ) -> Stopped
-    requires { ⌜ ManyReady (numbersOf (now table)) half (now table) (now ranges) i (getD (now table) (layersAt i) 0) ⌝ }
+    requires { ⌜ HalfTiled half (now table) (now ranges) i ⌝ }
     requires { ⌜ Selects (numbersOf (now table)) (now table) i q ⌝ }
     ensures { λ x. let t = now (table .entry) in let r = now (ranges .entry) in let d = numbersOf t in
         ⌜ MipsWalked d half i (spreadPiece p cur (record { selector = q; state = new }) (mipsOf d half t r i))
@@ -72,7 +71,7 @@ pub fn take_piece(
     p: UsageFlags,
     new: u32,
 ) -> Stopped
-    requires { ⌜ ManyReady (numbersOf (now table)) half (now table) (now ranges) i (getD (now table) (layersAt i) 0) ⌝ }
+    requires { ⌜ HalfTiled half (now table) (now ranges) i ⌝ }
     requires { ⌜ Selects (numbersOf (now table)) (now table) i q ⌝ }
     ensures { λ x. let t = now (table .entry) in let r = now (ranges .entry) in let d = numbersOf t in
         ⌜ MipsWalked d half i (taken doing p (record { selector = q; state = new }) (mipsOf d half t r i))
@@ -105,7 +104,7 @@ pub fn give_mip(
     len: usize,
     p: UsageFlags,
 ) -> Stopped
-    requires { ⌜ ManyReady (numbersOf (now table)) half (now table) (now ranges) i (getD (now table) (layersAt i) 0) ⌝ }
+    requires { ⌜ HalfTiled half (now table) (now ranges) i ⌝ }
     requires { ⌜ GivenMip (now table) i m (now part) len ⌝ }
     ensures { λ x. let t = now (table .entry) in let r = now (ranges .entry) in let d = numbersOf t in
         ⌜ MipsWalked d half i (passes (taken doing p) (map (pieceOn m) (decode len (now (part .entry)))) (mipsOf d half t r i))
@@ -137,7 +136,7 @@ pub fn give_mips(
     from: usize,
     p: UsageFlags,
 ) -> Stopped
-    requires { ⌜ ManyReady (numbersOf (now table)) half (now table) (now ranges) i (getD (now table) (layersAt i) 0) ⌝ }
+    requires { ⌜ HalfTiled half (now table) (now ranges) i ⌝ }
     requires { ⌜ GivenTexture (now table) i mips from (now given) (now lent) ⌝ }
     ensures { λ x. let t = now (table .entry) in let r = now (ranges .entry) in let g = now (given .entry) in let d = numbersOf t in
         ⌜ MipsWalked d half i

@@ -10,9 +10,9 @@ use Rattle.model.specs.declared.Extent.{Extent}
 use Rattle.model.specs.declared.Selector.{Selector}
 use Rattle.model.specs.declared.Range.{Range}
 use Rattle.model.specs.Texture.{Held, single, many, givenSingle, learnAll, metBy, spreadEnd, updateAll, update}
-use Rattle.set_storage.specs.Storage.{numbersOf, flagsOf, startHalf, endHalf, complexAt, layersAt, stateAt}
+use Rattle.set_storage.specs.Storage.{numbersOf, flagsOf, startHalf, endHalf, complexAt, stateAt}
 use Rattle.set_storage.specs.Texture.{TextureHeld, SelectorWithin}
-use Rattle.texture_merge.specs.Ready.{updatedMips, ManyReady, many-of}
+use Rattle.texture_merge.specs.Ready.{updatedMips, HalfTiled, many-of}
 use Rattle.texture_merge.specs.Uses.{useOf, UseReady, brokenUp}
 use Rattle.texture_update.specs.Learning.{BothReady}
 
@@ -32,10 +32,10 @@ module _ {t s e : List ℕ} {i : ℕ} {sh : Extent} {p : UsageFlags} {new : ℕ}
   pub complex-is : p .complex ≡ getD t complexAt 0
   complex-is = ap (λ (y : UsageFlags). y .complex) (r .flags)
 
-  pub start-many : getD t (stateAt startHalf i) 0 ≡ p .complex → ManyReady (numbersOf t) startHalf t s i (getD t (layersAt i) 0)
+  pub start-many : getD t (stateAt startHalf i) 0 ≡ p .complex → HalfTiled startHalf t s i
   start-many c = many-of (r .start) (c ∙ complex-is) _ (r .start .ready .layers)
 
-  pub end-many : getD t (stateAt endHalf i) 0 ≡ p .complex → ManyReady (numbersOf t) endHalf t e i (getD t (layersAt i) 0)
+  pub end-many : getD t (stateAt endHalf i) 0 ≡ p .complex → HalfTiled endHalf t e i
   end-many c = many-of (r .end) (c ∙ complex-is) _ (r .end .ready .layers)
 
   pub both-many : getD t (stateAt startHalf i) 0 ≡ p .complex → getD t (stateAt endHalf i) 0 ≡ p .complex → BothReady t s e i
