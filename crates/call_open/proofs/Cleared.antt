@@ -1,27 +1,30 @@
 -- The view of a table that was written by opening: no index is owned, and each state is UNINITIALIZED.
-use Prim.Native.Nat.{ℕ, zero, suc, _+_, _/_, _≤_, _<_, min}
+use Prim.Native.Nat.{ℕ, zero, suc, _≤_, _<_}
 use native.Mathlib.Omega.{arith}
 use mathlib.Core.Path.{_≡_, refl, sym, ap, _∙_}
-use mathlib.Core.Bool.{Bool, true, false, not, _&&_, and-eq-true-iff, false≢true}
+use mathlib.Core.Bool.{Bool, true, not, _&&_, false≢true}
 use mathlib.Core.List.{List, [], _∷_}
-use mathlib.Core.Option.{none, some}
+use mathlib.Core.Option.{Option, none}
 use lib.Dec.{eqb, ltb}
 use lib.ListN.{length, getD, set, replicate, drop, length-set, length-drop, length-replicate, getD-replicate}
 use lib.Seq.{getD-set-same, getD-set-other, ext-getD, sets-eq}
 use borrow.Author.Tests.{eq-eqb}
 use Rattle.model.specs.declared.UsageFlags.{UsageFlags}
 use Rattle.model.specs.declared.Refusal.{Refusal}
-use Rattle.model.specs.declared.Outcome.the-variants.{Done, Refused}
+use Rattle.model.specs.declared.Outcome.{Outcome}
+use Rattle.model.specs.Base.{if_then_else_}
 use Rattle.model.specs.Flags.{isBit, meets, apart, flagsFit}
 use Rattle.model.specs.Sets.{Numbers, Opening, emptySlot, openSet, openTracker}
 use Rattle.model.specs.Refusals.{firstFailing, openingRefusal, accepted, opens}
 use Rattle.model.specs.Log.{verdict}
 use Rattle.model.specs.Texture.{single}
-use Rattle.model.specs.BoolLaws.{by-eq, by-lt}
-use Rattle.set_storage.specs.Storage.{numbersOf, flagsOf, startHalf, endHalf, heldOf, endsOf, slotWith, scopeOf, trackerOf, listFrom, layersAt, maskAt, mipsAt, ownedAt, stateAt, tableLength}
+use Rattle.model.specs.BoolLaws.{and-left, and-right, by-eq, by-lt}
+use Rattle.set_storage.specs.Storage.{numbersOf, flagsOf, startHalf, endHalf, heldOf, endsOf, slotWith, scopeOf, trackerOf, listFrom}
+use Rattle.set_storage.specs.Storage.{texturesAt, mipLimitAt, layerLimitAt, exclusiveAt, uninitializedAt, complexAt, unknownAt, maskAt}
+use Rattle.set_storage.specs.Storage.{ownedAt, mipsAt, layersAt, stateAt, tableLength}
 use Rattle.set_storage.specs.Lists.{list-long, list-at}
 use Rattle.set_storage.specs.Slots.{held-single}
-use Rattle.call_open.specs.Open.{asked, headed, clearedAt, cleared, OpenedScope, OpenedTracker}
+use Rattle.call_open.specs.Open.{asked, headed, clearedAt, cleared, TableOpened}
 use Rattle.agreement.specs.OpeningLaws.{opened-numbers, opened-fits}
 use Rattle.set_wellformed.proofs.Numbers.{numbers-in}
 
@@ -73,17 +76,17 @@ unfolding cleared
 cleared-long t u zero = refl
 cleared-long t u (suc k) = at-long (cleared t u k) u k ∙ cleared-long t u k
 
--- a word of the head
-cleared-head : (t : List ℕ) (u n x : ℕ) → x < 8 → getD (cleared t u n) x 0 ≡ getD t x 0
+-- a word of the head, before the first word of ownership
+cleared-head : (t : List ℕ) (u n x : ℕ) → x < ownedAt 0 → getD (cleared t u n) x 0 ≡ getD t x 0
 unfolding cleared
 cleared-head t u zero x h = refl
 cleared-head t u (suc k) x h = at-other (cleared t u k) u k x (λ z. omega arith) (λ z. omega arith) (λ z. omega arith) (λ z. omega arith) (λ z. omega arith) ∙ cleared-head t u k x h
 
--- the word at b + i of an index, where the five words of two indices do not meet
-module _ (t : List ℕ) (u b v : ℕ) (long : length t ≡ tableLength)
-    (here : (l : List ℕ) (k : ℕ) → k < 64 → length l ≡ tableLength → getD (clearedAt l u k) (b + k) 0 ≡ v)
-    (far : (l : List ℕ) (k i : ℕ) → k < 64 → i < 64 → (i ≡ k → ⊥) → getD (clearedAt l u k) (b + i) 0 ≡ getD l (b + i) 0) where
-  cleared-word : (n i : ℕ) → n ≤ 64 → i < n → getD (cleared t u n) (b + i) 0 ≡ v
+-- one of an index's five words, which those of another index do not meet
+module _ (t : List ℕ) (u v : ℕ) (at : ℕ → ℕ) (long : length t ≡ tableLength)
+    (here : (l : List ℕ) (k : ℕ) → k < 64 → length l ≡ tableLength → getD (clearedAt l u k) (at k) 0 ≡ v)
+    (far : (l : List ℕ) (k i : ℕ) → k < 64 → i < 64 → (i ≡ k → ⊥) → getD (clearedAt l u k) (at i) 0 ≡ getD l (at i) 0) where
+  cleared-word : (n i : ℕ) → n ≤ 64 → i < n → getD (cleared t u n) (at i) 0 ≡ v
   unfolding cleared
   cleared-word zero i m h = absurd (omega arith)
   cleared-word (suc k) i m h =
@@ -93,19 +96,15 @@ module _ (t : List ℕ) (u b v : ℕ) (long : length t ≡ tableLength)
 
 -- ---- the flags that fit have UNINITIALIZED apart from COMPLEX
 fourth : (a b c d e f g h : Bool) → a && b && c && d && e && f && g && h ≡ true → d ≡ true
-fourth a b c d e f g h q =
-    let x = and-eq-true-iff (a && b && c && d && e && f && g) h .0 q in
-    let y = and-eq-true-iff (a && b && c && d && e && f) g .0 (x .0) in
-    let z = and-eq-true-iff (a && b && c && d && e) f .0 (y .0) in
-    let w = and-eq-true-iff (a && b && c && d) e .0 (z .0) in
-    and-eq-true-iff (a && b && c) d .0 (w .0) .1
+fourth a b c d e f g h q = and-right (a && b && c) d (and-left _ e (and-left _ f (and-left _ g (and-left _ h q))))
 
 flags-apart : (p : UsageFlags) → flagsFit p ≡ true → p .uninitialized ≡ p .complex → ⊥
 unfolding flagsFit
 flags-apart p e z =
-    let a = and-eq-true-iff (isBit (p .unknown)) (apart p) .0 e .1 in
-    let b = fourth (ltb (p .exclusive) 65536) (isBit (p .uninitialized)) (isBit (p .complex)) (not (eqb (p .uninitialized) (p .complex))) (not (eqb (p .uninitialized) (p .unknown))) (not (eqb (p .complex) (p .unknown))) (not (meets (p .complex) (p .exclusive))) (not (meets (p .unknown) (p .exclusive))) a in
-    false≢true (rw (eq-eqb (p .uninitialized) (p .complex) z) at b)
+    let differ = fourth (ltb (p .exclusive) 65536) (isBit (p .uninitialized)) (isBit (p .complex)) (not (eqb (p .uninitialized) (p .complex)))
+    (not (eqb (p .uninitialized) (p .unknown))) (not (eqb (p .complex) (p .unknown))) (not (meets (p .complex) (p .exclusive)))
+    (not (meets (p .unknown) (p .exclusive))) (and-right (isBit (p .unknown)) (apart p) e) in
+    false≢true (rw (eq-eqb (p .uninitialized) (p .complex) z) at differ)
 
 -- ---- the view
 module _ (t : List ℕ) (n m w : ℕ) (p : UsageFlags) (mask : ℕ) (long : length t ≡ tableLength) (few : n ≤ 64) (fit : flagsFit p ≡ true) where
@@ -118,48 +117,54 @@ module _ (t : List ℕ) (n m w : ℕ) (p : UsageFlags) (mask : ℕ) (long : leng
   abbrev d : Numbers
   d = record { textures = n; mips = m; layers = w }
 
-  head-is : h ≡ n ∷ m ∷ w ∷ p .exclusive ∷ p .uninitialized ∷ p .complex ∷ p .unknown ∷ mask ∷ drop 8 t
+  head-is : h ≡ n ∷ m ∷ w ∷ p .exclusive ∷ p .uninitialized ∷ p .complex ∷ p .unknown ∷ mask ∷ drop (ownedAt 0) t
   head-is = sets-eq (n ∷ m ∷ w ∷ p .exclusive ∷ p .uninitialized ∷ p .complex ∷ p .unknown ∷ mask ∷ []) t 0 (omega arith)
 
   head-long : length h ≡ tableLength
   head-long = ap length head-is ∙ simp length-drop (omega arith)
 
-  word : (x v : ℕ) → x < 8 → getD (n ∷ m ∷ w ∷ p .exclusive ∷ p .uninitialized ∷ p .complex ∷ p .unknown ∷ mask ∷ drop 8 t) x 0 ≡ v → getD t′ x 0 ≡ v
+  word : (x v : ℕ) → x < ownedAt 0
+      → getD (n ∷ m ∷ w ∷ p .exclusive ∷ p .uninitialized ∷ p .complex ∷ p .unknown ∷ mask ∷ drop (ownedAt 0) t) x 0 ≡ v → getD t′ x 0 ≡ v
   word x v q e = cleared-head h (p .uninitialized) n x q ∙ ap (λ (l : List ℕ). getD l x 0) head-is ∙ e
 
   numbers-are : numbersOf t′ ≡ d
-  numbers-are = rw (word 0 n (omega arith) refl, word 1 m (omega arith) refl, word 2 w (omega arith) refl)
+  numbers-are = rw (word texturesAt n (omega arith) refl, word mipLimitAt m (omega arith) refl, word layerLimitAt w (omega arith) refl)
 
   flags-are : flagsOf t′ ≡ p
-  flags-are = rw (word 3 (p .exclusive) (omega arith) refl, word 4 (p .uninitialized) (omega arith) refl, word 5 (p .complex) (omega arith) refl, word 6 (p .unknown) (omega arith) refl)
+  flags-are = rw (
+    word exclusiveAt (p .exclusive) (omega arith) refl,
+    word uninitializedAt (p .uninitialized) (omega arith) refl,
+    word complexAt (p .complex) (omega arith) refl,
+    word unknownAt (p .unknown) (omega arith) refl,
+  )
 
   mask-is : getD t′ maskAt 0 ≡ mask
-  mask-is = word 7 mask (omega arith) refl
+  mask-is = word maskAt mask (omega arith) refl
 
   module _ (i : ℕ) (q : i < n) where
     owned-at : getD t′ (ownedAt i) 0 ≡ 0
-    owned-at = cleared-word h (p .uninitialized) 8 0 head-long (λ l k a b. at-owned l (p .uninitialized) k a b)
+    owned-at = cleared-word h (p .uninitialized) 0 ownedAt head-long (λ l k a b. at-owned l (p .uninitialized) k a b)
         (λ l k j a b ne. at-other l (p .uninitialized) k (ownedAt j) (λ z. ne (omega arith)) (λ z. omega arith) (λ z. omega arith) (λ z. omega arith) (λ z. omega arith)) n i few q
 
     mips-at : getD t′ (mipsAt i) 0 ≡ 0
-    mips-at = cleared-word h (p .uninitialized) 72 0 head-long (λ l k a b. at-mips l (p .uninitialized) k a b)
+    mips-at = cleared-word h (p .uninitialized) 0 mipsAt head-long (λ l k a b. at-mips l (p .uninitialized) k a b)
         (λ l k j a b ne. at-other l (p .uninitialized) k (mipsAt j) (λ z. omega arith) (λ z. ne (omega arith)) (λ z. omega arith) (λ z. omega arith) (λ z. omega arith)) n i few q
 
     layers-at : getD t′ (layersAt i) 0 ≡ 0
-    layers-at = cleared-word h (p .uninitialized) 136 0 head-long (λ l k a b. at-layers l (p .uninitialized) k a b)
+    layers-at = cleared-word h (p .uninitialized) 0 layersAt head-long (λ l k a b. at-layers l (p .uninitialized) k a b)
         (λ l k j a b ne. at-other l (p .uninitialized) k (layersAt j) (λ z. omega arith) (λ z. omega arith) (λ z. ne (omega arith)) (λ z. omega arith) (λ z. omega arith)) n i few q
 
     start-at : getD t′ (stateAt startHalf i) 0 ≡ p .uninitialized
-    start-at = cleared-word h (p .uninitialized) startHalf (p .uninitialized) head-long (λ l k a b. at-start l (p .uninitialized) k a b)
+    start-at = cleared-word h (p .uninitialized) _ (stateAt startHalf) head-long (λ l k a b. at-start l (p .uninitialized) k a b)
         (λ l k j a b ne. at-other l (p .uninitialized) k (stateAt startHalf j) (λ z. omega arith) (λ z. omega arith) (λ z. omega arith) (λ z. ne (omega arith)) (λ z. omega arith)) n i few q
 
     end-at : getD t′ (stateAt endHalf i) 0 ≡ p .uninitialized
-    end-at = cleared-word h (p .uninitialized) endHalf (p .uninitialized) head-long (λ l k a b. at-end l (p .uninitialized) k a b)
+    end-at = cleared-word h (p .uninitialized) _ (stateAt endHalf) head-long (λ l k a b. at-end l (p .uninitialized) k a b)
         (λ l k j a b ne. at-other l (p .uninitialized) k (stateAt endHalf j) (λ z. omega arith) (λ z. omega arith) (λ z. omega arith) (λ z. omega arith) (λ z. ne (omega arith))) n i few q
 
     -- a half whose word is UNINITIALIZED
-    held-at : (b : ℕ) (r : List ℕ) → getD t′ (b + i) 0 ≡ p .uninitialized → heldOf d b t′ r i ≡ single (p .uninitialized)
-    held-at b r e = held-single d b t′ r i (λ z. flags-apart p fit (sym e ∙ z ∙ word 5 (p .complex) (omega arith) refl)) ∙ ap single e
+    held-at : (b : ℕ) (r : List ℕ) → getD t′ (stateAt b i) 0 ≡ p .uninitialized → heldOf d b t′ r i ≡ single (p .uninitialized)
+    held-at b r e = held-single d b t′ r i (λ z. flags-apart p fit (sym e ∙ z ∙ word complexAt _ (omega arith) refl)) ∙ ap single e
 
   slots-are : {H : Type 0} (held : ℕ → H) (x : H) → ((i : ℕ) → i < n → held i ≡ x) → listFrom (slotWith held t′) 0 n ≡ replicate n (emptySlot x)
   slots-are held x e =
@@ -171,7 +176,12 @@ module _ (t : List ℕ) (n m w : ℕ) (p : UsageFlags) (mask : ℕ) (long : leng
   scope-opened : (r : List ℕ) (room : ℕ) → scopeOf t′ r ≡ openSet single (asked n m w p mask room)
   unfolding scopeOf
   scope-opened r room =
-      rw (numbers-are, flags-are, word 0 n (omega arith) refl, slots-are (heldOf d startHalf t′ r) (single (p .uninitialized)) (λ i q. held-at i q startHalf r (start-at i q)))
+      rw (
+        numbers-are,
+        flags-are,
+        word texturesAt n (omega arith) refl,
+        slots-are (heldOf d startHalf t′ r) (single (p .uninitialized)) (λ i q. held-at i q startHalf r (start-at i q)),
+      )
 
   tracker-opened : (s e : List ℕ) (room : ℕ) → trackerOf t′ s e ≡ openTracker single (asked n m w p mask room)
   unfolding trackerOf
@@ -180,7 +190,7 @@ module _ (t : List ℕ) (n m w : ℕ) (p : UsageFlags) (mask : ℕ) (long : leng
         mask-is,
         numbers-are,
         flags-are,
-        word 0 n (omega arith) refl,
+        word texturesAt n (omega arith) refl,
         slots-are (endsOf d t′ s e) (record { start = single (p .uninitialized); end = single (p .uninitialized) })
             (λ i q. rw (held-at i q startHalf s (start-at i q), held-at i q endHalf e (end-at i q))),
       )
@@ -192,34 +202,25 @@ opened-few o e = numbers-in (o .numbers .textures) (o .numbers .mips) (o .number
 pub few-of : (n m w : ℕ) (p : UsageFlags) (mask room : ℕ) → openingRefusal (asked n m w p mask room) ≡ none → n ≤ 64
 few-of n m w p mask room e = opened-few (asked n m w p mask room) (ap accepted e)
 
--- ---- the contracts
-module _ (t r : List ℕ) (n m w : ℕ) (p : UsageFlags) where
-  abbrev asks : Opening
-  asks = asked n m w p 0 (length r / 3)
+-- ---- a table that is opened, or refused
+pub table-opened : (t : List ℕ) (n m w : ℕ) (p : UsageFlags) (mask room : ℕ) → length t ≡ tableLength → (x : Option Refusal)
+    → openingRefusal (asked n m w p mask room) ≡ x
+    → TableOpened t n m w p mask room (verdict x) (if accepted x then cleared (headed t n m w p mask) (p .uninitialized) n else t)
+table-opened t n m w p mask room long x q =
+    let o : opens (asked n m w p mask room) ≡ accepted x = ap accepted q in
+    record { long = long; answer = sym (ap verdict q); content = rw o }
 
-  pub scope-done : length t ≡ tableLength → openingRefusal asks ≡ none → OpenedScope t r n m w p Done (cleared (headed t n m w p 0) (p .uninitialized) n)
-  scope-done long q =
-      let o : opens asks ≡ true = ap accepted q in
-      record { answer = sym (ap verdict q); content = rw o; view = λ _. scope-opened t n m w p 0 long (opened-few asks o) (opened-fits asks o) r (length r / 3) }
+-- what is opened, seen as a scope or as a tracker
+module _ {t t′ : List ℕ} {n m w : ℕ} {p : UsageFlags} {mask room : ℕ} {x : Outcome} (b : TableOpened t n m w p mask room x t′)
+    (o : opens (asked n m w p mask room) ≡ true) where
+  written : t′ ≡ cleared (headed t n m w p mask) (p .uninitialized) n
+  written = rw o at (b .content)
 
-  pub scope-refused : (x : Refusal) → openingRefusal asks ≡ some x → OpenedScope t r n m w p (Refused x) t
-  scope-refused x q =
-      let o : opens asks ≡ false = ap accepted q in
-      record { answer = sym (ap verdict q); content = rw o; view = λ z. absurd (false≢true (sym o ∙ z)) }
+  pub opened-scope : (r : List ℕ) → scopeOf t′ r ≡ openSet single (asked n m w p mask room)
+  opened-scope r = rw written (scope-opened t n m w p mask (b .long) (opened-few _ o) (opened-fits _ o) r room)
 
-module _ (t s e : List ℕ) (n m w : ℕ) (p : UsageFlags) (mask : ℕ) where
-  abbrev asks-both : Opening
-  asks-both = asked n m w p mask (min (length s / 3) (length e / 3))
-
-  pub tracker-done : length t ≡ tableLength → openingRefusal asks-both ≡ none → OpenedTracker t s e n m w p mask Done (cleared (headed t n m w p mask) (p .uninitialized) n)
-  tracker-done long q =
-      let o : opens asks-both ≡ true = ap accepted q in
-      record { answer = sym (ap verdict q); content = rw o; view = λ _. tracker-opened t n m w p mask long (opened-few asks-both o) (opened-fits asks-both o) s e (min (length s / 3) (length e / 3)) }
-
-  pub tracker-refused : (x : Refusal) → openingRefusal asks-both ≡ some x → OpenedTracker t s e n m w p mask (Refused x) t
-  tracker-refused x q =
-      let o : opens asks-both ≡ false = ap accepted q in
-      record { answer = sym (ap verdict q); content = rw o; view = λ z. absurd (false≢true (sym o ∙ z)) }
+  pub opened-tracker : (s e : List ℕ) → trackerOf t′ s e ≡ openTracker single (asked n m w p mask room)
+  opened-tracker s e = rw written (tracker-opened t n m w p mask (b .long) (opened-few _ o) (opened-fits _ o) s e room)
 
 -- the mask is not looked at
 pub any-mask : (n m w : ℕ) (p : UsageFlags) (mask room : ℕ) → openingRefusal (asked n m w p 0 room) ≡ openingRefusal (asked n m w p mask room)

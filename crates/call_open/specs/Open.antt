@@ -12,7 +12,7 @@ use Rattle.model.specs.Sets.{Opening, openSet, openTracker}
 use Rattle.model.specs.Refusals.{openingRefusal, opens}
 use Rattle.model.specs.Log.{verdict}
 use Rattle.model.specs.Texture.{single}
-use Rattle.set_storage.specs.Storage.{scopeOf, trackerOf, endHalf, layersAt, mipsAt, ownedAt, startHalf, stateAt}
+use Rattle.set_storage.specs.Storage.{scopeOf, trackerOf, endHalf, layersAt, mipsAt, ownedAt, startHalf, stateAt, tableLength}
 
 abbrev pub asked : ℕ → ℕ → ℕ → UsageFlags → ℕ → ℕ → Opening
 asked n m w p mask room = record { numbers = record { textures = n; mips = m; layers = w }; flags = p; mask = mask; room = room }
@@ -28,6 +28,12 @@ clearedAt t u k = set (set (set (set (set t (ownedAt k) 0) (mipsAt k) 0) (layers
 unfoldable pub cleared : List ℕ → ℕ → ℕ → List ℕ
 cleared t u zero = t
 cleared t u (suc k) = clearedAt (cleared t u k) u k
+
+-- a table is opened or refused: the table's length, the answer, and the table as it was, or written
+pub record TableOpened (t : List ℕ) (n m w : ℕ) (p : UsageFlags) (mask room : ℕ) (x : Outcome) (t′ : List ℕ) : Type 0 where
+  pub long : length t ≡ tableLength
+  pub answer : x ≡ verdict (openingRefusal (asked n m w p mask room))
+  pub content : t′ ≡ (if opens (asked n m w p mask room) then cleared (headed t n m w p mask) (p .uninitialized) n else t)
 
 -- THE CONTRACTS: the answer; the table as it was, or written; and then its view
 pub record OpenedScope (t r : List ℕ) (n m w : ℕ) (p : UsageFlags) (x : Outcome) (t′ : List ℕ) : Type 0 where

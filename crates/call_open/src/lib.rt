@@ -1,7 +1,7 @@
 // Call open: a scope or a tracker begins in lent storage, with no index owned and each state UNINITIALIZED.
 //
-// Place in the picture: the first of the public calls, over `set_storage` and the tests of `set_wellformed` and `usage`. Nothing is required of
-// the caller: the checks 1, 2 and 3 of 01's table come first, and a refusal leaves every number as it was.
+// Place in the picture: the first of the public calls, over `set_storage` and the tests of `set_wellformed` and `usage`. Nothing is
+// required of the caller: the checks 1, 2 and 3 of 01's table come first, and a refusal leaves every number as it was.
 //
 // What holds: the answer is the model's (Refusals: `openingRefusal`); otherwise the table is written as specs/Open says, number by
 // number, and its view is the model's newly opened set. The ranges are not written: room that is not needed stays untouched, and what
@@ -31,7 +31,7 @@ use usage::flags_fit;
 ghost use mathlib.Core.Path.{_≡_};
 ghost use Prim.Native.Nat.{_≤_, _/_, min};
 ghost use Rattle.model.specs.Refusals.{openingRefusal, refusedFor};
-ghost use Rattle.call_open.specs.Open.{OpenedScope, OpenedTracker, asked, cleared, headed};
+ghost use Rattle.call_open.specs.Open.{asked, headed, cleared, TableOpened, OpenedScope, OpenedTracker};
 
 // The checks 1, 2 and 3, for room of so many ranges.
 pub fn check(n: u32, m: u32, w: u32, p: UsageFlags, room: usize) -> Verdict
@@ -79,6 +79,29 @@ pub fn clear(table: &mut Table, n: usize, state: u32)
     }
 }
 
+// Opens a table: it is written if the checks let it pass.
+fn open_table(
+    table: &mut Table,
+    n: u32,
+    m: u32,
+    w: u32,
+    p: UsageFlags,
+    mask: u32,
+    room: usize,
+) -> Outcome
+    ensures { λ x. ⌜ TableOpened (now (table .entry)) n m w p mask room x (now (table .exit)) ⌝ }
+{
+    table_len(table);
+    match check(n, m, w, p, room) {
+        Verdict::Accepted => {
+            write_head(table, n, m, w, p, mask);
+            clear(table, wide(n), p.uninitialized);
+            Outcome::Done
+        }
+        Verdict::Refused(r) => Outcome::Refused(r),
+    }
+}
+
 // Opens a scope for n textures of m mips and w layers.
 pub fn open_scope(
     table: &mut Table,
@@ -90,15 +113,7 @@ pub fn open_scope(
 ) -> Outcome
     ensures { λ x. ⌜ OpenedScope (now (table .entry)) (now (ranges .entry)) n m w p x (now (table .exit)) ⌝ }
 {
-    table_len(table);
-    match check(n, m, w, p, ranges.len() / 3) {
-        Verdict::Accepted => {
-            write_head(table, n, m, w, p, 0);
-            clear(table, wide(n), p.uninitialized);
-            Outcome::Done
-        }
-        Verdict::Refused(r) => Outcome::Refused(r),
-    }
+    open_table(table, n, m, w, p, 0, ranges.len() / 3)
 }
 
 // Opens a tracker, with an ordered mask.
@@ -114,16 +129,8 @@ pub fn open_tracker(
 ) -> Outcome
     ensures { λ x. ⌜ OpenedTracker (now (table .entry)) (now (starts .entry)) (now (ends .entry)) n m w p mask x (now (table .exit)) ⌝ }
 {
-    table_len(table);
     let room = smaller(starts.len() / 3, ends.len() / 3);
-    match check(n, m, w, p, room) {
-        Verdict::Accepted => {
-            write_head(table, n, m, w, p, mask as u32);
-            clear(table, wide(n), p.uninitialized);
-            Outcome::Done
-        }
-        Verdict::Refused(r) => Outcome::Refused(r),
-    }
+    open_table(table, n, m, w, p, mask as u32, room)
 }
 
 fn smaller(a: usize, b: usize) -> usize

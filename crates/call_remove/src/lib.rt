@@ -1,10 +1,10 @@
 // Call remove: `TextureTracker::set_and_remove_from_usage_scope_sparse`: the listed textures of a scope go into a tracker, and the scope no
 // longer owns them.
 //
-// Place in the picture: a public call, over the test (`set_wellformed`), the checks (`set_checks`), the log's head (`log_head`) and one texture
-// of a tracker (`texture_track`). Nothing is required of the caller: any list, any numbers in the lent storage and any head of the log get
-// an answer. First the test of both sets (4), the log's head (5), the checks of 01's table in list order and the count of the entries (15),
-// on unchanged storage; then the entries are written and the textures change, and nothing can fail.
+// Place in the picture: a public call, over the test (`set_wellformed`), the checks (`set_checks`), the log's head (`log_head`) and one
+// texture of a tracker (`texture_track`). Nothing is required of the caller: any list, any numbers in the lent storage and any head of the
+// log get an answer. First the test of both sets (4), the log's head (5), the checks of 01's table in list order and the count of the
+// entries (15), on unchanged storage; then the entries are written and the textures change, and nothing can fail.
 //
 //     sparse   the call
 //     logged   the transitions of the listed textures, counted or written

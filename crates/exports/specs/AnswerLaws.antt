@@ -6,7 +6,7 @@ use Rattle.model.specs.declared.Refusal.{Refusal}
 use Rattle.model.specs.declared.Refusal.the-variants.{NumbersOutOfLimits, FlagsBreakRule, ShortRoom, NotWellFormed, LogTooShort, FlagsDiffer, NoSuchIndex, ExtentOutOfLimits, ExtentDiffers, SelectorEmpty, SelectorPastExtent, StateReserved, StateIncompatible, RangesOutOfOrder, NoFreeEntry}
 use Rattle.model.specs.Refusals.{numberOf, placeOf}
 use Rattle.model.specs.declared.Answered.{Answered}
-use Rattle.exports.specs.Answers.{answerOf, outcomeOf, refusalFrom, loggedOf, answeredOf}
+use Rattle.exports.specs.SetAnswers.{answerOf, outcomeOf, refusalFrom, loggedOf, answeredOf}
 
 -- a refusal, by its number and place
 pub refusal-told : (r : Refusal) → refusalFrom (numberOf r) (placeOf r) ≡ r

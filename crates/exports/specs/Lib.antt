@@ -1,4 +1,4 @@
-pub mod Answers
+pub mod SetAnswers
 pub mod AnswerLaws
 pub mod RangesAnswers
 pub mod RangesAnswerLaws

@@ -11,7 +11,7 @@ use Rattle.range_calls.specs.declared.CoalesceAnswer.the-variants as coalesce
 use Rattle.range_calls.specs.declared.FilterAnswer.{FilterAnswer}
 use Rattle.range_calls.specs.declared.FilterAnswer.the-variants as filter
 use Rattle.exports.specs.declared.RangesAnswer.{RangesAnswer}
-use Rattle.exports.specs.Answers.{answerOf, refusalFrom}
+use Rattle.exports.specs.SetAnswers.{answerOf, refusalFrom}
 
 -- ---- The numbers of an answer: what is not told is 0
 abbrev pub numbersOf : Outcome → ℕ → ℕ → ℕ → RangesAnswer

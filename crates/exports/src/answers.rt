@@ -14,7 +14,7 @@ use model::Selector;
 ghost use mathlib.Core.Path.{_≡_};
 ghost use Rattle.model.specs.Refusals.{numberOf, placeOf};
 ghost use Rattle.model.specs.Representation.{select};
-ghost use Rattle.exports.specs.Answers.{answerOf, refusedAs, conflictAs, loggedOf, selectionOf};
+ghost use Rattle.exports.specs.SetAnswers.{answerOf, refusedAs, conflictAs, loggedOf, selectionOf};
 
 // An outcome, in numbers.
 pub fn flat(x: Outcome) -> Answer

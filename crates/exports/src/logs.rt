@@ -4,7 +4,7 @@ use crate::answers::logged;
 use model::LogHead;
 ghost use mathlib.Core.Path.{_≡_};
 ghost use Rattle.log_head.specs.Log.{Emptying};
-ghost use Rattle.exports.specs.Answers.{loggedOf, answeredOf, headOf};
+ghost use Rattle.exports.specs.SetAnswers.{loggedOf, answeredOf, headOf};
 
 // `track::empty_log`.
 #[no_mangle]

@@ -6,7 +6,7 @@ use range_calls::CoalesceAnswer;
 use range_calls::FilterAnswer;
 use range_calls::IsolateAnswer;
 ghost use mathlib.Core.Path.{_≡_};
-ghost use Rattle.range_calls.specs.Answers.{Isolates, Coalesces, Filters};
+ghost use Rattle.range_calls.specs.RangeContract.{Isolates, Coalesces, Filters};
 ghost use Rattle.exports.specs.RangesAnswers.{numbersOf, isolateAs, coalesceAs, filterAs, isolateIn, coalesceIn, filterIn};
 
 // An outcome with three counts.

@@ -11,7 +11,7 @@ ghost use mathlib.Core.Path.{_≡_};
 ghost use Rattle.model.specs.Refusals.{trackerIndex};
 ghost use Rattle.model.specs.Representation.{select};
 ghost use Rattle.call_merge.specs.Contract.{MergeSingle, MergeUsageScope};
-ghost use Rattle.exports.specs.Answers.{answerOf, outcomeOf, selectionOf};
+ghost use Rattle.exports.specs.SetAnswers.{answerOf, outcomeOf, selectionOf};
 
 // `track::merge_single`. Where `part` is 0 the use is of all of the texture, and the four numbers after it are not read.
 #[no_mangle]

@@ -9,7 +9,7 @@ ghost use mathlib.Core.Path.{_≡_};
 ghost use Rattle.model.specs.Base.{if_then_else_};
 ghost use Rattle.call_open.specs.Open.{OpenedScope, OpenedTracker};
 ghost use Rattle.set_storage.specs.Lent.{LentTracker, scopeTest, trackerTest};
-ghost use Rattle.exports.specs.Answers.{answerOf, outcomeOf, flagsOf};
+ghost use Rattle.exports.specs.SetAnswers.{answerOf, outcomeOf, flagsOf};
 
 // `track::open_scope`.
 #[no_mangle]
@@ -25,7 +25,8 @@ pub extern "C" fn track_open_scope(
     unknown: u32,
 ) -> Answer
     ensures { λ r. ⌜ r ≡ answerOf (outcomeOf r) ⌝ }
-    ensures { λ r. ⌜ OpenedScope (now (table .entry)) (now (ranges .entry)) n m w (flagsOf exclusive uninitialized complex unknown) (outcomeOf r) (now (table .exit)) ⌝ }
+    ensures { λ r. let p = flagsOf exclusive uninitialized complex unknown in
+        ⌜ OpenedScope (now (table .entry)) (now (ranges .entry)) n m w p (outcomeOf r) (now (table .exit)) ⌝ }
 {
     let flags = UsageFlags {
         exclusive,
@@ -52,7 +53,8 @@ pub extern "C" fn track_open_tracker(
     mask: u16,
 ) -> Answer
     ensures { λ r. ⌜ r ≡ answerOf (outcomeOf r) ⌝ }
-    ensures { λ r. ⌜ OpenedTracker (now (table .entry)) (now (starts .entry)) (now (ends .entry)) n m w (flagsOf exclusive uninitialized complex unknown) mask (outcomeOf r) (now (table .exit)) ⌝ }
+    ensures { λ r. let p = flagsOf exclusive uninitialized complex unknown in
+        ⌜ OpenedTracker (now (table .entry)) (now (starts .entry)) (now (ends .entry)) n m w p mask (outcomeOf r) (now (table .exit)) ⌝ }
 {
     let flags = UsageFlags {
         exclusive,

@@ -13,7 +13,7 @@ ghost use Rattle.model.specs.Representation.{select};
 ghost use Rattle.call_set.specs.Contract.{SetSingle};
 ghost use Rattle.call_join.specs.Contract.{SetFromUsageScope, SetFromTracker};
 ghost use Rattle.call_remove.specs.Removed.{SetAndRemoveSparse};
-ghost use Rattle.exports.specs.Answers.{loggedOf, answeredOf, headOf};
+ghost use Rattle.exports.specs.SetAnswers.{loggedOf, answeredOf, headOf};
 
 // `track::set_single`.
 #[no_mangle]

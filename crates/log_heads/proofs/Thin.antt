@@ -43,7 +43,7 @@ use Rattle.model.proofs.Outcome as Out
 use Rattle.model.proofs.Outcome.Laws as Out′
 use Rattle.model.proofs.Answered as Answer
 use Rattle.model.proofs.Answered.Laws as Answer′
-use Rattle.walk.specs.Calls.{calls-by, takes-in}
+use Rattle.walk.specs.Calling.{calls-by, takes-in}
 use Rattle.walk.specs.LastParam.{fore-lfts, last-lft, fore-shares, last-share, toks-out, toks-in, Lent, Lending, Handing, Rs, Rs′, spells, tells, vals, typed, behind, handed, handed-vals, left-behind, Said, Others, owns-out, owns-in, lasts-in}
 use Rattle.walk.specs.Locals.{Blocks, envOf, Has, Begins, at, with, at-with, held, part, points, lets, enters, leaves}
 use Rattle.walk.specs.Params.{Param}

@@ -5,8 +5,8 @@
 // one store. proofs/Thin proves every such function by one lemma, over the rules of crate `walk`; a proof of one says only its parameters,
 // and how its code lends them again.
 //
-// What holds: what holds of the call that each function hands on to. The `ensures` are that call's own definitions, at what is lent here; so
-// nothing is required, a refusal leaves everything as it was, and nothing more is to be believed.
+// What holds: what holds of the call that each function hands on to. The `ensures` are that call's own definitions, at what is lent here;
+// so nothing is required, a refusal leaves everything as it was, and nothing more is to be believed.
 pub mod logs;
 
 pub use logs::empty_log;

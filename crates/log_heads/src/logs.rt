@@ -1,11 +1,14 @@
-// The calls that write a log, with its head lent by `&mut` (01: "the head of the log, entries written and entries free, is lent and moved on
-// by the call itself"). Each hands the head to `track` by value and stores the head of the answer; that of a refusal is the one that was lent.
+// The calls that write a log, with its head lent by `&mut` (01: "the head of the log, entries written and entries free, is lent and moved
+// on by the call itself"). Each hands the head to `track` by value and stores the head of the answer; that of a refusal is the one that was
+// lent.
 use model::Extent;
 use model::LogHead;
 use model::Outcome;
 use model::Selector;
 use model::TrackerIndex;
 use set_storage::Table;
+ghost use Rattle.model.specs.declared.Answered.{Answered};
+ghost use Rattle.set_storage.specs.Lent.{LentScope, LentTracker};
 ghost use Rattle.call_set.specs.Contract.{SetSingle};
 ghost use Rattle.call_join.specs.Contract.{SetFromUsageScope, SetFromTracker};
 ghost use Rattle.call_remove.specs.Removed.{SetAndRemoveSparse};
@@ -23,7 +26,11 @@ pub fn set_single(
     log: &mut [u32],
     head: &mut LogHead,
 ) -> Outcome
-    ensures { λ x. ⌜ SetSingle (record { table = now (table .entry); starts = now (starts .entry); ends = now (ends .entry) }) index extent selector state (now (head .entry)) (now (log .entry)) (record { outcome = x; head = now (head .exit) }) (record { table = now (table .exit); starts = now (starts .exit); ends = now (ends .exit) }) (now (log .exit)) ⌝ }
+    ensures { λ x.
+        let t : LentTracker = record { table = now (table .entry); starts = now (starts .entry); ends = now (ends .entry) } in
+        let t′ : LentTracker = record { table = now (table .exit); starts = now (starts .exit); ends = now (ends .exit) } in
+        let a : Answered = record { outcome = x; head = now (head .exit) } in
+        ⌜ SetSingle t index extent selector state (now (head .entry)) (now (log .entry)) a t′ (now (log .exit)) ⌝ }
 {
     let a = track::set_single(
         table,
@@ -50,7 +57,12 @@ pub fn set_from_usage_scope(
     log: &mut [u32],
     head: &mut LogHead,
 ) -> Outcome
-    ensures { λ x. ⌜ SetFromUsageScope (record { table = now (table .entry); starts = now (starts .entry); ends = now (ends .entry) }) (record { table = now (given .entry); ranges = now (lent .entry) }) (now (head .entry)) (now (log .entry)) (record { outcome = x; head = now (head .exit) }) (record { table = now (table .exit); starts = now (starts .exit); ends = now (ends .exit) }) (now (log .exit)) ⌝ }
+    ensures { λ x.
+        let t : LentTracker = record { table = now (table .entry); starts = now (starts .entry); ends = now (ends .entry) } in
+        let g : LentScope = record { table = now (given .entry); ranges = now (lent .entry) } in
+        let t′ : LentTracker = record { table = now (table .exit); starts = now (starts .exit); ends = now (ends .exit) } in
+        let a : Answered = record { outcome = x; head = now (head .exit) } in
+        ⌜ SetFromUsageScope t g (now (head .entry)) (now (log .entry)) a t′ (now (log .exit)) ⌝ }
 {
     let a = track::set_from_usage_scope(table, starts, ends, given, lent, log, *head);
     *head = a.head;
@@ -68,14 +80,20 @@ pub fn set_from_tracker(
     log: &mut [u32],
     head: &mut LogHead,
 ) -> Outcome
-    ensures { λ x. ⌜ SetFromTracker (record { table = now (table .entry); starts = now (starts .entry); ends = now (ends .entry) }) (record { table = now (given .entry); starts = now (first .entry); ends = now (last .entry) }) (now (head .entry)) (now (log .entry)) (record { outcome = x; head = now (head .exit) }) (record { table = now (table .exit); starts = now (starts .exit); ends = now (ends .exit) }) (now (log .exit)) ⌝ }
+    ensures { λ x.
+        let t : LentTracker = record { table = now (table .entry); starts = now (starts .entry); ends = now (ends .entry) } in
+        let g : LentTracker = record { table = now (given .entry); starts = now (first .entry); ends = now (last .entry) } in
+        let t′ : LentTracker = record { table = now (table .exit); starts = now (starts .exit); ends = now (ends .exit) } in
+        let a : Answered = record { outcome = x; head = now (head .exit) } in
+        ⌜ SetFromTracker t g (now (head .entry)) (now (log .entry)) a t′ (now (log .exit)) ⌝ }
 {
     let a = track::set_from_tracker(table, starts, ends, given, first, last, log, *head);
     *head = a.head;
     a.outcome
 }
 
-// Moves the listed textures of a scope into a tracker, and logs their transitions: `TextureTracker::set_and_remove_from_usage_scope_sparse`.
+// Moves the listed textures of a scope into a tracker, and logs their transitions:
+// `TextureTracker::set_and_remove_from_usage_scope_sparse`.
 pub fn set_and_remove_from_usage_scope_sparse(
     table: &mut Table,
     starts: &mut [u32],
@@ -86,7 +104,13 @@ pub fn set_and_remove_from_usage_scope_sparse(
     log: &mut [u32],
     head: &mut LogHead,
 ) -> Outcome
-    ensures { λ x. ⌜ SetAndRemoveSparse (record { table = now (table .entry); starts = now (starts .entry); ends = now (ends .entry) }) (record { table = now (given .entry); ranges = now (lent .entry) }) (now (indices .entry)) (now (head .entry)) (now (log .entry)) (record { outcome = x; head = now (head .exit) }) (record { table = now (table .exit); starts = now (starts .exit); ends = now (ends .exit) }) (now (given .exit)) (now (log .exit)) ⌝ }
+    ensures { λ x.
+        let t : LentTracker = record { table = now (table .entry); starts = now (starts .entry); ends = now (ends .entry) } in
+        let g : LentScope = record { table = now (given .entry); ranges = now (lent .entry) } in
+        let t′ : LentTracker = record { table = now (table .exit); starts = now (starts .exit); ends = now (ends .exit) } in
+        let a : Answered = record { outcome = x; head = now (head .exit) } in
+        ⌜ SetAndRemoveSparse t g (now (indices .entry)) (now (head .entry)) (now (log .entry))
+        a t′ (now (given .exit)) (now (log .exit)) ⌝ }
 {
     let a = track::set_and_remove_from_usage_scope_sparse(
         table,

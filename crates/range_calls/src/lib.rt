@@ -1,14 +1,14 @@
 // Range calls: `isolate`, `coalesce` and `iter_filter` of range.rs as public calls on plain numbers in a borrowed slice.
 //
-// Place in the picture: over `range_checks`, which tells what is refused, and `range_states` and `range_isolate`, which do the work; under `exports`
-// and `replay_lines`, and beside `range_records`, which has the same calls on a slice of range records.
+// Place in the picture: over `range_checks`, which tells what is refused, and `range_states` and `range_isolate`, which do the work; under
+// `exports` and `replay_lines`, and beside `range_records`, which has the same calls on a slice of range records.
 //
 // What holds: nothing is required. The first `told` records of the slice are in use. Each answer, and the records afterwards, equal the
-// definitions of model/specs/RangeCalls (specs/Answers); a refusal (10, 14, 15) leaves every number as it was, and up to two numbers that
-// make no whole record always stay.
+// definitions of model/specs/RangeCalls (specs/RangeContract); a refusal (10, 14, 15) leaves every number as it was, and up to two numbers
+// that make no whole record always stay.
 use model::Refusal;
 use model::Verdict;
-ghost use Rattle.range_calls.specs.Answers.{Isolates, Coalesces, Filters};
+ghost use Rattle.range_calls.specs.RangeContract.{Isolates, Coalesces, Filters};
 
 // Where the run is, how many ranges it has, and how many records are in use now.
 pub struct Isolation {

@@ -1,6 +1,6 @@
 // The checks of the calls on ranged states (01, "Turned away": 10, 14 and 15, in the table's order), on unchanged storage.
 //
-// Each tells the refusal or `Accepted`; what is accepted has the room that the call asks for (specs/Calls).
+// Each tells the refusal or `Accepted`; what is accepted has the room that the call asks for (specs/Accepted).
 use model::Refusal;
 use model::Verdict;
 use range_isolate::isolated_count;

@@ -3,7 +3,7 @@
 // Place in the picture: over `range_states` and `range_isolate`, whose counts it asks, and under `range_calls`.
 //
 // What holds: nothing is required and nothing is written; each check equals the model's (model/specs/RangeCalls), and what is accepted has
-// the room that the call asks for (specs/Calls).
+// the room that the call asks for (specs/Accepted).
 pub mod checking;
 
 pub use checking::check_coalesce;

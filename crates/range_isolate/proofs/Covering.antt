@@ -15,7 +15,7 @@ use Rattle.model.specs.RangedStates.{range, Rest, rest, withRun, isolateFrom}
 use Rattle.range_isolate.specs.declared.isolation.Placed.{Placed}
 use Rattle.range_states.specs.View.{view, decode, blank, Put, Becomes, view-long, becomes-none, becomes-live, becomes-then}
 use Rattle.range_states.specs.Insert.{insertAt}
-use Rattle.range_isolate.specs.Isolation.{allOf, gapBefore, gapCount, lastOf, cutCount, Gapped, EndCut, Room, Covered}
+use Rattle.range_isolate.specs.Isolation.{allOf, gapBefore, gapCount, lastOf, cutCount, Gapped, EndCut, CoverRoom, Covered}
 use Rattle.range_states.proofs.Inserting.{front-is, front-long, insert-is, joined-is, next-is, put-insert}
 
 -- ---- `isolateFrom`, case by case
@@ -114,7 +114,7 @@ cut {l} {len} {pos} {at} {e} {x} room h g t p b =
     }
 
 -- ---- the room at each step of `cover`
-module _ {l : List ℕ} {len pos at e d : ℕ} (room : Room l len pos at e d) (h : pos ≤ len) where
+module _ {l : List ℕ} {len pos at e d : ℕ} (room : CoverRoom l len pos at e d) (h : pos ≤ len) where
   left-long : length (drop pos (decode len l)) ≡ len - pos
   left-long = rw length-drop (rw (length-take-le len (view l) (view-long l len (room .fits))))
 
@@ -147,14 +147,14 @@ module _ {l : List ℕ} {len pos at e d : ℕ} (room : Room l len pos at e d) (h
     room-more t k = omega (arith, grown-here, long-more e d at x (drop (pos + 1) (decode len l)) t k)
 
 -- ---- each way out of `cover`
-pub cover-end : {l : List ℕ} {len pos at e d : ℕ} {l′ : List ℕ} → Room l len pos at e d → pos ≡ len → Becomes l (len + 1) (insertAt pos (range at e d) (decode len l)) l′ → Covered l len pos at e d (record { len = len + 1; end = pos + 1 }) l′
+pub cover-end : {l : List ℕ} {len pos at e d : ℕ} {l′ : List ℕ} → CoverRoom l len pos at e d → pos ≡ len → Becomes l (len + 1) (insertAt pos (range at e d) (decode len l)) l′ → Covered l len pos at e d (record { len = len + 1; end = pos + 1 }) l′
 unfolding isolateFrom
 cover-end {l} {len} {pos} {at} {e} {d} room h b =
     let z : drop pos (decode len l) ≡ [] = rw h (slice-empty len (view l)) in
     let i : insertAt pos (range at e d) (decode len l) ≡ decode pos l ++ (range at e d ∷ drop pos (decode len l)) = insert-is l len pos (omega arith) (omega arith) (range at e d) in
     record { low = omega arith; fits = room-end room (omega arith) h; some = omega arith; in-all = omega arith; end = rw z; into = rw z (rw (i, z) at b) }
 
-pub cover-before : {l : List ℕ} {len pos at e d : ℕ} {x : Range} {l′ : List ℕ} → Room l len pos at e d → pos < len → x ≡ getD (view l) pos blank → e ≤ x .start → Becomes l (len + 1) (insertAt pos (range at e d) (decode len l)) l′ → Covered l len pos at e d (record { len = len + 1; end = pos + 1 }) l′
+pub cover-before : {l : List ℕ} {len pos at e d : ℕ} {x : Range} {l′ : List ℕ} → CoverRoom l len pos at e d → pos < len → x ≡ getD (view l) pos blank → e ≤ x .start → Becomes l (len + 1) (insertAt pos (range at e d) (decode len l)) l′ → Covered l len pos at e d (record { len = len + 1; end = pos + 1 }) l′
 cover-before {l} {len} {pos} {at} {e} {d} {x} room h g t b =
     let n : drop pos (decode len l) ≡ x ∷ drop (pos + 1) (decode len l) = next-is l len pos x (room .fits) h g in
     let f = from-before at e d x (drop (pos + 1) (decode len l)) t in
@@ -207,7 +207,7 @@ module _ (l : List ℕ) (len pos at d : ℕ) (x : Range) (g : ℕ) (l₁ : List 
     past-drop : drop (pos + g + 1) (decode (len + g) l₁) ≡ behind
     past-drop = rw past-all (drop-at past behind (pos + g + 1) past-size)
 
-    pub cover-room : Room l len pos at e d → x .end < e → Room l₁ (len + g) (pos + g + 1) (x .end) e d
+    pub cover-room : CoverRoom l len pos at e d → x .end < e → CoverRoom l₁ (len + g) (pos + g + 1) (x .end) e d
     cover-room rm k =
         record { fits = filled-room; grown = rw past-drop (omega (arith, room-more rm (le-of-lt h) h o t k, q .added, q .into .long)) }
 
@@ -216,7 +216,7 @@ module _ (l : List ℕ) (len pos at d : ℕ) (x : Range) (g : ℕ) (l₁ : List 
         sym (getD-take (len + g) (view l₁) (pos + g) blank (omega arith))
         ∙ rw (filled-all, this) (getD-at front x behind blank (pos + g) front-size)
 
-    pub cut-fits : Room l len pos at e d → e ≤ x .end → 3 * (len + g + cutCount e (getD (view l₁) (pos + g) blank)) ≤ length l₁
+    pub cut-fits : CoverRoom l len pos at e d → e ≤ x .end → 3 * (len + g + cutCount e (getD (view l₁) (pos + g) blank)) ≤ length l₁
     cut-fits rm k = rw cut-at (omega (arith, room-cut rm (le-of-lt h) h o t k, q .added, q .into .long))
 
     -- what is made here: the gap, and then the rest

@@ -15,7 +15,7 @@ use Rattle.model.specs.RangedStates.{range, listOf, isolateFrom, isolate}
 use Rattle.range_isolate.specs.declared.isolation.Placed.{Placed}
 use Rattle.range_states.specs.View.{view, decode, blank, Put, Becomes, view-long, becomes-none, becomes-live, becomes-then}
 use Rattle.range_states.specs.Insert.{insertAt}
-use Rattle.range_isolate.specs.Isolation.{allOf, firstPast, cutFirst, leadCount, Found, StartCut, Room, Covered, IsolateRoom, Isolating}
+use Rattle.range_isolate.specs.Isolation.{allOf, firstPast, cutFirst, leadCount, Found, StartCut, CoverRoom, Covered, IsolateRoom, Isolating}
 use Rattle.range_states.proofs.Inserting.{front-is, front-long, joined-is, next-is, put-insert}
 use Rattle.range_isolate.proofs.Covering.{from-long}
 
@@ -145,7 +145,7 @@ module _ {l : List ℕ} {len a p g : ℕ} {l₁ : List ℕ} (fits : 3 * len ≤ 
   cut-take : decode (p + g) l₁ ≡ decode p l ++ take g mid
   cut-take = sym (front-is l₁ (len + g) (p + g) room₁ (omega (arith, f .few))) ∙ rw cut-all (rw cut-front at (take-append-add (decode p l) mid g))
 
-pub cover-fits : {l : List ℕ} {len a e d p g : ℕ} {l₁ : List ℕ} → IsolateRoom l len a e d → Found l len a p → StartCut l len p a g l₁ → Room l₁ (len + g) (p + g) a e d
+pub cover-fits : {l : List ℕ} {len a e d p g : ℕ} {l₁ : List ℕ} → IsolateRoom l len a e d → Found l len a p → StartCut l len p a g l₁ → CoverRoom l₁ (len + g) (p + g) a e d
 cover-fits {l} {len} {a} {e} {d} {p} {g} {l₁} room f q =
     let s : 3 * (len + leadCount a (drop p (decode len l))) ≤ length l = start-fits room f in
     let room₁ : 3 * (len + g) ≤ length l₁ = omega (arith, q .added, q .into .long) in

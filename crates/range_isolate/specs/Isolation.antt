@@ -69,7 +69,7 @@ pub record StartCut (l : List ℕ) (len pos x r : ℕ) (l′ : List ℕ) : Type 
   pub into : Becomes l (len + r) (decode pos l ++ cutFirst x (drop pos (decode len l))) l′
 
 -- the room that the loop needs: exactly that of its result
-pub record Room (l : List ℕ) (len pos at e d : ℕ) : Type 0 where
+pub record CoverRoom (l : List ℕ) (len pos at e d : ℕ) : Type 0 where
   pub fits : 3 * len ≤ length l
   pub grown : 3 * (pos + length (allOf (isolateFrom at e d (drop pos (decode len l))))) ≤ length l
 

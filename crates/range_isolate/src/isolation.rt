@@ -11,7 +11,8 @@ ghost use Prim.Native.Nat.{ℕ, _+_, _*_, _≤_, _<_};
 ghost use lib.ListN.{length, drop, getD};
 ghost use Rattle.model.specs.RangedStates.{listOf, isolate as isolateOf};
 ghost use Rattle.range_states.specs.View.{view, blank, decode};
-ghost use Rattle.range_isolate.specs.Isolation.{Gapped, EndCut, Covered, Found, StartCut, Isolating, Room, IsolateRoom, gapCount, cutCount, leadCount, Leading, Added};
+ghost use Rattle.range_isolate.specs.Isolation.{Gapped, EndCut, Covered, Found, StartCut, Isolating, CoverRoom, IsolateRoom};
+ghost use Rattle.range_isolate.specs.Isolation.{gapCount, cutCount, leadCount, Leading, Added};
 
 // The new count, and where the run ends.
 struct Placed {
@@ -114,7 +115,7 @@ fn cut_start(s: &mut [u32], len: usize, pos: usize, x: u32) -> usize
 // From the record at `pos` on, makes the records cover exactly what lies from `at` to `end`: the Rust's loop.
 fn cover(s: &mut [u32], len: usize, pos: usize, at: u32, end: u32, default: u32) -> Placed
     requires { ⌜ pos ≤ len ⌝ }
-    requires { ⌜ Room (now s) len pos at end default ⌝ }
+    requires { ⌜ CoverRoom (now s) len pos at end default ⌝ }
     ensures { λ r. ⌜ Covered (now (s .entry)) len pos at end default r (now (s .exit)) ⌝ }
 {
     let mut n = len;

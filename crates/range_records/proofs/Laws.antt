@@ -4,12 +4,12 @@
 --     Cutting    the pass from the last record to the first is `isolate`
 --     Joining    the joining pass is `coalesce`
 --     Clipping   the clipping pass is `iter_filter`
---     Calls      the passes together are the model's calls
+--     Together   the passes together are the model's calls
 --     Loops      one turn of each loop
 pub mod Pieces
 pub mod Survey
 pub mod Cutting
 pub mod Joining
 pub mod Clipping
-pub mod Calls
+pub mod Together
 pub mod Loops

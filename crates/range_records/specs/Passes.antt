@@ -130,8 +130,8 @@ abbrev pub leftOf : ℕ → ℕ → Range → ℕ
 leftOf i b r = if eqb b (r .start) then i - 1 else i
 
 -- what lies below g, the record r at i - 1 the last of i that are left to read: a gap after r, or the upper part of r
-unfoldable pub pieceOf : ℕ → Range → ℕ → ℕ → ℕ → ℕ → Piece
-pieceOf i r g a e d =
+unfoldable pub cutPiece : ℕ → Range → ℕ → ℕ → ℕ → ℕ → Piece
+cutPiece i r g a e d =
     let low = max (endOf i r) a in
     let high = min g e in
     let top = min (r .end) g in
@@ -141,10 +141,10 @@ pieceOf i r g a e d =
 
 -- w records are left to write, i to read, and g is where the last one that was written starts
 unfoldable pub cutting : ℕ → ℕ → ℕ → ℕ → ℕ → ℕ → List Range → List Range
-unfolding pieceOf
+unfolding cutPiece
 cutting zero i g a e d l = l
 cutting (suc w) i g a e d l =
-    let p = pieceOf i (getD l (i - 1) blank) g a e d in cutting w (p .left) (p .range .start) a e d (set l w (p .range))
+    let p = cutPiece i (getD l (i - 1) blank) g a e d in cutting w (p .left) (p .range .start) a e d (set l w (p .range))
 
 -- ---- `coalesce`: each record joins the last that was written, or is written after it; what was read becomes zeros first
 unfoldable pub joinOf : Range → ℕ → Range → Next

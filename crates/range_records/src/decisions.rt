@@ -16,7 +16,9 @@ ghost use Prim.Native.Nat.{_+_, _-_, _≤_, _<_, min};
 ghost use lib.Dec.{ltb};
 ghost use Rattle.model.specs.RangedStates.{joins as joinsOf};
 ghost use Rattle.range_states.specs.View.{blank as blankOf};
-ghost use Rattle.range_records.specs.Passes.{countOf, followsOf, cutsOf, endOf, leftOf, Few, begun, lookOf, isolatePlan, refusedPlan, verdictOf, grantedOf, coalescedOf, filterPlan, filterCount, lowerOf, pieceOf, joinOf};
+ghost use Rattle.range_records.specs.Passes.{countOf, followsOf, cutsOf, Few, begun, lookOf};
+ghost use Rattle.range_records.specs.Passes.{isolatePlan, refusedPlan, verdictOf, grantedOf, coalescedOf, filterPlan, filterCount};
+ghost use Rattle.range_records.specs.Passes.{endOf, lowerOf, leftOf, cutPiece, joinOf};
 
 // What `survey` has found among the records so far: where the last one ends, whether they ascend, and how many end at or before the index's
 // start, overlap the index, leave a gap in it, are cut by its start, and by its end.
@@ -237,7 +239,7 @@ fn end_of(i: usize, r: Range) -> u32
 
 // The record that `cut` writes next, below `edge`: a gap after r, or the upper part of r. r is the last of the i records left to read.
 pub fn next_piece(i: usize, r: Range, edge: u32, start: u32, end: u32, default: u32) -> Piece
-    ensures { λ x. ⌜ (x ≡ pieceOf i r edge start end default) × (x .left ≤ i) ⌝ }
+    ensures { λ x. ⌜ (x ≡ cutPiece i r edge start end default) × (x .left ≤ i) ⌝ }
 {
     let low = larger(end_of(i, r), start);
     let high = smaller(edge, end);

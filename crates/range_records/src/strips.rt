@@ -27,7 +27,8 @@ use range_states::filtering::clipped;
 ghost use mathlib.Core.Path.{_≡_};
 ghost use Prim.Native.Nat.{_+_, _≤_};
 ghost use lib.ListN.{length, take};
-ghost use Rattle.range_calls.specs.Answers.{isolateAnswer, isolateRecords, coalesceAnswer, coalesceRecords, filterAnswer, filterRecords};
+ghost use Rattle.range_calls.specs.RangeContract.{isolateAnswer, coalesceAnswer, filterAnswer};
+ghost use Rattle.range_calls.specs.RangeContract.{isolateRecords, coalesceRecords, filterRecords};
 ghost use Rattle.range_states.specs.View.{blank as blankOf};
 ghost use Rattle.range_records.specs.Passes.{begun, scanned, cutting, joining, clipping};
 
@@ -104,7 +105,8 @@ pub fn isolate(
     end: u32,
     default: u32,
 ) -> IsolateAnswer
-    ensures { λ x. ⌜ (x ≡ isolateAnswer start end default told (now (run .entry))) × (now (run .exit) ≡ isolateRecords start end default told (now (run .entry))) ⌝ }
+    ensures { λ x. ⌜ (x ≡ isolateAnswer start end default told (now (run .entry)))
+        × (now (run .exit) ≡ isolateRecords start end default told (now (run .entry))) ⌝ }
 {
     let n = within(told, run.len());
     let s = survey(run, n, start, end);
@@ -132,7 +134,8 @@ pub fn iter_filter(
     end: u32,
     out: &mut [RangeRecord],
 ) -> FilterAnswer
-    ensures { λ x. ⌜ (x ≡ filterAnswer start end told (now (run .entry)) (now (out .entry))) × (now (out .exit) ≡ filterRecords start end told (now (run .entry)) (now (out .entry))) ⌝ }
+    ensures { λ x. ⌜ (x ≡ filterAnswer start end told (now (run .entry)) (now (out .entry)))
+        × (now (out .exit) ≡ filterRecords start end told (now (run .entry)) (now (out .entry))) ⌝ }
 {
     let n = within(told, run.len());
     let s = survey(run, n, start, end);

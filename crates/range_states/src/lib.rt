@@ -1,7 +1,7 @@
 // Range states: the Rust's `RangedStates` (range.rs) on plain numbers in a borrowed slice.
 //
-// Place in the picture: over `model`, whose lists say what each function does, and under `range_isolate`, which cuts ranges, `range_checks`,
-// which checks the calls on ranges, and `texture_mips`, which merges and paints one mip of a texture with them.
+// Place in the picture: over `model`, whose lists say what each function does, and under `range_isolate`, which cuts ranges,
+// `range_checks`, which checks the calls on ranges, and `texture_mips`, which merges and paints one mip of a texture with them.
 //
 //     slice of u32:   start end state | start end state | .. | free records | up to two numbers that make no record
 //                     record 0          record 1              from `len` on

@@ -11,7 +11,6 @@ use model::Selection;
 use model::Selector;
 use model::TrackerIndex;
 use model::UsageFlags;
-use replay_lines::numbers;
 use replay_lines::numbers::at;
 use replay_lines::numbers::most;
 use replay_lines::numbers::product;

@@ -1,13 +1,12 @@
 // Replays calls with the answers that the Rust gave: every public call, on up to four sets, and the calls on ranged states.
 //
-// Place in the picture: over all, a user of the public calls. The file `stdin` has the stored calls and `stdout` the answers, written by the
-// oracle, which runs the Rust itself; `rt check` runs this program and compares. `oracle/compare` hands it fresh calls. Lines, answers and
-// storage: oracle/README.md. Crate `replay_lines` reads the lines and writes the answers; here the bytes come in, and `call` makes a call: what it
-// is lent, the call, and what it leaves.
+// Place in the picture: over all, a user of the public calls. The file `stdin` has the stored calls and `stdout` the answers, written by
+// the oracle, which runs the Rust itself; `rt check` runs this program and compares. `oracle/compare` hands it fresh calls. Lines, answers
+// and storage: oracle/README.md. Crate `replay_lines` reads the lines and writes the answers; here the bytes come in, and `call` makes a
+// call: what it is lent, the call, and what it leaves.
 mod call;
 
 use libc::STDIN_FILENO;
-use replay_lines::numbers;
 use replay_lines::numbers::at;
 use replay_lines::numbers::smaller;
 use replay_lines::out;
@@ -19,6 +18,7 @@ use replay_lines::sets;
 use replay_lines::sets::Book;
 use replay_lines::silent;
 use replay_lines::tell;
+use set_storage::TABLE_LENGTH;
 use set_storage::Table;
 ghost use Prim.Native.Nat.{_≤_};
 
@@ -64,8 +64,8 @@ fn replay(
     let mut book = sets::nothing();
     let mut piece = [0u8; 65536];
     let mut words = [0u32; 32768];
-    let mut table = [0u32; 2376];
-    let mut given = [0u32; 2376];
+    let mut table = [0u32; TABLE_LENGTH];
+    let mut given = [0u32; TABLE_LENGTH];
     let mut line = scan::start();
     let mut left: usize = 65536;
     while 0 < left {

@@ -3,11 +3,10 @@
 // The store has four equal parts, one a set: its table, then the ranges of its two halves, with equal room. A call works on copies: they
 // are loaded before it, and saved after it, or compared where it was refused.
 use crate::numbers;
-use crate::numbers::at;
 use crate::numbers::most;
 use crate::numbers::smaller;
+use set_storage::TABLE_LENGTH;
 use set_storage::Table;
-use set_storage::wide;
 ghost use Prim.Native.Nat.{_≤_};
 
 // What is known of the sets and of the log.
@@ -19,8 +18,6 @@ pub type Book = [u32; 16];
 pub const SCOPE: u32 = 1;
 
 pub const TRACKER: u32 = 2;
-
-pub const NUMBERS: usize = 2376;
 
 pub fn nothing() -> Book {
     [0; 16]
@@ -75,7 +72,7 @@ pub fn starts_at(store: &[u32], set: usize) -> usize
     requires { ⌜ set ≤ 3 ⌝ }
     ensures { λ r. ⌜ r ≤ 5000000 ⌝ }
 {
-    base(store, set) + NUMBERS
+    base(store, set) + TABLE_LENGTH
 }
 
 // Where its second half's ranges begin: in the middle of what follows the table.
@@ -83,7 +80,7 @@ pub fn ends_at(store: &[u32], set: usize) -> usize
     requires { ⌜ set ≤ 3 ⌝ }
     ensures { λ r. ⌜ r ≤ 6000000 ⌝ }
 {
-    base(store, set) + NUMBERS / 2 + part(store) / 2
+    base(store, set) + TABLE_LENGTH / 2 + part(store) / 2
 }
 
 // The numbers of a set, as far as they are lent.

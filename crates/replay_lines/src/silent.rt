@@ -41,7 +41,8 @@ pub fn ranges_at(store: &[u32], b: usize, index: usize, mip: usize) -> usize
     3 * product(numbers::smaller(row, 4096), most(store, b + 2, 256))
 }
 
-// HALF = single STATE | many MIP*. The half's states begin at `half` in the table and its ranges at `ranges`; answers where the line goes on.
+// HALF = single STATE | many MIP*. The half's states begin at `half` in the table and its ranges at `ranges`; answers where the line goes
+// on.
 fn put_half(
     line: &[u32],
     from: usize,

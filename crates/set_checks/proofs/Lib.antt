@@ -1,4 +1,3 @@
-pub mod Tests
 pub mod Verdicts
 pub mod Turns
 pub mod Passing

@@ -1,8 +1,8 @@
 // Set checks: 01's table from 6 to 13, on the numbers of a table: what a call answers before it changes anything.
 //
-// Place in the picture: over `set_storage` and `usage`, under the public calls, which test the sets first (4, `set_wellformed`) and count the
-// log's entries last (15, `texture_barrier`). Each check equals the model's (model/specs/Refusals) at the head of the view: the numbers, the
-// flags, and the extents of the indices that are owned. One function checks a selector, one a state.
+// Place in the picture: over `set_storage` and `usage`, under the public calls, which test the sets first (4, `set_wellformed`) and count
+// the log's entries last (15, `texture_barrier`). Each check equals the model's (model/specs/Refusals) at the head of the view: the
+// numbers, the flags, and the extents of the indices that are owned. One function checks a selector, one a state.
 //
 // What holds: nothing is written. A check that passes answers `Accepted`, and one that fails the refusal with its place. What
 // passed checks show is in specs/Passed.

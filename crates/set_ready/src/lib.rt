@@ -1,8 +1,8 @@
 // Set ready: what the test of a set and the checks of a call have shown, in the form that the functions on one texture require.
 //
 // Place in the picture: between the test (`set_wellformed`), the checks (`set_checks`) and the functions on one texture (`texture_merge`,
-// `texture_update`, `texture_barrier`) below, and the public calls above, which test and check first. Laws, and one function, by which every
-// use of a texture is told to be of all of it.
+// `texture_update`, `texture_barrier`) below, and the public calls above, which test and check first. Laws, and one function, by which
+// every use of a texture is told to be of all of it.
 //
 //     Tested      a set that passed the test, index by index
 //     Merges      a texture that passed the checks: `TextureReady` and `TextureHeld`, made once, for a use and for another set's texture

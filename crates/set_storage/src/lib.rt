@@ -1,6 +1,7 @@
 // Set storage: how a set of textures lies in the numbers that a caller lends, and how those numbers read as the model's sets.
 //
-// Place in the picture: over `model` and `range_states`, under `set_wellformed`, `texture_merge` and the public calls. Only this crate knows the layout.
+// Place in the picture: over `model` and `range_states`, under `set_wellformed`, `texture_merge` and the public calls. Only this crate
+// knows the layout.
 //
 //     table    0 N   1 M   2 W   3 EXCLUSIVE   4 UNINITIALIZED   5 COMPLEX   6 UNKNOWN   7 ordered mask (a tracker's)
 //              OWNED + i    0 if index i is not owned

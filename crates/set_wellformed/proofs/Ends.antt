@@ -19,7 +19,7 @@ use Rattle.set_storage.specs.Part.{baseOf}
 use Rattle.set_storage.specs.Storage.{numbersOf, extentOf, startHalf, endHalf, countAt, mipOf, mipsOf, heldOf, complexAt, layerLimitAt, layersAt, mipLimitAt, mipsAt, stateAt}
 use Rattle.set_storage.specs.Frames.{mips-long, room-of}
 use Rattle.set_storage.specs.Slots.{held-many, held-single}
-use Rattle.set_wellformed.specs.Tests.{TextureStored, every-at}
+use Rattle.set_wellformed.specs.Parts.{TextureStored, every-at}
 use Rattle.set_wellformed.specs.Unknowns.{agrees, isKnown, SameLayers, MipFits, MipsFit, EndsReady, HalvesFit, mipsAgree, endsAgree}
 use Rattle.set_wellformed.proofs.Mips.{mip-seen, mip-past, mip-ready, mips-told}
 use Rattle.set_wellformed.proofs.Known.{single-known, fits-tiles, mips-known, all-same, all-sym, agrees-sym, mips-beside}

@@ -16,7 +16,7 @@ use Rattle.set_storage.specs.Storage.{numbersOf, flagsOf, extentOf, startHalf, 
 use Rattle.set_storage.specs.Lists.{list-long}
 use Rattle.set_storage.specs.Frames.{mips-long}
 use Rattle.set_storage.specs.Slots.{held-many, held-single}
-use Rattle.set_wellformed.specs.Tests.{headFits, scopeSlotsFit}
+use Rattle.set_wellformed.specs.Parts.{headFits, scopeSlotsFit}
 use Rattle.set_wellformed.specs.Unknowns.{trackerSlotsFit}
 use Rattle.set_wellformed.proofs.Mips.{mips-are}
 

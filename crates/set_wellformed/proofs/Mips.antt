@@ -14,7 +14,7 @@ use Rattle.range_states.specs.View.{decode}
 use Rattle.set_storage.specs.Part.{baseOf, partOf}
 use Rattle.set_storage.specs.Storage.{countAt, mipOf, mipsIn, mipsAt}
 use Rattle.set_storage.specs.Frames.{MipReady, mips-top, mip-is}
-use Rattle.set_wellformed.specs.Tests.{TextureStored}
+use Rattle.set_wellformed.specs.Parts.{TextureStored}
 
 -- the part that the code cuts out, at b, with room for w ranges
 pub mip-seen : (d : Numbers) (h : ℕ) (t r : List ℕ) (i k n b w : ℕ) → n ≡ getD t (countAt h i k) 0 → w ≡ d .layers → n ≤ w → b ≡ baseOf i k (d .mips) (d .layers) → mipOf d h t r i k ≡ decode n (take (b + w * 3 - b) (drop b r))

@@ -13,7 +13,7 @@ use Rattle.model.specs.Flags.{flagsFit}
 use Rattle.model.specs.Sets.{outside, numbersFit, capacity}
 use Rattle.set_storage.specs.Storage.{numbersOf, flagsOf, tableLength, startHalf}
 use Rattle.set_storage.specs.Frames.{Measured, measured-of as measured}
-use Rattle.set_wellformed.specs.Tests.{numbers, extentFits, headFits}
+use Rattle.set_wellformed.specs.Parts.{numbers, extentFits, headFits}
 
 not-no : (a : Bool) → a ≡ false → not a ≡ true
 not-no true e = absurd (false≢true (sym e))
@@ -65,7 +65,7 @@ unfolding headFits
 head-numbers t room e =
     both (numbersFit (numbersOf t)) (flagsFit (flagsOf t)) (both (numbersFit (numbersOf t) && flagsFit (flagsOf t)) (leb (capacity (numbersOf t)) (room / 3)) e .0) .0
 
-pub head-measured : (t r : List ℕ) → length t ≡ tableLength → headFits t (length r) ≡ true → Measured (numbersOf t) 200 t r
+pub head-measured : (t r : List ℕ) → length t ≡ tableLength → headFits t (length r) ≡ true → Measured (numbersOf t) startHalf t r
 unfolding headFits
 head-measured t r size e =
     let a = both (numbersFit (numbersOf t) && flagsFit (flagsOf t)) (leb (capacity (numbersOf t)) (length r / 3)) e in

@@ -1,4 +1,4 @@
-pub mod Tests
+pub mod Parts
 pub mod Unknowns
 pub mod Words
 pub mod Whole

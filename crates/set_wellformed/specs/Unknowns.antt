@@ -17,7 +17,7 @@ use Rattle.model.specs.WellFormed.{rangesFit, heldFits, sameTest, all₂, sameU
 use Rattle.range_states.specs.View.{decode}
 use Rattle.set_storage.specs.Storage.{numbersOf, flagsOf, extentOf, startHalf, endHalf, mipOf, mipsOf, heldOf, endsOf, slotWith, listFrom, layersAt, mipLimitAt, mipsAt}
 use Rattle.set_storage.specs.Frames.{MipReady}
-use Rattle.set_wellformed.specs.Tests.{TextureStored}
+use Rattle.set_wellformed.specs.Parts.{TextureStored}
 
 -- two states are both exactly UNKNOWN, or neither is
 abbrev pub agrees : ℕ → ℕ → ℕ → Bool

@@ -10,7 +10,7 @@ use Rattle.model.specs.Base.{every}
 use Rattle.model.specs.WellFormed.{singleFits}
 use Rattle.set_storage.specs.Storage.{flagsOf, startHalf, endHalf, listFrom, layerLimitAt, layersAt, mipLimitAt, mipsAt, ownedAt}
 use Rattle.set_wellformed.specs.declared.words.Words.{Words}
-use Rattle.set_wellformed.specs.Tests.{extentFits}
+use Rattle.set_wellformed.specs.Parts.{extentFits}
 use Rattle.set_wellformed.specs.Unknowns.{itself}
 
 -- ---- a scope's index: not owned, or Single; not owned, or an extent within the set's and Many or in a state that fits

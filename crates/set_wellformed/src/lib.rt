@@ -6,8 +6,9 @@
 //
 // What holds: nothing is required and nothing is written. Every call pays for the test, so it is made in two passes: the words of every
 // index (`words`), which decide a set of Single textures, and then the ranges of the textures that are Many, once each. A scope is tested
-// by `scope_fits`, a tracker by `tracker_fits`, which looks a second time at the ranges of a Many half, for one that is UNKNOWN, and a third
-// time at a mip that has one, to compare start and end. Tests of numbers are written with `&` and `|`, which make no branch, and are the definitions word for word.
+// by `scope_fits`, a tracker by `tracker_fits`, which looks a second time at the ranges of a Many half, for one that is UNKNOWN, and a
+// third time at a mip that has one, to compare start and end. Tests of numbers are written with `&` and `|`, which make no branch, and are
+// the definitions word for word.
 pub mod unknowns;
 pub mod words;
 
@@ -41,9 +42,10 @@ ghost use Rattle.model.specs.Base.{every};
 ghost use Rattle.model.specs.Sets.{outside as outsideOf, numbersFit};
 ghost use Rattle.model.specs.WellFormed.{stateFits, singleFits, rangesFit, heldFits};
 ghost use Rattle.range_states.specs.View.{decode};
-ghost use Rattle.set_storage.specs.Storage.{numbersOf, flagsOf, extentOf, mipOf, mipsOf, heldOf, startHalf, listFrom, layersAt, mipLimitAt, mipsAt, texturesAt};
+ghost use Rattle.set_storage.specs.Storage.{numbersOf, flagsOf, extentOf, mipOf, mipsOf, heldOf, listFrom};
+ghost use Rattle.set_storage.specs.Storage.{texturesAt, mipLimitAt, mipsAt, layersAt, startHalf};
 ghost use Rattle.set_storage.specs.Frames.{Measured, MipReady};
-ghost use Rattle.set_wellformed.specs.Tests.{TextureStored, numbers, extentFits, headFits, scopeSlotFits, scopeSlotsFit};
+ghost use Rattle.set_wellformed.specs.Parts.{TextureStored, numbers, extentFits, headFits, scopeSlotFits, scopeSlotsFit};
 ghost use Rattle.set_wellformed.specs.Unknowns.{itself};
 ghost use Rattle.set_wellformed.specs.Words.{scopeWordFits};
 ghost use Rattle.set_wellformed.specs.Whole.{TestsScope};
@@ -98,7 +100,8 @@ fn mip_fits(
 ) -> bool
     requires { ⌜ MipReady (numbersOf (now table)) half (now table) (now ranges) i m ⌝ }
     requires { ⌜ 0 < layers ⌝ }
-    ensures { λ x. ⌜ x ≡ rangesFit p layers 0 (mipOf (numbersOf (now (table .entry))) half (now (table .entry)) (now (ranges .entry)) i m) ⌝ }
+    ensures { λ x. let t = now (table .entry) in
+        ⌜ x ≡ rangesFit p layers 0 (mipOf (numbersOf t) half t (now (ranges .entry)) i m) ⌝ }
 {
     let k = wide(m);
     let all = wide(table[MIP_LIMIT]);
@@ -124,7 +127,8 @@ fn mips_fit(
 ) -> bool
     requires { ⌜ TextureStored (numbersOf (now table)) half (now table) (now ranges) i ⌝ }
     requires { ⌜ (mips ≡ getD (now table) (mipsAt i) 0) × ((mips ≤ getD (now table) mipLimitAt 0) × (0 < layers)) ⌝ }
-    ensures { λ x. ⌜ x ≡ every (rangesFit p layers 0) (mipsOf (numbersOf (now (table .entry))) half (now (table .entry)) (now (ranges .entry)) i) ⌝ }
+    ensures { λ x. let t = now (table .entry) in
+        ⌜ x ≡ every (rangesFit p layers 0) (mipsOf (numbersOf t) half t (now (ranges .entry)) i) ⌝ }
 {
     let mut m = 0;
     while m < mips {
@@ -141,7 +145,8 @@ pub fn held_fits(table: &Table, ranges: &[u32], half: usize, i: usize, p: UsageF
     requires { ⌜ TextureStored (numbersOf (now table)) half (now table) (now ranges) i ⌝ }
     requires { ⌜ p ≡ flagsOf (now table) ⌝ }
     requires { ⌜ (getD (now table) (mipsAt i) 0 ≤ getD (now table) mipLimitAt 0) × (0 < getD (now table) (layersAt i) 0) ⌝ }
-    ensures { λ x. ⌜ x ≡ heldFits p (extentOf (now (table .entry)) i) (heldOf (numbersOf (now (table .entry))) half (now (table .entry)) (now (ranges .entry)) i) ⌝ }
+    ensures { λ x. let t = now (table .entry) in
+        ⌜ x ≡ heldFits p (extentOf t i) (heldOf (numbersOf t) half t (now (ranges .entry)) i) ⌝ }
 {
     let state = table[half + i];
     if state == p.complex {

@@ -13,7 +13,6 @@ use range_states::get;
 use set_storage::COUNTS;
 use set_storage::END;
 use set_storage::LAYER_LIMIT;
-use set_storage::LAYERS;
 use set_storage::MIP_LIMIT;
 use set_storage::MIPS;
 use set_storage::OWNED;
@@ -33,8 +32,9 @@ ghost use Rattle.model.specs.WellFormed.{endsFit};
 ghost use Rattle.range_states.specs.View.{decode};
 ghost use Rattle.set_storage.specs.Storage.{numbersOf, flagsOf, extentOf, startHalf, endHalf, mipOf, mipsOf, endsOf, listFrom, texturesAt};
 ghost use Rattle.set_storage.specs.Frames.{Measured};
-ghost use Rattle.set_wellformed.specs.Tests.{TextureStored};
-ghost use Rattle.set_wellformed.specs.Unknowns.{agrees, layersAgree, isKnown, passed, SameLayers, MipFits, MipsFit, EndsReady, HalvesFit, mipAgrees, mipsAgree, endsAgree, itself, trackerSlotFits, trackerSlotsFit};
+ghost use Rattle.set_wellformed.specs.Parts.{TextureStored};
+ghost use Rattle.set_wellformed.specs.Unknowns.{agrees, layersAgree, isKnown, passed, mipAgrees, mipsAgree, endsAgree, itself};
+ghost use Rattle.set_wellformed.specs.Unknowns.{SameLayers, MipFits, MipsFit, EndsReady, HalvesFit, trackerSlotFits, trackerSlotsFit};
 ghost use Rattle.set_wellformed.specs.Words.{trackerWordFits};
 ghost use Rattle.set_wellformed.specs.Whole.{TestsTracker};
 
@@ -122,7 +122,8 @@ fn mip_agrees(table: &Table, starts: &[u32], ends: &[u32], i: usize, m: u32, p: 
 // Mip m of texture i in one half, where the other is Single.
 fn mip_known(table: &Table, ranges: &[u32], half: usize, i: usize, m: u32, p: UsageFlags) -> bool
     requires { ⌜ MipFits p half (now table) (now ranges) i m ⌝ }
-    ensures { λ x. ⌜ x ≡ every (isKnown (p .unknown)) (mipOf (numbersOf (now (table .entry))) half (now (table .entry)) (now (ranges .entry)) i m) ⌝ }
+    ensures { λ x. let t = now (table .entry) in
+        ⌜ x ≡ every (isKnown (p .unknown)) (mipOf (numbersOf t) half t (now (ranges .entry)) i m) ⌝ }
 {
     let k = wide(m);
     let all = wide(table[MIP_LIMIT]);
@@ -166,7 +167,8 @@ fn mips_known(
     p: UsageFlags,
 ) -> bool
     requires { ⌜ MipsFit p half (now table) (now ranges) i mips ⌝ }
-    ensures { λ x. ⌜ x ≡ every (every (isKnown (p .unknown))) (mipsOf (numbersOf (now (table .entry))) half (now (table .entry)) (now (ranges .entry)) i) ⌝ }
+    ensures { λ x. let t = now (table .entry) in
+        ⌜ x ≡ every (every (isKnown (p .unknown))) (mipsOf (numbersOf t) half t (now (ranges .entry)) i) ⌝ }
 {
     let mut m = 0;
     while m < mips {
@@ -199,7 +201,8 @@ fn ends_agree(table: &Table, starts: &[u32], ends: &[u32], i: usize, p: UsageFla
 // What a tracker holds of texture i, whose extent is within the set's.
 fn ends_fit(table: &Table, starts: &[u32], ends: &[u32], i: usize, p: UsageFlags) -> bool
     requires { ⌜ EndsReady p (now table) (now starts) (now ends) i ⌝ }
-    ensures { λ x. ⌜ x ≡ endsFit p (extentOf (now (table .entry)) i) (endsOf (numbersOf (now (table .entry))) (now (table .entry)) (now (starts .entry)) (now (ends .entry)) i) ⌝ }
+    ensures { λ x. let t = now (table .entry) in
+        ⌜ x ≡ endsFit p (extentOf t i) (endsOf (numbersOf t) t (now (starts .entry)) (now (ends .entry)) i) ⌝ }
 {
     if !held_fits(table, starts, START, i, p) {
         return false;

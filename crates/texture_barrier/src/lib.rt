@@ -1,9 +1,9 @@
 // Texture barrier: the transitions from a tracker's end of one texture to a given start (`barrier` of texture.rs), counted, or written to a
 // borrowed log.
 //
-// Place in the picture: over `usage` (which transition is skipped), `range_states` (the ranges of a mip) and `set_storage` (where a texture's ranges
-// lie), under the tracker's calls. A call counts first, on unchanged storage, so that it can refuse where the log has too few free
-// entries, and writes later. Both are these functions, with `write` false and true, so what is counted is what is written.
+// Place in the picture: over `usage` (which transition is skipped), `range_states` (the ranges of a mip) and `set_storage` (where a
+// texture's ranges lie), under the tracker's calls. A call counts first, on unchanged storage, so that it can refuse where the log has too
+// few free entries, and writes later. Both are these functions, with `write` false and true, so what is counted is what is written.
 //
 //     entries      a log, seven numbers an entry
 //     transition   one transition

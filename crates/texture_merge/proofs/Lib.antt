@@ -3,5 +3,4 @@ pub mod Breaking
 pub mod UseCases
 pub mod Given
 pub mod Pieces
-pub mod Tests
 pub mod SetCases

@@ -20,7 +20,7 @@ use Rattle.texture_merge.specs.declared.Stopped.{Stopped}
 use Rattle.texture_merge.specs.declared.Stopped.the-variants.{Nowhere, At}
 use Rattle.texture_merge.specs.declared.Doing.{Doing}
 use Rattle.texture_merge.specs.Walks.{stoppedOf, MipsWalked}
-use Rattle.texture_merge.specs.Ready.{ManyReady, Selects, lentPart}
+use Rattle.texture_merge.specs.Ready.{ManyReady, HalfTiled, Selects, lentPart}
 use Rattle.texture_merge.specs.Giving.{taken, taken-tiled, passes-tiled, pieceOn, piecesFrom, passes-append, Giving, giving-start, giving-word, giving-ready, giving-turn, giving-stop, giving-end, GivenMip, GivenTexture}
 use Rattle.texture_merge.proofs.Given.{SameTexture, same-texture, range-none, range-next, range-inside, range-within, mips-none, mip-next, mip-tiles, mip-within}
 
@@ -29,7 +29,7 @@ module _ {h i : ℕ} {goal : Stop InvalidUse (List (List Range))} {t₀ r₀ t r
   same : SameTexture t₀ t i
   same = same-texture t₀ t i (omega (arith, m .measured .textures, m .texture)) (giving-word m g)
 
-  pub lap-many : ManyReady (numbersOf t) h t r i (getD t (layersAt i) 0)
+  pub lap-many : HalfTiled h t r i
   lap-many = subst (λ (y : ℕ). ManyReady (numbersOf t) h t r i y) (sym (same .layers)) (giving-ready m g)
 
 -- ---- the ranges of one mip

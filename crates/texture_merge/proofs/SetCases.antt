@@ -22,7 +22,7 @@ use Rattle.texture_merge.specs.declared.Stopped.the-variants.{Nowhere, A
 use Rattle.texture_merge.specs.declared.Doing.the-variants.{Insert, Merge, Spread}
 use Rattle.texture_merge.specs.Walks.{stoppedOf, MipsWalked}
 use Rattle.set_storage.specs.Texture.{TextureReady, texture-then, texture-dims}
-use Rattle.texture_merge.specs.Ready.{ManyReady, many-of, fresh-many}
+use Rattle.texture_merge.specs.Ready.{ManyReady, HalfTiled, many-of, fresh-many}
 use Rattle.texture_merge.specs.Uses.{HalfMerged}
 use Rattle.texture_merge.specs.Giving.{taken, inserts, merges, spreads, GivenTexture}
 use Rattle.texture_merge.specs.FromSet.{SetReady, MergeReady, given-state, given-pieces, given-many}
@@ -66,7 +66,7 @@ module _ {h i from : ℕ} {sh : Extent} {p : UsageFlags} {t r t₂ r₂ : List �
         told : getD t (h + i) 0 ≡ getD t complexAt 0
         told = e ∙ complex-is
 
-        pub many-ready : ManyReady (numbersOf t) h t r i (getD t (layersAt i) 0) × GivenTexture t i (sh .mips) from t₂ r₂
+        pub many-ready : HalfTiled h t r i × GivenTexture t i (sh .mips) from t₂ r₂
         many-ready = (many-of (record { ready = x .texture; tiled = y .tiled }) told _ (x .texture .layers), given-many (x .given) c (x .texture))
 
         pub many-many : {z : Stopped} {t′ r′ : List ℕ} → MipsWalked (numbersOf t) h i (passes (taken Merge p) (piecesOf gs) (mipsOf (numbersOf t) h t r i)) t r z t′ r′ → HalfMerged (numbersOf t) h i (merge p sh (heldOf (numbersOf t) h t r i) given) t r z t′ r′

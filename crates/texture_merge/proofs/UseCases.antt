@@ -14,13 +14,13 @@ use Rattle.model.specs.declared.InvalidUse.{InvalidUse}
 use Rattle.model.specs.Base.{Stop, walk}
 use Rattle.model.specs.StateRules.{unite}
 use Rattle.model.specs.Texture.{Held, single, many, mergeMip, mergeEvery, invalidUse, asMany, merge}
-use Rattle.set_storage.specs.Storage.{numbersOf, mipsOf, heldOf, complexAt, layersAt}
+use Rattle.set_storage.specs.Storage.{numbersOf, mipsOf, heldOf, complexAt}
 use Rattle.set_storage.specs.Stays.{keeps-refl}
 use Rattle.set_storage.specs.Slots.{HalfBecomes, become-single, become-many, held-single, held-many}
 use Rattle.texture_merge.specs.declared.Stopped.{Stopped}
 use Rattle.texture_merge.specs.declared.Stopped.the-variants.{Nowhere, At}
 use Rattle.texture_merge.specs.Walks.{MipsWalked}
-use Rattle.texture_merge.specs.Ready.{ManyReady, many-of}
+use Rattle.texture_merge.specs.Ready.{HalfTiled, many-of}
 use Rattle.texture_merge.specs.Uses.{useOf, brokenUp, UseReady, HeldReady, SingleReady, HalfMerged, united, single-conflict, single-all, single-part, many-all, many-part}
 
 module _ {h i : ℕ} {sh : Extent} {all : Bool} {q : Selector} {p : UsageFlags} {new : ℕ} {t r : List ℕ} (x : UseReady (numbersOf t) h t r i sh all q p new) where
@@ -64,7 +64,7 @@ module _ {h i : ℕ} {sh : Extent} {all : Bool} {q : Selector} {p : UsageFlags} 
       told : getD t (h + i) 0 ≡ getD t complexAt 0
       told = c ∙ complex-is
 
-      pub many-ready : ManyReady (numbersOf t) h t r i (getD t (layersAt i) 0)
+      pub many-ready : HalfTiled h t r i
       many-ready = many-of (record { ready = x .texture; tiled = y .tiled }) told _ (x .texture .layers)
 
       held-is : heldOf (numbersOf t) h t r i ≡ many (mipsOf (numbersOf t) h t r i)

@@ -14,7 +14,7 @@ use Rattle.model.specs.Base.{eachAt, Stop, fine, ruled, andThen, onward, passes
 use Rattle.model.specs.StateRules.{unite, endAfter}
 use Rattle.model.specs.Sets.{Numbers}
 use Rattle.model.specs.Representation.{select, layerStart, layerEnd, inMips}
-use Rattle.model.specs.RangedStates.{coalesce, paint, Tiles}
+use Rattle.model.specs.RangedStates.{paint, Tiles}
 use Rattle.model.specs.Texture.{Piece, onMips, paintAll, spreadPiece, spreadEnd, mergeMip, invalidUse}
 use Rattle.range_states.specs.View.{decode}
 use Rattle.texture_mips.specs.Merge.{merge-mip, merge-other}
@@ -27,7 +27,7 @@ use Rattle.texture_merge.specs.declared.Stopped.the-variants.{Nowhere, A
 use Rattle.texture_merge.specs.declared.Doing.{Doing}
 use Rattle.texture_merge.specs.declared.Doing.the-variants.{Insert, Merge, Spread, Cover}
 use Rattle.texture_merge.specs.Walks.{stoppedOf, MipsWalked}
-use Rattle.texture_merge.specs.Ready.{ManyReady}
+use Rattle.texture_merge.specs.Ready.{updatedMips, ManyReady}
 use Rattle.model.specs.BoolLaws.{by-test}
 use Rattle.model.specs.RangeLaws.{paint-tiles, tiles-le}
 
@@ -36,8 +36,7 @@ unfoldable pub taken : Doing → UsageFlags → Piece → List (List Range) → 
 taken Insert p q ss = fine (onMips (q .selector) (paint (p .unknown) (layerStart (q .selector)) (layerEnd (q .selector)) (q .state)) 0 ss)
 taken Merge p q ss = walk (mergeMip p q) 0 ss
 taken (Spread cur) p q ss = spreadPiece p cur q ss
-taken (Cover cur) p q ss =
-    fine (onMips (q .selector) (λ s. coalesce (paint (p .unknown) (layerStart (q .selector)) (layerEnd (q .selector)) (endAfter (p .unknown) cur (q .state)) s)) 0 ss)
+taken (Cover cur) p q ss = fine (updatedMips (p .unknown) (q .selector) (endAfter (p .unknown) cur (q .state)) ss)
 
 -- the model's `insert` and `update` give the pieces so
 pub inserts : (p : UsageFlags) (qs : List Piece) (ss : List (List Range)) → passes (taken Insert p) qs ss ≡ fine (paintAll (p .unknown) qs ss)
@@ -48,8 +47,7 @@ inserts p (q ∷ qs) ss = inserts p qs (onMips (q .selector) (paint (p .unknown)
 pub covers : (p : UsageFlags) (cur : ℕ) (qs : List Piece) (ss : List (List Range)) → passes (taken (Cover cur) p) qs ss ≡ fine (spreadEnd (p .unknown) cur qs ss)
 unfolding taken spreadEnd
 covers p cur [] ss = refl
-covers p cur (q ∷ qs) ss =
-    covers p cur qs (onMips (q .selector) (λ s. coalesce (paint (p .unknown) (layerStart (q .selector)) (layerEnd (q .selector)) (endAfter (p .unknown) cur (q .state)) s)) 0 ss)
+covers p cur (q ∷ qs) ss = covers p cur qs (updatedMips (p .unknown) (q .selector) (endAfter (p .unknown) cur (q .state)) ss)
 
 pub merges : (p : UsageFlags) (qs : List Piece) (ss : List (List Range)) → passes (taken Merge p) qs ss ≡ passes (λ q. walk (mergeMip p q) 0) qs ss
 unfolding taken
@@ -115,7 +113,7 @@ taken-tiled Insert p q w ss h g t = on-tiled w (q .selector) _ (λ s x. paint-ti
 taken-tiled Merge p q w ss h g t = walk-tiled w (mergeMip p q) (merge-tiled p q w h g) 0 ss t
 taken-tiled (Spread cur) p q w ss h g t = go (unite p cur (q .state))
   where
-    go : (o : Option ℕ) → Tiled w (ruled {C = InvalidUse} ss (invalidUse (q .selector) cur (q .state)) (Option·map (λ (u : ℕ). onMips (q .selector) (λ s. coalesce (paint (p .unknown) (layerStart (q .selector)) (layerEnd (q .selector)) u s)) 0 ss) o) .value)
+    go : (o : Option ℕ) → Tiled w (ruled {C = InvalidUse} ss (invalidUse (q .selector) cur (q .state)) (Option·map (λ (u : ℕ). updatedMips (p .unknown) (q .selector) u ss) o) .value)
     go none = t
     go (some u) = on-tiled w (q .selector) _ (λ s x. update-tiles (p .unknown) (layerStart (q .selector)) (layerEnd (q .selector)) u s w h g x) 0 ss t
 taken-tiled (Cover cur) p q w ss h g t = on-tiled w (q .selector) _ (λ s x. update-tiles (p .unknown) (layerStart (q .selector)) (layerEnd (q .selector)) (endAfter (p .unknown) cur (q .state)) s w h g x) 0 ss t

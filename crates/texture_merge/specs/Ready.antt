@@ -9,8 +9,8 @@ use Rattle.model.specs.declared.Range.{Range}
 use Rattle.model.specs.declared.Selector.{Selector}
 use Rattle.model.specs.Representation.{mipStart, mipEnd, layerStart, layerEnd}
 use Rattle.model.specs.Sets.{Numbers}
-use Rattle.model.specs.RangedStates.{range, Tiles}
-use Rattle.model.specs.Texture.{freshMips}
+use Rattle.model.specs.RangedStates.{range, coalesce, paint, Tiles}
+use Rattle.model.specs.Texture.{onMips, freshMips}
 use Rattle.range_states.specs.View.{decode}
 use Rattle.range_isolate.specs.Isolation.{IsolateRoom}
 use Rattle.range_isolate.specs.Tiling.{isolate-room}
@@ -21,6 +21,10 @@ use Rattle.set_storage.specs.Locate.{LocatedAt}
 use Rattle.set_storage.specs.declared.Located.{Located}
 use Rattle.set_storage.specs.Texture.{TextureReady, TextureHeld, SelectorWithin, tiles-few, texture-mips}
 use Rattle.model.specs.RangeLaws.{tiles-one}
+
+-- the mips once what a selector names took a state: the others stay, and each of these is coalesced
+abbrev pub updatedMips : ℕ → Selector → ℕ → List (List Range) → List (List Range)
+updatedMips u q st ss = onMips q (λ s. coalesce (paint u (layerStart q) (layerEnd q) st s)) 0 ss
 
 -- ---- A mip whose ranges tile its layers
 pub record MipTiled (d : Numbers) (h : ℕ) (t r : List ℕ) (i m layers : ℕ) : Type 0 where
@@ -86,6 +90,10 @@ pub record ManyReady (d : Numbers) (h : ℕ) (t r : List ℕ) (i layers : ℕ) :
   pub some : 0 < layers
   pub low : layers ≤ d .layers
   pub tiled : (k : ℕ) → k < mipsIn d t i → Tiles 0 (mipOf d h t r i k) layers
+
+-- they tile as many layers as the table says that it has
+abbrev pub HalfTiled : ℕ → List ℕ → List ℕ → ℕ → Type 0
+HalfTiled h t r i = ManyReady (numbersOf t) h t r i (getD t (layersAt i) 0)
 
 -- as the half holds it, where its word tells COMPLEX; w is how many layers it has
 pub many-of : {d : Numbers} {h i : ℕ} {sh : Extent} {t r : List ℕ} → TextureHeld d h t r i sh → getD t (h + i) 0 ≡ getD t complexAt 0 → (w : ℕ) → w ≡ sh .layers → ManyReady d h t r i w

@@ -15,14 +15,14 @@ use Rattle.model.specs.declared.InvalidUse.{InvalidUse}
 use Rattle.model.specs.Base.{if_then_else_, Stop, fine, stopped, andThen, walk}
 use Rattle.model.specs.StateRules.{invalidState, unite}
 use Rattle.model.specs.Sets.{Numbers}
-use Rattle.model.specs.Representation.{layerStart, layerEnd, full}
-use Rattle.model.specs.RangedStates.{coalesce, paint}
-use Rattle.model.specs.Texture.{Held, single, many, Given, givenSingle, givenMany, onMips, freshMips, spreadPiece, mergeMip, mergeEvery, invalidUse, asMany, merge}
+use Rattle.model.specs.Representation.{full}
+use Rattle.model.specs.Texture.{Held, single, many, Given, givenSingle, givenMany, freshMips, spreadPiece, mergeMip, mergeEvery, invalidUse, asMany, merge}
 use Rattle.set_storage.specs.Storage.{numbersOf, flagsOf, complexAt}
 use Rattle.set_storage.specs.Slots.{HalfBecomes}
 use Rattle.set_storage.specs.Texture.{TextureReady, RangesTile, SelectorWithin}
 use Rattle.texture_merge.specs.declared.Stopped.{Stopped}
 use Rattle.texture_merge.specs.Walks.{stoppedOf}
+use Rattle.texture_merge.specs.Ready.{updatedMips}
 
 -- a use of all of a texture, or of what a selector names
 abbrev pub useOf : Bool → Selector → ℕ → Given
@@ -30,7 +30,7 @@ useOf all q new = if all then givenSingle new else givenMany (record { selector 
 
 -- a Single texture broken up by a selector with a state
 unfoldable pub brokenUp : Extent → ℕ → Selector → ℕ → ℕ → Held
-brokenUp sh was q u st = many (onMips q (λ s. coalesce (paint u (layerStart q) (layerEnd q) st s)) 0 (freshMips sh was))
+brokenUp sh was q u st = many (updatedMips u q st (freshMips sh was))
 
 -- what the checks and the test of the set have shown
 pub record UseReady (d : Numbers) (h : ℕ) (t r : List ℕ) (i : ℕ) (sh : Extent) (all : Bool) (q : Selector) (p : UsageFlags) (new : ℕ) : Type 0 where

@@ -19,14 +19,14 @@ use texture_mips::Met;
 ghost use mathlib.Core.Path.{_≡_};
 ghost use mathlib.Core.List.{[], _∷_};
 ghost use Prim.Native.Nat.{suc, _+_, _<_};
-ghost use lib.ListN.{getD, replicate};
+ghost use lib.ListN.{replicate};
 ghost use Rattle.model.specs.Base.{walk};
 ghost use Rattle.model.specs.Representation.{select, layerStart, layerEnd};
-ghost use Rattle.model.specs.RangedStates.{range, coalesce, paint};
+ghost use Rattle.model.specs.RangedStates.{range, paint};
 ghost use Rattle.model.specs.Texture.{onMips, invalidUse, mergeMip, mergeEvery};
-ghost use Rattle.set_storage.specs.Storage.{numbersOf, mipsOf, layersAt};
+ghost use Rattle.set_storage.specs.Storage.{numbersOf, mipsOf};
 ghost use Rattle.set_storage.specs.Frames.{MipsBecome};
-ghost use Rattle.texture_merge.specs.Ready.{ManyReady, Selects, EveryReady};
+ghost use Rattle.texture_merge.specs.Ready.{updatedMips, HalfTiled, Selects, EveryReady};
 ghost use Rattle.texture_merge.specs.Walks.{MipsWalked};
 
 // `ComplexTextureState::new`, in any state: each mip one range over all layers.
@@ -40,7 +40,9 @@ pub fn fresh_mips(
     state: u32,
 )
     requires { ⌜ EveryReady (numbersOf (now table)) half (now table) (now ranges) i mips ⌝ }
-    ensures { λ _. ⌜ MipsBecome (numbersOf (now (table .entry))) half i (replicate mips (range 0 layers state ∷ [])) (now (table .entry)) (now (ranges .entry)) (now (table .exit)) (now (ranges .exit)) ⌝ }
+    ensures { λ _. let t = now (table .entry) in
+        ⌜ MipsBecome (numbersOf t) half i (replicate mips (range 0 layers state ∷ []))
+        t (now (ranges .entry)) (now (table .exit)) (now (ranges .exit)) ⌝ }
 {
     let mut m = 0;
     while m < mips {
@@ -59,9 +61,10 @@ pub fn update_mips(
     unknown: u32,
     state: u32,
 )
-    requires { ⌜ ManyReady (numbersOf (now table)) half (now table) (now ranges) i (getD (now table) (layersAt i) 0) ⌝ }
+    requires { ⌜ HalfTiled half (now table) (now ranges) i ⌝ }
     requires { ⌜ Selects (numbersOf (now table)) (now table) i q ⌝ }
-    ensures { λ _. ⌜ MipsBecome (numbersOf (now (table .entry))) half i (onMips q (λ s. coalesce (paint unknown (layerStart q) (layerEnd q) state s)) 0 (mipsOf (numbersOf (now (table .entry))) half (now (table .entry)) (now (ranges .entry)) i)) (now (table .entry)) (now (ranges .entry)) (now (table .exit)) (now (ranges .exit)) ⌝ }
+    ensures { λ _. let t = now (table .entry) in let r = now (ranges .entry) in let d = numbersOf t in
+        ⌜ MipsBecome d half i (updatedMips unknown q state (mipsOf d half t r i)) t r (now (table .exit)) (now (ranges .exit)) ⌝ }
 {
     let top = wide(q.mips.end.0);
     let mut m = wide(q.mips.start.0);
@@ -91,9 +94,11 @@ pub fn paint_mips(
     unknown: u32,
     state: u32,
 )
-    requires { ⌜ ManyReady (numbersOf (now table)) half (now table) (now ranges) i (getD (now table) (layersAt i) 0) ⌝ }
+    requires { ⌜ HalfTiled half (now table) (now ranges) i ⌝ }
     requires { ⌜ Selects (numbersOf (now table)) (now table) i q ⌝ }
-    ensures { λ _. ⌜ MipsBecome (numbersOf (now (table .entry))) half i (onMips q (paint unknown (layerStart q) (layerEnd q) state) 0 (mipsOf (numbersOf (now (table .entry))) half (now (table .entry)) (now (ranges .entry)) i)) (now (table .entry)) (now (ranges .entry)) (now (table .exit)) (now (ranges .exit)) ⌝ }
+    ensures { λ _. let t = now (table .entry) in let r = now (ranges .entry) in let d = numbersOf t in
+        ⌜ MipsBecome d half i (onMips q (paint unknown (layerStart q) (layerEnd q) state) 0 (mipsOf d half t r i))
+        t r (now (table .exit)) (now (ranges .exit)) ⌝ }
 {
     let top = wide(q.mips.end.0);
     let mut m = wide(q.mips.start.0);
@@ -153,9 +158,11 @@ pub fn merge_mips(
     p: UsageFlags,
     new: u32,
 ) -> Stopped
-    requires { ⌜ ManyReady (numbersOf (now table)) half (now table) (now ranges) i (getD (now table) (layersAt i) 0) ⌝ }
+    requires { ⌜ HalfTiled half (now table) (now ranges) i ⌝ }
     requires { ⌜ Selects (numbersOf (now table)) (now table) i q ⌝ }
-    ensures { λ x. ⌜ MipsWalked (numbersOf (now (table .entry))) half i (walk (mergeMip p (record { selector = q; state = new })) 0 (mipsOf (numbersOf (now (table .entry))) half (now (table .entry)) (now (ranges .entry)) i)) (now (table .entry)) (now (ranges .entry)) x (now (table .exit)) (now (ranges .exit)) ⌝ }
+    ensures { λ x. let t = now (table .entry) in let r = now (ranges .entry) in let d = numbersOf t in
+        ⌜ MipsWalked d half i (walk (mergeMip p (record { selector = q; state = new })) 0 (mipsOf d half t r i))
+        t r x (now (table .exit)) (now (ranges .exit)) ⌝ }
 {
     let top = wide(q.mips.end.0);
     let mut m = wide(q.mips.start.0);
@@ -189,9 +196,10 @@ pub fn merge_every_mips(
     p: UsageFlags,
     new: u32,
 ) -> Stopped
-    requires { ⌜ ManyReady (numbersOf (now table)) half (now table) (now ranges) i (getD (now table) (layersAt i) 0) ⌝ }
+    requires { ⌜ HalfTiled half (now table) (now ranges) i ⌝ }
     requires { ⌜ EveryReady (numbersOf (now table)) half (now table) (now ranges) i mips ⌝ }
-    ensures { λ x. ⌜ MipsWalked (numbersOf (now (table .entry))) half i (walk (mergeEvery p new) 0 (mipsOf (numbersOf (now (table .entry))) half (now (table .entry)) (now (ranges .entry)) i)) (now (table .entry)) (now (ranges .entry)) x (now (table .exit)) (now (ranges .exit)) ⌝ }
+    ensures { λ x. let t = now (table .entry) in let r = now (ranges .entry) in let d = numbersOf t in
+        ⌜ MipsWalked d half i (walk (mergeEvery p new) 0 (mipsOf d half t r i)) t r x (now (table .exit)) (now (ranges .exit)) ⌝ }
 {
     let mut m = 0;
     while m < mips {

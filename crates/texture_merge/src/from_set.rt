@@ -52,7 +52,9 @@ pub fn insert_given(
     p: UsageFlags,
 )
     requires { ⌜ SetReady half (now table) (now ranges) i extent from (now given) (now lent) p ⌝ }
-    ensures { λ _. ⌜ HalfBecomes (numbersOf (now (table .entry))) half i (insert p extent (fromHeld (heldOf (numbersOf (now (given .entry))) from (now (given .entry)) (now (lent .entry)) i))) (now (table .entry)) (now (ranges .entry)) (now (table .exit)) (now (ranges .exit)) ⌝ }
+    ensures { λ _. let t = now (table .entry) in let r = now (ranges .entry) in let g = now (given .entry) in
+        ⌜ HalfBecomes (numbersOf t) half i (insert p extent (fromHeld (heldOf (numbersOf g) from g (now (lent .entry)) i)))
+        t r (now (table .exit)) (now (ranges .exit)) ⌝ }
 {
     let word = given[from + i];
     if word != p.complex {
@@ -90,7 +92,9 @@ pub fn merge_given(
 ) -> Stopped
     requires { ⌜ SetReady half (now table) (now ranges) i extent from (now given) (now lent) p ⌝ }
     requires { ⌜ MergeReady half (now table) (now ranges) i extent from (now given) p ⌝ }
-    ensures { λ x. ⌜ HalfMerged (numbersOf (now (table .entry))) half i (merge p extent (heldOf (numbersOf (now (table .entry))) half (now (table .entry)) (now (ranges .entry)) i) (fromHeld (heldOf (numbersOf (now (given .entry))) from (now (given .entry)) (now (lent .entry)) i))) (now (table .entry)) (now (ranges .entry)) x (now (table .exit)) (now (ranges .exit)) ⌝ }
+    ensures { λ x. let t = now (table .entry) in let r = now (ranges .entry) in let g = now (given .entry) in let d = numbersOf t in
+        ⌜ HalfMerged d half i (merge p extent (heldOf d half t r i) (fromHeld (heldOf (numbersOf g) from g (now (lent .entry)) i)))
+        t r x (now (table .exit)) (now (ranges .exit)) ⌝ }
 {
     let word = given[from + i];
     let cur = table[half + i];

@@ -27,7 +27,9 @@ pub fn update_mip(
     state: u32,
 )
     requires { ⌜ PieceReady half (now table) (now ranges) i m start end ⌝ }
-    ensures { λ _. ⌜ MipsBecome (numbersOf (now (table .entry))) half i (set (mipsOf (numbersOf (now (table .entry))) half (now (table .entry)) (now (ranges .entry)) i) m (coalesce (paintOf unknown start end state (mipOf (numbersOf (now (table .entry))) half (now (table .entry)) (now (ranges .entry)) i m)))) (now (table .entry)) (now (ranges .entry)) (now (table .exit)) (now (ranges .exit)) ⌝ }
+    ensures { λ _. let t = now (table .entry) in let r = now (ranges .entry) in let d = numbersOf t in
+        ⌜ MipsBecome d half i (set (mipsOf d half t r i) m (coalesce (paintOf unknown start end state (mipOf d half t r i m))))
+        t r (now (table .exit)) (now (ranges .exit)) ⌝ }
 {
     let at = locate(table, ranges.len(), half, i, m);
     let b = at.base;
@@ -49,7 +51,9 @@ pub fn paint_mip(
     state: u32,
 )
     requires { ⌜ PieceReady half (now table) (now ranges) i m start end ⌝ }
-    ensures { λ _. ⌜ MipsBecome (numbersOf (now (table .entry))) half i (set (mipsOf (numbersOf (now (table .entry))) half (now (table .entry)) (now (ranges .entry)) i) m (paintOf unknown start end state (mipOf (numbersOf (now (table .entry))) half (now (table .entry)) (now (ranges .entry)) i m))) (now (table .entry)) (now (ranges .entry)) (now (table .exit)) (now (ranges .exit)) ⌝ }
+    ensures { λ _. let t = now (table .entry) in let r = now (ranges .entry) in let d = numbersOf t in
+        ⌜ MipsBecome d half i (set (mipsOf d half t r i) m (paintOf unknown start end state (mipOf d half t r i m)))
+        t r (now (table .exit)) (now (ranges .exit)) ⌝ }
 {
     let at = locate(table, ranges.len(), half, i, m);
     let b = at.base;
@@ -69,7 +73,8 @@ pub fn fresh_mip(
     state: u32,
 )
     requires { ⌜ MipReady (numbersOf (now table)) half (now table) (now ranges) i m ⌝ }
-    ensures { λ _. ⌜ MipsBecome (numbersOf (now (table .entry))) half i (set (mipsOf (numbersOf (now (table .entry))) half (now (table .entry)) (now (ranges .entry)) i) m (range 0 layers state ∷ [])) (now (table .entry)) (now (ranges .entry)) (now (table .exit)) (now (ranges .exit)) ⌝ }
+    ensures { λ _. let t = now (table .entry) in let r = now (ranges .entry) in let d = numbersOf t in
+        ⌜ MipsBecome d half i (set (mipsOf d half t r i) m (range 0 layers state ∷ [])) t r (now (table .exit)) (now (ranges .exit)) ⌝ }
 {
     let at = locate(table, ranges.len(), half, i, m);
     let b = at.base;
@@ -91,7 +96,9 @@ pub fn merge_mip(
     new: u32,
 ) -> Met
     requires { ⌜ PieceReady half (now table) (now ranges) i m start end ⌝ }
-    ensures { λ x. ⌜ MipWalked (numbersOf (now (table .entry))) half i m (mergeRun p m start end new (mipOf (numbersOf (now (table .entry))) half (now (table .entry)) (now (ranges .entry)) i m)) (conflictOf m new x) (now (table .entry)) (now (ranges .entry)) (now (table .exit)) (now (ranges .exit)) ⌝ }
+    ensures { λ x. let t = now (table .entry) in let r = now (ranges .entry) in let d = numbersOf t in
+        ⌜ MipWalked d half i m (mergeRun p m start end new (mipOf d half t r i m))
+        (conflictOf m new x) t r (now (table .exit)) (now (ranges .exit)) ⌝ }
 {
     let at = locate(table, ranges.len(), half, i, m);
     let b = at.base;
@@ -112,7 +119,9 @@ pub fn merge_every_mip(
     new: u32,
 ) -> Met
     requires { ⌜ MipTiled (numbersOf (now table)) half (now table) (now ranges) i m (getD (now table) (layersAt i) 0) ⌝ }
-    ensures { λ x. ⌜ MipWalked (numbersOf (now (table .entry))) half i m (mergeEvery p new m (mipOf (numbersOf (now (table .entry))) half (now (table .entry)) (now (ranges .entry)) i m)) (conflictOf m new x) (now (table .entry)) (now (ranges .entry)) (now (table .exit)) (now (ranges .exit)) ⌝ }
+    ensures { λ x. let t = now (table .entry) in let r = now (ranges .entry) in let d = numbersOf t in
+        ⌜ MipWalked d half i m (mergeEvery p new m (mipOf d half t r i m))
+        (conflictOf m new x) t r (now (table .exit)) (now (ranges .exit)) ⌝ }
 {
     let at = locate(table, ranges.len(), half, i, m);
     let b = at.base;

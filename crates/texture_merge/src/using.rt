@@ -54,7 +54,9 @@ pub fn insert_use(
     new: u32,
 )
     requires { ⌜ UseReady (numbersOf (now table)) half (now table) (now ranges) i extent all q p new ⌝ }
-    ensures { λ _. ⌜ HalfBecomes (numbersOf (now (table .entry))) half i (insert p extent (useOf all q new)) (now (table .entry)) (now (ranges .entry)) (now (table .exit)) (now (ranges .exit)) ⌝ }
+    ensures { λ _. let t = now (table .entry) in
+        ⌜ HalfBecomes (numbersOf t) half i (insert p extent (useOf all q new))
+        t (now (ranges .entry)) (now (table .exit)) (now (ranges .exit)) ⌝ }
 {
     if all {
         set_state(table, half, i, new);
@@ -86,7 +88,9 @@ pub fn break_up(
     state: u32,
 )
     requires { ⌜ UseReady (numbersOf (now table)) half (now table) (now ranges) i extent false q p state ⌝ }
-    ensures { λ _. ⌜ HalfBecomes (numbersOf (now (table .entry))) half i (brokenUp extent was q (p .unknown) state) (now (table .entry)) (now (ranges .entry)) (now (table .exit)) (now (ranges .exit)) ⌝ }
+    ensures { λ _. let t = now (table .entry) in
+        ⌜ HalfBecomes (numbersOf t) half i (brokenUp extent was q (p .unknown) state)
+        t (now (ranges .entry)) (now (table .exit)) (now (ranges .exit)) ⌝ }
 {
     set_state(table, half, i, p.complex);
     fresh_mips(
@@ -116,7 +120,9 @@ pub fn merge_single_use(
 ) -> Stopped
     requires { ⌜ UseReady (numbersOf (now table)) half (now table) (now ranges) i extent all q p new ⌝ }
     requires { ⌜ SingleReady half (now table) i p cur new ⌝ }
-    ensures { λ x. ⌜ HalfMerged (numbersOf (now (table .entry))) half i (merge p extent (single cur) (useOf all q new)) (now (table .entry)) (now (ranges .entry)) x (now (table .exit)) (now (ranges .exit)) ⌝ }
+    ensures { λ x. let t = now (table .entry) in
+        ⌜ HalfMerged (numbersOf t) half i (merge p extent (single cur) (useOf all q new))
+        t (now (ranges .entry)) x (now (table .exit)) (now (ranges .exit)) ⌝ }
 {
     let United::State(u) = unite(p, cur, new) else {
         return Stopped::At(InvalidUse {
@@ -147,7 +153,8 @@ pub fn merge_use(
 ) -> Stopped
     requires { ⌜ UseReady (numbersOf (now table)) half (now table) (now ranges) i extent all q p new ⌝ }
     requires { ⌜ HeldReady half (now table) (now ranges) i extent new ⌝ }
-    ensures { λ x. ⌜ HalfMerged (numbersOf (now (table .entry))) half i (merge p extent (heldOf (numbersOf (now (table .entry))) half (now (table .entry)) (now (ranges .entry)) i) (useOf all q new)) (now (table .entry)) (now (ranges .entry)) x (now (table .exit)) (now (ranges .exit)) ⌝ }
+    ensures { λ x. let t = now (table .entry) in let r = now (ranges .entry) in let d = numbersOf t in
+        ⌜ HalfMerged d half i (merge p extent (heldOf d half t r i) (useOf all q new)) t r x (now (table .exit)) (now (ranges .exit)) ⌝ }
 {
     let cur = table[half + i];
     if cur != p.complex {

@@ -21,7 +21,8 @@ pub fn learn(
     requires { ⌜ from ≤ to ⌝ }
     requires { ⌜ 3 * to ≤ length (now ends) ⌝ }
     requires { ⌜ LearnRoom (now s) len unknown new (drop from (decode to (now ends))) ⌝ }
-    ensures { λ r. ⌜ Leaves (now (s .entry)) r (learnOf unknown new (drop from (decode to (now (ends .entry)))) (decode len (now (s .entry)))) (now (s .exit)) ⌝ }
+    ensures { λ r. let l = now (s .entry) in
+        ⌜ Leaves l r (learnOf unknown new (drop from (decode to (now (ends .entry)))) (decode len l)) (now (s .exit)) ⌝ }
 {
     let mut n = len;
     let mut k = from;

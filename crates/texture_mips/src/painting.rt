@@ -16,7 +16,8 @@ ghost use Rattle.texture_mips.specs.Paint.{Leaves};
 pub fn set_run(s: &mut [u32], from: usize, to: usize, state: u32)
     requires { ⌜ from ≤ to ⌝ }
     requires { ⌜ 3 * to ≤ length (now s) ⌝ }
-    ensures { λ _. ⌜ Becomes (now (s .entry)) to (decode from (now (s .entry)) ++ map (inState state) (drop from (decode to (now (s .entry))))) (now (s .exit)) ⌝ }
+    ensures { λ _. let l = now (s .entry) in
+        ⌜ Becomes l to (decode from l ++ map (inState state) (drop from (decode to l))) (now (s .exit)) ⌝ }
 {
     let mut k = from;
     while k < to {
@@ -47,7 +48,8 @@ pub fn paint(s: &mut [u32], len: usize, start: u32, end: u32, unknown: u32, stat
 // `update` on a mip of the end: the layers of a piece take its state, and the mip is coalesced.
 pub fn update(s: &mut [u32], len: usize, start: u32, end: u32, unknown: u32, state: u32) -> usize
     requires { ⌜ IsolateRoom (now s) len start end unknown ⌝ }
-    ensures { λ r. ⌜ Leaves (now (s .entry)) r (coalesceOf (paintOf unknown start end state (decode len (now (s .entry))))) (now (s .exit)) ⌝ }
+    ensures { λ r. let l = now (s .entry) in
+        ⌜ Leaves l r (coalesceOf (paintOf unknown start end state (decode len l))) (now (s .exit)) ⌝ }
 {
     let n = paint(s, len, start, end, unknown, state);
     coalesce(s, n)

@@ -2,22 +2,23 @@
 use Prim.Native.Nat.{ℕ}
 use native.Mathlib.Omega.{arith}
 use mathlib.Core.Path.{_≡_, refl, sym, ap, subst, _∙_}
+use mathlib.Core.Bool.{false}
 use mathlib.Core.List.{List}
 use lib.ListN.{getD, set}
 use Rattle.model.specs.declared.UsageFlags.{UsageFlags}
 use Rattle.model.specs.declared.Extent.{Extent}
 use Rattle.model.specs.declared.Selector.{Selector}
 use Rattle.model.specs.declared.Range.{Range}
-use Rattle.model.specs.Representation.{Ends, layerStart, layerEnd}
-use Rattle.model.specs.RangedStates.{coalesce, paint}
-use Rattle.model.specs.Texture.{Held, single, many, Given, givenSingle, onMips, learnAll, metBy, update}
+use Rattle.model.specs.Representation.{Ends}
+use Rattle.model.specs.Texture.{Held, single, many, Given, givenSingle, learnAll, metBy, update}
 use Rattle.set_storage.specs.Storage.{numbersOf, startHalf, endHalf, mipsOf, heldOf, endsOf, complexAt, stateAt}
 use Rattle.set_storage.specs.Frames.{Measured, MipsBecome}
 use Rattle.set_storage.specs.Slots.{HalfBecomes, become-single, become-many, held-single, held-many, half-low}
-use Rattle.texture_merge.specs.Uses.{brokenUp}
+use Rattle.texture_merge.specs.Uses.{useOf, brokenUp}
+use Rattle.texture_merge.specs.Ready.{updatedMips}
 use Rattle.set_storage.specs.Texture.{measured-low}
 use Rattle.texture_update.specs.Both.{BothBecome, BothMips, start-then-end, end-alone, mips-become}
-use Rattle.texture_update.specs.Update.{pieceOf, UpdateReady, Selecting, complex-is, state-single, state-kept, state-learnt, use-single, use-kept, use-learnt}
+use Rattle.texture_update.specs.Update.{UpdateReady, Selecting, complex-is, state-single, state-kept, state-learnt, use-single, use-kept, use-learnt}
 
 module _ {t s e : List ℕ} {i : ℕ} {sh : Extent} {p : UsageFlags} {new : ℕ} (r : UpdateReady t s e i sh p new) where
   plain : new ≡ getD t complexAt 0 → ⊥
@@ -66,21 +67,21 @@ module _ {t s e : List ℕ} {i : ℕ} {sh : Extent} {p : UsageFlags} {new : ℕ}
 
   -- ---- a selector with a state
   module _ {q : Selector} (x : Selecting sh q p new) where
-    pub part-single : {t′ e′ : List ℕ} (cur : ℕ) → cur ≡ getD t (stateAt endHalf i) 0 → (cur ≡ p .complex → ⊥) → HalfBecomes (numbersOf t) endHalf i (brokenUp sh cur q (p .unknown) new) t e t′ e′ → BothBecome (numbersOf t) i (update p sh (endsOf (numbersOf t) t s e i) (pieceOf q new)) t s e t′ s e′
-    part-single cur z n h = ended (pieceOf q new) (end-single (λ k. n (z ∙ k)) ∙ ap single (sym z)) (use-single p sh new q (x .known) (heldOf (numbersOf t) startHalf t s i) cur) h
+    pub part-single : {t′ e′ : List ℕ} (cur : ℕ) → cur ≡ getD t (stateAt endHalf i) 0 → (cur ≡ p .complex → ⊥) → HalfBecomes (numbersOf t) endHalf i (brokenUp sh cur q (p .unknown) new) t e t′ e′ → BothBecome (numbersOf t) i (update p sh (endsOf (numbersOf t) t s e i) (useOf false q new)) t s e t′ s e′
+    part-single cur z n h = ended (useOf false q new) (end-single (λ k. n (z ∙ k)) ∙ ap single (sym z)) (use-single p sh new q (x .known) (heldOf (numbersOf t) startHalf t s i) cur) h
 
     abbrev painted : List (List Range)
-    painted = onMips q (λ y. coalesce (paint (p .unknown) (layerStart q) (layerEnd q) new y)) 0 (mipsOf (numbersOf t) endHalf t e i)
+    painted = updatedMips (p .unknown) q new (mipsOf (numbersOf t) endHalf t e i)
 
-    pub part-kept : {t′ e′ : List ℕ} → getD t (stateAt endHalf i) 0 ≡ p .complex → (getD t (stateAt startHalf i) 0 ≡ p .complex → ⊥) → MipsBecome (numbersOf t) endHalf i painted t e t′ e′ → BothBecome (numbersOf t) i (update p sh (endsOf (numbersOf t) t s e i) (pieceOf q new)) t s e t′ s e′
+    pub part-kept : {t′ e′ : List ℕ} → getD t (stateAt endHalf i) 0 ≡ p .complex → (getD t (stateAt startHalf i) 0 ≡ p .complex → ⊥) → MipsBecome (numbersOf t) endHalf i painted t e t′ e′ → BothBecome (numbersOf t) i (update p sh (endsOf (numbersOf t) t s e i) (useOf false q new)) t s e t′ s e′
     part-kept c n b =
-        ended (pieceOf q new) (end-many c) (rw (start-single n) (use-kept p sh new q (x .known) (getD t (stateAt startHalf i) 0) (mipsOf (numbersOf t) endHalf t e i)))
+        ended (useOf false q new) (end-many c) (rw (start-single n) (use-kept p sh new q (x .known) (getD t (stateAt startHalf i) 0) (mipsOf (numbersOf t) endHalf t e i)))
         (become-many (r .end .ready .measured) (r .end .ready .index) (c ∙ complex-is r) b)
 
     pub part-learnt : {t′ s′ e′ : List ℕ} → getD t (stateAt endHalf i) 0 ≡ p .complex → getD t (stateAt startHalf i) 0 ≡ p .complex
         → BothMips (numbersOf t) i (learnAll (metBy (p .unknown) (record { selector = q; state = new })) (p .unknown) new 0 (mipsOf (numbersOf t) endHalf t e i) (mipsOf (numbersOf t) startHalf t s i)) painted t s e t′ s′ e′
-        → BothBecome (numbersOf t) i (update p sh (endsOf (numbersOf t) t s e i) (pieceOf q new)) t s e t′ s′ e′
+        → BothBecome (numbersOf t) i (update p sh (endsOf (numbersOf t) t s e i) (useOf false q new)) t s e t′ s′ e′
     part-learnt {t′} {s′} {e′} c d b =
         subst (λ (y : Ends Held). BothBecome (numbersOf t) i y t s e t′ s′ e′)
-        (held-is (pieceOf q new) _ (start-many d) (end-many c) (use-learnt p sh new q (x .known) (mipsOf (numbersOf t) startHalf t s i) (mipsOf (numbersOf t) endHalf t e i)))
+        (held-is (useOf false q new) _ (start-many d) (end-many c) (use-learnt p sh new q (x .known) (mipsOf (numbersOf t) startHalf t s i) (mipsOf (numbersOf t) endHalf t e i)))
         (mips-become (r .start .ready .measured) (r .end .ready .measured) (r .start .ready .index) (d ∙ complex-is r) (c ∙ complex-is r) b)

@@ -10,7 +10,7 @@ use Rattle.model.specs.Texture.{Held, many, Piece, learnAll, metBy}
 use Rattle.set_storage.specs.Storage.{numbersOf, startHalf, endHalf, mipsOf, heldOf, endsOf, complexAt, layersAt, stateAt}
 use Rattle.set_storage.specs.Frames.{MipsBecome}
 use Rattle.set_storage.specs.Slots.{become-many, held-many, held-single}
-use Rattle.texture_merge.specs.Ready.{ManyReady}
+use Rattle.texture_merge.specs.Ready.{HalfTiled}
 use Rattle.texture_merge.specs.Giving.{many-ready}
 use Rattle.set_storage.specs.Stays.{both-refl}
 use Rattle.texture_update.specs.Both.{BothBecome, BothMips, mips-become, end-alone}
@@ -33,7 +33,7 @@ module _ {t s e : List ℕ} {i : ℕ} {p : UsageFlags} (x : PairReady t s e i p)
   end-held : heldOf (numbersOf t) endHalf t e i ≡ many (mipsOf (numbersOf t) endHalf t e i)
   end-held = held-many (numbersOf t) endHalf t e i (mipsOf (numbersOf t) endHalf t e i) end-word refl
 
-  pub end-ready : ManyReady (numbersOf t) endHalf t e i (getD t (layersAt i) 0)
+  pub end-ready : HalfTiled endHalf t e i
   end-ready = many-ready (x .ends) (x .texture) (x .some) (x .low) (subst (λ (y : Held). ManyTiled (getD t (layersAt i) 0) y) end-held (x .tiled .end))
 
   module _ (c : getD t (stateAt startHalf i) 0 ≡ p .complex) where

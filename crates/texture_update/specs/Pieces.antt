@@ -10,19 +10,20 @@ use Rattle.model.specs.declared.UsageFlags.{UsageFlags}
 use Rattle.model.specs.declared.Range.{Range}
 use Rattle.model.specs.Base.{if_then_else_}
 use Rattle.model.specs.Representation.{Ends, layerStart, layerEnd, inMips}
-use Rattle.model.specs.RangedStates.{isolate, coalesce, paint, Tiles}
-use Rattle.model.specs.Texture.{Held, single, many, Piece, onMips, learnAll, learnHeld, metBy, updateAll}
+use Rattle.model.specs.RangedStates.{isolate, Tiles}
+use Rattle.model.specs.Texture.{Held, single, many, Piece, learnAll, learnHeld, metBy, updateAll}
 use Rattle.model.specs.BoolLaws.{by-test}
 use Rattle.model.specs.RangeLaws.{isolate-cuts}
 use Rattle.texture_mips.specs.Kept.{Within, learn-tiles, tiles-within, update-tiles}
 use Rattle.set_storage.specs.Storage.{numbersOf, flagsOf, startHalf, endHalf, endsOf, layerLimitAt, layersAt, texturesAt}
 use Rattle.set_storage.specs.Frames.{Measured}
+use Rattle.texture_merge.specs.Ready.{updatedMips}
 use Rattle.texture_merge.specs.Giving.{Tiled, on-tiled}
 
 -- ---- What one piece does
 -- to the end's mips
 abbrev pub paintedBy : ℕ → Piece → List (List Range) → List (List Range)
-paintedBy u q ss = onMips (q .selector) (λ s. coalesce (paint u (layerStart (q .selector)) (layerEnd (q .selector)) (q .state) s)) 0 ss
+paintedBy u q ss = updatedMips u (q .selector) (q .state) ss
 
 -- to the start and the end; one that is UNKNOWN is passed over
 abbrev pub halvesUpdated : ℕ → Piece → Held → Held → Ends Held

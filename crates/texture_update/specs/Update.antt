@@ -2,25 +2,19 @@
 use Prim.Native.Nat.{ℕ}
 use mathlib.Core.Path.{_≡_, refl, ap, _∙_}
 use mathlib.Core.Bool.{false, false≢true}
-use mathlib.Core.List.{List, [], _∷_}
+use mathlib.Core.List.{List}
 use lib.ListN.{getD}
 use borrow.Author.Tests.{ne-eqb}
 use Rattle.model.specs.declared.UsageFlags.{UsageFlags}
 use Rattle.model.specs.declared.Extent.{Extent}
 use Rattle.model.specs.declared.Selector.{Selector}
 use Rattle.model.specs.declared.Range.{Range}
-use Rattle.model.specs.Representation.{layerStart, layerEnd}
-use Rattle.model.specs.RangedStates.{coalesce, paint}
-use Rattle.model.specs.Texture.{Held, single, many, Given, givenSingle, givenMany, onMips, learnAll, metBy, spreadEnd, updateAll, update}
-use Rattle.set_storage.specs.Storage.{numbersOf, flagsOf, startHalf, endHalf, complexAt, layersAt, stateAt}
+use Rattle.model.specs.Texture.{Held, single, many, givenSingle, learnAll, metBy, spreadEnd, updateAll, update}
+use Rattle.set_storage.specs.Storage.{numbersOf, flagsOf, startHalf, endHalf, complexAt, stateAt}
 use Rattle.set_storage.specs.Texture.{TextureHeld, SelectorWithin}
-use Rattle.texture_merge.specs.Ready.{ManyReady, many-of}
-use Rattle.texture_merge.specs.Uses.{UseReady, brokenUp}
+use Rattle.texture_merge.specs.Ready.{updatedMips, HalfTiled, many-of}
+use Rattle.texture_merge.specs.Uses.{useOf, UseReady, brokenUp}
 use Rattle.texture_update.specs.Learning.{BothReady}
-
--- a use of what a selector names
-abbrev pub pieceOf : Selector → ℕ → Given
-pieceOf q new = givenMany (record { selector = q; state = new } ∷ [])
 
 -- ---- What the checks and the test of the set have shown
 pub record UpdateReady (t s e : List ℕ) (i : ℕ) (sh : Extent) (p : UsageFlags) (new : ℕ) : Type 0 where
@@ -38,10 +32,10 @@ module _ {t s e : List ℕ} {i : ℕ} {sh : Extent} {p : UsageFlags} {new : ℕ}
   pub complex-is : p .complex ≡ getD t complexAt 0
   complex-is = ap (λ (y : UsageFlags). y .complex) (r .flags)
 
-  pub start-many : getD t (stateAt startHalf i) 0 ≡ p .complex → ManyReady (numbersOf t) startHalf t s i (getD t (layersAt i) 0)
+  pub start-many : getD t (stateAt startHalf i) 0 ≡ p .complex → HalfTiled startHalf t s i
   start-many c = many-of (r .start) (c ∙ complex-is) _ (r .start .ready .layers)
 
-  pub end-many : getD t (stateAt endHalf i) 0 ≡ p .complex → ManyReady (numbersOf t) endHalf t e i (getD t (layersAt i) 0)
+  pub end-many : getD t (stateAt endHalf i) 0 ≡ p .complex → HalfTiled endHalf t e i
   end-many c = many-of (r .end) (c ∙ complex-is) _ (r .end .ready .layers)
 
   pub both-many : getD t (stateAt startHalf i) 0 ≡ p .complex → getD t (stateAt endHalf i) 0 ≡ p .complex → BothReady t s e i
@@ -66,17 +60,14 @@ module _ (p : UsageFlags) (sh : Extent) (new : ℕ) where
 
   -- a selector with a state that is not UNKNOWN
   module _ (q : Selector) (n : new ≡ p .unknown → ⊥) where
-    abbrev painted : List (List Range) → List (List Range)
-    painted es = onMips q (λ s. coalesce (paint (p .unknown) (layerStart q) (layerEnd q) new s)) 0 es
-
-    pub use-single : (x : Held) (cur : ℕ) → update p sh (record { start = x; end = single cur }) (pieceOf q new) ≡ record { start = x; end = brokenUp sh cur q (p .unknown) new }
+    pub use-single : (x : Held) (cur : ℕ) → update p sh (record { start = x; end = single cur }) (useOf false q new) ≡ record { start = x; end = brokenUp sh cur q (p .unknown) new }
     unfolding update spreadEnd brokenUp
     use-single x cur = rw (ne-eqb new (p .unknown) n)
 
-    pub use-kept : (st : ℕ) (es : List (List Range)) → update p sh (record { start = single st; end = many es }) (pieceOf q new) ≡ record { start = single st; end = many (painted es) }
+    pub use-kept : (st : ℕ) (es : List (List Range)) → update p sh (record { start = single st; end = many es }) (useOf false q new) ≡ record { start = single st; end = many (updatedMips (p .unknown) q new es) }
     unfolding update updateAll
     use-kept st es = rw (ne-eqb new (p .unknown) n)
 
-    pub use-learnt : (ss es : List (List Range)) → update p sh (record { start = many ss; end = many es }) (pieceOf q new) ≡ record { start = many (learnAll (metBy (p .unknown) (record { selector = q; state = new })) (p .unknown) new 0 es ss); end = many (painted es) }
+    pub use-learnt : (ss es : List (List Range)) → update p sh (record { start = many ss; end = many es }) (useOf false q new) ≡ record { start = many (learnAll (metBy (p .unknown) (record { selector = q; state = new })) (p .unknown) new 0 es ss); end = many (updatedMips (p .unknown) q new es) }
     unfolding update updateAll
     use-learnt ss es = rw (ne-eqb new (p .unknown) n)

@@ -8,12 +8,11 @@ use set_storage::wide;
 ghost use mathlib.Core.Path.{_≡_};
 ghost use Prim.Native.Nat.{_+_, _≤_, _<_};
 ghost use lib.ListN.{getD, set};
-ghost use Rattle.model.specs.Representation.{layerStart, layerEnd};
 ghost use Rattle.model.specs.RangedStates.{isolate, coalesce, paint};
-ghost use Rattle.model.specs.Texture.{learn, learnAll, metBy, onMips};
+ghost use Rattle.model.specs.Texture.{learn, learnAll, metBy};
 ghost use Rattle.set_storage.specs.Storage.{numbersOf, startHalf, endHalf, mipsIn, mipOf, mipsOf, layersAt};
 ghost use Rattle.set_storage.specs.Frames.{MipsBecome};
-ghost use Rattle.texture_merge.specs.Ready.{Selects};
+ghost use Rattle.texture_merge.specs.Ready.{updatedMips, Selects};
 ghost use Rattle.texture_update.specs.Both.{BothMips};
 ghost use Rattle.texture_update.specs.Learning.{PairTiled, BothReady};
 
@@ -28,7 +27,10 @@ pub fn learn_mip(
     new: u32,
 )
     requires { ⌜ PairTiled (now table) (now starts) (now ends) i m ⌝ }
-    ensures { λ _. ⌜ MipsBecome (numbersOf (now (table .entry))) startHalf i (set (mipsOf (numbersOf (now (table .entry))) startHalf (now (table .entry)) (now (starts .entry)) i) m (learn unknown new (mipOf (numbersOf (now (table .entry))) endHalf (now (table .entry)) (now (ends .entry)) i m) (mipOf (numbersOf (now (table .entry))) startHalf (now (table .entry)) (now (starts .entry)) i m))) (now (table .entry)) (now (starts .entry)) (now (table .exit)) (now (starts .exit)) ⌝ }
+    ensures { λ _. let t = now (table .entry) in let s = now (starts .entry) in let e = now (ends .entry) in let d = numbersOf t in
+        ⌜ MipsBecome d startHalf i
+        (set (mipsOf d startHalf t s i) m (learn unknown new (mipOf d endHalf t e i m) (mipOf d startHalf t s i m)))
+        t s (now (table .exit)) (now (starts .exit)) ⌝ }
 {
     let at = locate(table, starts.len(), set_storage::START, i, m);
     let by = locate(table, ends.len(), set_storage::END, i, m);
@@ -60,7 +62,9 @@ pub fn learn_mips(
 )
     requires { ⌜ BothReady (now table) (now starts) (now ends) i ⌝ }
     requires { ⌜ mips ≡ mipsIn (numbersOf (now table)) (now table) i ⌝ }
-    ensures { λ _. ⌜ MipsBecome (numbersOf (now (table .entry))) startHalf i (learnAll (λ k s. s) unknown new 0 (mipsOf (numbersOf (now (table .entry))) endHalf (now (table .entry)) (now (ends .entry)) i) (mipsOf (numbersOf (now (table .entry))) startHalf (now (table .entry)) (now (starts .entry)) i)) (now (table .entry)) (now (starts .entry)) (now (table .exit)) (now (starts .exit)) ⌝ }
+    ensures { λ _. let t = now (table .entry) in let s = now (starts .entry) in let e = now (ends .entry) in let d = numbersOf t in
+        ⌜ MipsBecome d startHalf i (learnAll (λ k x. x) unknown new 0 (mipsOf d endHalf t e i) (mipsOf d startHalf t s i))
+        t s (now (table .exit)) (now (starts .exit)) ⌝ }
 {
     let mut m = 0;
     while m < mips {
@@ -83,7 +87,11 @@ pub fn update_both_mip(
 )
     requires { ⌜ PairTiled (now table) (now starts) (now ends) i m ⌝ }
     requires { ⌜ (start < end) × (end ≤ getD (now table) (layersAt i) 0) ⌝ }
-    ensures { λ _. ⌜ BothMips (numbersOf (now (table .entry))) i (set (mipsOf (numbersOf (now (table .entry))) startHalf (now (table .entry)) (now (starts .entry)) i) m (learn unknown new ((isolate start end unknown (mipOf (numbersOf (now (table .entry))) endHalf (now (table .entry)) (now (ends .entry)) i m)) .run) (mipOf (numbersOf (now (table .entry))) startHalf (now (table .entry)) (now (starts .entry)) i m))) (set (mipsOf (numbersOf (now (table .entry))) endHalf (now (table .entry)) (now (ends .entry)) i) m (coalesce (paint unknown start end new (mipOf (numbersOf (now (table .entry))) endHalf (now (table .entry)) (now (ends .entry)) i m)))) (now (table .entry)) (now (starts .entry)) (now (ends .entry)) (now (table .exit)) (now (starts .exit)) (now (ends .exit)) ⌝ }
+    ensures { λ _. let t = now (table .entry) in let s = now (starts .entry) in let e = now (ends .entry) in let d = numbersOf t in
+        let first = mipOf d startHalf t s i m in let last = mipOf d endHalf t e i m in
+        ⌜ BothMips d i (set (mipsOf d startHalf t s i) m (learn unknown new ((isolate start end unknown last) .run) first))
+        (set (mipsOf d endHalf t e i) m (coalesce (paint unknown start end new last)))
+        t s e (now (table .exit)) (now (starts .exit)) (now (ends .exit)) ⌝ }
 {
     let at = locate(table, starts.len(), set_storage::START, i, m);
     let by = locate(table, ends.len(), set_storage::END, i, m);
@@ -117,7 +125,11 @@ pub fn update_both_mips(
 )
     requires { ⌜ BothReady (now table) (now starts) (now ends) i ⌝ }
     requires { ⌜ Selects (numbersOf (now table)) (now table) i q ⌝ }
-    ensures { λ _. ⌜ BothMips (numbersOf (now (table .entry))) i (learnAll (metBy unknown (record { selector = q; state = new })) unknown new 0 (mipsOf (numbersOf (now (table .entry))) endHalf (now (table .entry)) (now (ends .entry)) i) (mipsOf (numbersOf (now (table .entry))) startHalf (now (table .entry)) (now (starts .entry)) i)) (onMips q (λ s. coalesce (paint unknown (layerStart q) (layerEnd q) new s)) 0 (mipsOf (numbersOf (now (table .entry))) endHalf (now (table .entry)) (now (ends .entry)) i)) (now (table .entry)) (now (starts .entry)) (now (ends .entry)) (now (table .exit)) (now (starts .exit)) (now (ends .exit)) ⌝ }
+    ensures { λ _. let t = now (table .entry) in let s = now (starts .entry) in let e = now (ends .entry) in let d = numbersOf t in
+        ⌜ BothMips d i
+        (learnAll (metBy unknown (record { selector = q; state = new })) unknown new 0 (mipsOf d endHalf t e i) (mipsOf d startHalf t s i))
+        (updatedMips unknown q new (mipsOf d endHalf t e i))
+        t s e (now (table .exit)) (now (starts .exit)) (now (ends .exit)) ⌝ }
 {
     let top = wide(q.mips.end.0);
     let mut m = wide(q.mips.start.0);

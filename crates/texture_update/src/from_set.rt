@@ -37,7 +37,9 @@ pub fn update_piece(
 )
     requires { ⌜ PairReady (now table) (now starts) (now ends) i p ⌝ }
     requires { ⌜ Selects (numbersOf (now table)) (now table) i q ⌝ }
-    ensures { λ _. ⌜ BothBecome (numbersOf (now (table .entry))) i (updated (p .unknown) (record { selector = q; state = state }) (endsOf (numbersOf (now (table .entry))) (now (table .entry)) (now (starts .entry)) (now (ends .entry)) i)) (now (table .entry)) (now (starts .entry)) (now (ends .entry)) (now (table .exit)) (now (starts .exit)) (now (ends .exit)) ⌝ }
+    ensures { λ _. let t = now (table .entry) in let s = now (starts .entry) in let e = now (ends .entry) in let d = numbersOf t in
+        ⌜ BothBecome d i (updated (p .unknown) (record { selector = q; state = state }) (endsOf d t s e i))
+        t s e (now (table .exit)) (now (starts .exit)) (now (ends .exit)) ⌝ }
 {
     if state == p.unknown {
         return;
@@ -63,7 +65,9 @@ pub fn update_from_mip(
 )
     requires { ⌜ PairReady (now table) (now starts) (now ends) i p ⌝ }
     requires { ⌜ GivenMip (now table) i m (now part) len ⌝ }
-    ensures { λ _. ⌜ BothBecome (numbersOf (now (table .entry))) i (updates (p .unknown) (map (pieceOn m) (decode len (now (part .entry)))) (endsOf (numbersOf (now (table .entry))) (now (table .entry)) (now (starts .entry)) (now (ends .entry)) i)) (now (table .entry)) (now (starts .entry)) (now (ends .entry)) (now (table .exit)) (now (starts .exit)) (now (ends .exit)) ⌝ }
+    ensures { λ _. let t = now (table .entry) in let s = now (starts .entry) in let e = now (ends .entry) in let d = numbersOf t in
+        ⌜ BothBecome d i (updates (p .unknown) (map (pieceOn m) (decode len (now (part .entry)))) (endsOf d t s e i))
+        t s e (now (table .exit)) (now (starts .exit)) (now (ends .exit)) ⌝ }
 {
     let mut k = 0;
     while k < len {
@@ -88,7 +92,10 @@ pub fn update_from_mips(
 )
     requires { ⌜ PairReady (now table) (now starts) (now ends) i p ⌝ }
     requires { ⌜ GivenTexture (now table) i mips from (now given) (now lent) ⌝ }
-    ensures { λ _. ⌜ BothBecome (numbersOf (now (table .entry))) i (updates (p .unknown) (piecesOf (mipsOf (numbersOf (now (given .entry))) from (now (given .entry)) (now (lent .entry)) i)) (endsOf (numbersOf (now (table .entry))) (now (table .entry)) (now (starts .entry)) (now (ends .entry)) i)) (now (table .entry)) (now (starts .entry)) (now (ends .entry)) (now (table .exit)) (now (starts .exit)) (now (ends .exit)) ⌝ }
+    ensures { λ _. let t = now (table .entry) in let s = now (starts .entry) in let e = now (ends .entry) in let g = now (given .entry) in
+        let d = numbersOf t in
+        ⌜ BothBecome d i (updates (p .unknown) (piecesOf (mipsOf (numbersOf g) from g (now (lent .entry)) i)) (endsOf d t s e i))
+        t s e (now (table .exit)) (now (starts .exit)) (now (ends .exit)) ⌝ }
 {
     let mut m = 0;
     while m < mips {
@@ -113,7 +120,10 @@ pub fn update_given(
     p: UsageFlags,
 )
     requires { ⌜ UpdateFromReady (now table) (now starts) (now ends) i extent from (now given) (now lent) p ⌝ }
-    ensures { λ _. ⌜ BothBecome (numbersOf (now (table .entry))) i (update p extent (endsOf (numbersOf (now (table .entry))) (now (table .entry)) (now (starts .entry)) (now (ends .entry)) i) (fromHeld (heldOf (numbersOf (now (given .entry))) from (now (given .entry)) (now (lent .entry)) i))) (now (table .entry)) (now (starts .entry)) (now (ends .entry)) (now (table .exit)) (now (starts .exit)) (now (ends .exit)) ⌝ }
+    ensures { λ _. let t = now (table .entry) in let s = now (starts .entry) in let e = now (ends .entry) in let g = now (given .entry) in
+        let d = numbersOf t in
+        ⌜ BothBecome d i (update p extent (endsOf d t s e i) (fromHeld (heldOf (numbersOf g) from g (now (lent .entry)) i)))
+        t s e (now (table .exit)) (now (starts .exit)) (now (ends .exit)) ⌝ }
 {
     let word = given[from + i];
     if word != p.complex {

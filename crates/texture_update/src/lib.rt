@@ -1,7 +1,7 @@
 // Texture update: `update` of texture.rs on one texture of a tracker, whose start and end lie in one table and two slices of ranges.
 //
-// Place in the picture: over `texture_merge`, which changes one half of a texture, and `texture_mips`, whose `learn` reads the end while the
-// start changes; under the public calls of a tracker. The start's half begins at `set_storage::START`, the end's at `set_storage::END`.
+// Place in the picture: over `texture_merge`, which changes one half of a texture, and `texture_mips`, whose `learn` reads the end while
+// the start changes; under the public calls of a tracker. The start's half begins at `set_storage::START`, the end's at `set_storage::END`.
 //
 //     using      one use of the texture, for all of it or for a selector
 //     from_set   a texture of another set

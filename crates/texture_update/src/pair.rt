@@ -28,7 +28,8 @@ pub fn learn_update(
 ) -> Both
     requires { ⌜ IsolateRoom (now ends) elen start end unknown ⌝ }
     requires { ⌜ LearnRoom (now starts) slen unknown new ((isolateOf start end unknown (decode elen (now ends))) .run) ⌝ }
-    ensures { λ x. ⌜ PairLeft (now (starts .entry)) slen (now (ends .entry)) elen start end unknown new x (now (starts .exit)) (now (ends .exit)) ⌝ }
+    ensures { λ x.
+        ⌜ PairLeft (now (starts .entry)) slen (now (ends .entry)) elen start end unknown new x (now (starts .exit)) (now (ends .exit)) ⌝ }
 {
     let at = isolate(ends, elen, start, end, unknown);
     let n = learn(starts, slen, ends, at.position, at.end, unknown, new);

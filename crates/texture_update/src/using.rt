@@ -9,10 +9,12 @@ use set_storage::wide;
 use texture_merge::every::update_mips;
 use texture_merge::using::break_up;
 use texture_merge::using::set_state;
+ghost use mathlib.Core.Bool.{false};
 ghost use Rattle.model.specs.Texture.{givenSingle, update};
 ghost use Rattle.set_storage.specs.Storage.{numbersOf, endsOf};
+ghost use Rattle.texture_merge.specs.Uses.{useOf};
 ghost use Rattle.texture_update.specs.Both.{BothBecome};
-ghost use Rattle.texture_update.specs.Update.{pieceOf, UpdateReady, Selecting};
+ghost use Rattle.texture_update.specs.Update.{UpdateReady, Selecting};
 
 // All of the texture takes a state; where its end was UNKNOWN, its start takes it too.
 pub fn update_state(
@@ -25,7 +27,8 @@ pub fn update_state(
     new: u32,
 )
     requires { ⌜ UpdateReady (now table) (now starts) (now ends) i extent p new ⌝ }
-    ensures { λ _. ⌜ BothBecome (numbersOf (now (table .entry))) i (update p extent (endsOf (numbersOf (now (table .entry))) (now (table .entry)) (now (starts .entry)) (now (ends .entry)) i) (givenSingle new)) (now (table .entry)) (now (starts .entry)) (now (ends .entry)) (now (table .exit)) (now (starts .exit)) (now (ends .entry)) ⌝ }
+    ensures { λ _. let t = now (table .entry) in let s = now (starts .entry) in let e = now (ends .entry) in let d = numbersOf t in
+        ⌜ BothBecome d i (update p extent (endsOf d t s e i) (givenSingle new)) t s e (now (table .exit)) (now (starts .exit)) e ⌝ }
 {
     let cur = table[set_storage::END + i];
     let first = table[set_storage::START + i];
@@ -54,7 +57,9 @@ pub fn update_use(
 )
     requires { ⌜ UpdateReady (now table) (now starts) (now ends) i extent p new ⌝ }
     requires { ⌜ Selecting extent q p new ⌝ }
-    ensures { λ _. ⌜ BothBecome (numbersOf (now (table .entry))) i (update p extent (endsOf (numbersOf (now (table .entry))) (now (table .entry)) (now (starts .entry)) (now (ends .entry)) i) (pieceOf q new)) (now (table .entry)) (now (starts .entry)) (now (ends .entry)) (now (table .exit)) (now (starts .exit)) (now (ends .exit)) ⌝ }
+    ensures { λ _. let t = now (table .entry) in let s = now (starts .entry) in let e = now (ends .entry) in let d = numbersOf t in
+        ⌜ BothBecome d i (update p extent (endsOf d t s e i) (useOf false q new))
+        t s e (now (table .exit)) (now (starts .exit)) (now (ends .exit)) ⌝ }
 {
     let cur = table[set_storage::END + i];
     let first = table[set_storage::START + i];

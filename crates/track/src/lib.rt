@@ -1,19 +1,20 @@
 // Track: the public calls of the tracker, and demand 3, proved of their own contracts.
 //
-// Place in the picture: the top of the calls by value; `exports` and `log_heads` stand on it. Each call is proved equal to the ranged model on
-// the view of the lent numbers, in the crate that it is handed on to (`call_open`, `call_merge`, `call_set`, `call_join`, `call_remove`), and the ranged model agrees with the grid (crate `agreement`);
-// here the two meet. The `ensures` below are the definitions that specs/Trace makes traces of: a trace is any list of calls whose steps
-// meet these contracts, from newly opened storage or any that is well formed; at each of its steps the lent numbers show what the grid's run
-// gives, and no step is refused because of what it was lent (4, 5 and 15). So nothing but contracts stands between demand 3 and the code.
+// Place in the picture: the top of the calls by value; `exports` and `log_heads` stand on it. Each call is proved equal to the ranged model
+// on the view of the lent numbers, in the crate that it is handed on to (`call_open`, `call_merge`, `call_set`, `call_join`,
+// `call_remove`), and the ranged model agrees with the grid (crate `agreement`); here the two meet. The `ensures` below are the definitions
+// that specs/Trace makes traces of: a trace is any list of calls whose steps meet these contracts, from newly opened storage or any that is
+// well formed; at each of its steps the lent numbers show what the grid's run gives, and no step is refused because of what it was lent (4,
+// 5 and 15). So nothing but contracts stands between demand 3 and the code.
 //
 // What holds of every call: nothing is required. Any argument, any numbers in the lent storage and any head of the log get an answer,
 // and a refusal leaves every number as it was.
 //
-// Reading order, in specs/: Trace (definitions alone: what is lent, opened, called and shared), Demand3 (the theorem) and Claims (that every
-// trace is the ranged model's run, and the WebGPU rule at its last step). Below them are proofs: LogLaws (an emptied log never refuses, and its
-// entries tell the model's transitions), OpenedLaws (opened storage is the model's, and well formed), StepLaws (a step that meets its contract
-// is the model's), TraceLaws (step by step, for every trace) and UsageLaws (a last step that merges a usage). `client` is a program whose calls
-// are such a trace (Client, ClientLaws): what a trace asks of its steps can be met.
+// Reading order, in specs/: Trace (definitions alone: what is lent, opened, called and shared), Demand3 (the theorem) and Claims (that
+// every trace is the ranged model's run, and the WebGPU rule at its last step). Below them are proofs: LogLaws (an emptied log never
+// refuses, and its entries tell the model's transitions), OpenedLaws (opened storage is the model's, and well formed), StepLaws (a step
+// that meets its contract is the model's), TraceLaws (step by step, for every trace) and UsageLaws (a last step that merges a usage).
+// `client` is a program whose calls are such a trace (Client, ClientLaws): what a trace asks of its steps can be met.
 pub mod client;
 
 use model::Answered;

@@ -1,7 +1,7 @@
 // Usage: states of sixteen bits, and the rules that make one of two (the Rust's mod.rs, and the state rules of texture.rs).
 //
-// Place in the picture: a leaf over `model`. `texture_mips` and `texture_merge` unite states with it, `set_wellformed` and the public calls test them. It
-// knows of no texture, range or log, so that buffers can use it as it stands.
+// Place in the picture: a leaf over `model`. `texture_mips` and `texture_merge` unite states with it, `set_wellformed` and the public calls
+// test them. It knows of no texture, range or log, so that buffers can use it as it stands.
 //
 // What holds of every function: a state is any u32, the usage flags are any, nothing is required, and the answer equals the model's
 // definition. The definitions count sixteen bits, so `one_bit` looks at the low sixteen. specs/StateLaws has that wgpu-core's test is

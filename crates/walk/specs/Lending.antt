@@ -26,7 +26,7 @@ use denote.Lend.{lends-shr-slice}
 use denote.Memory.{shares as shares-of}
 use denote.Slice.{sliceTy, sliceVal, Room}
 use Rattle.walk.specs.Locals.{held, Has, at, with, Rest, within, var, part, lets}
-use Rattle.walk.specs.Calls.{tokens}
+use Rattle.walk.specs.Calling.{tokens}
 use Rattle.walk.specs.Slices.{Element, Row, Slice, Shared, Lent, Writing, opens-run, closes-run}
 
 module _ {M : Type 1} {𝓤 : URA M} {H : Heap 𝓤} {A : Atoms 𝓤} {K : Type 0} {W : Given 𝓤 H A} {Γ : List (Item 𝓤)} {E : Env 𝓤 H} {hs : List (Option Val)} where

@@ -1,7 +1,7 @@
 pub mod Locals
 pub mod Values
 pub mod Site
-pub mod Calls
+pub mod Calling
 pub mod Params
 pub mod Slices
 pub mod Lending

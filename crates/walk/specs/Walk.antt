@@ -36,7 +36,7 @@ pub use denote.Triple.Walked.{says, needs}
 pub use Rattle.walk.specs.Values.{Data, number, variant, UnitOf, fits-in, Valid, word, half}
 pub use Rattle.walk.specs.Locals.{Blocks, envOf, held, enters, var, part, within, lets, lets-last, points, turning, whiles, again, goes-on, breaks, spent, leaves}
 pub use Rattle.walk.specs.Site.{rules, tables-at, known}
-pub use Rattle.walk.specs.Calls.{of, own, gives, asks}
+pub use Rattle.walk.specs.Calling.{of, own, gives, asks}
 pub use Rattle.walk.specs.Params.{by-value, shared, lent, given, Function, args, Walks, free, Post, ends, proved, settled, bare}
 pub use Rattle.walk.specs.Slices.{Row, OfE, a-value, spell, IsE, typed, Slice, ref, run, knows, elem, put-elem, Shared, Looking, Writing, looks-run, shuts-run, opens-run, closes-run}
 pub use Rattle.walk.specs.Lending.{relent, called, shares, shared-back}

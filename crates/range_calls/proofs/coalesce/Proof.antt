@@ -1,7 +1,7 @@
 -- `coalesce` is its check, and then the work.
-use Rattle.range_checks.specs.Calls.{coalesce-accepted}
+use Rattle.range_checks.specs.Accepted.{coalesce-accepted}
 use mathlib.Core.Path.{sym}
-use Rattle.range_calls.proofs.Calls.{coalesce-refused, coalesce-done}
+use Rattle.range_calls.proofs.RefusedOrDone.{coalesce-refused, coalesce-done}
 use borrow.Author.Needs.{needs}
 use Rattle.range_calls.proofs.coalesce.Statement.{statement}
 use Rattle.range_calls.proofs.coalesce.Tie as tie

@@ -1,7 +1,7 @@
 -- `iter_filter` is its checks, and then the work.
-use Rattle.range_checks.specs.Calls.{filter-accepted}
+use Rattle.range_checks.specs.Accepted.{filter-accepted}
 use mathlib.Core.Path.{sym}
-use Rattle.range_calls.proofs.Calls.{filter-refused, filter-done}
+use Rattle.range_calls.proofs.RefusedOrDone.{filter-refused, filter-done}
 use borrow.Author.Needs.{needs}
 use Rattle.range_calls.proofs.iter_filter.Statement.{statement}
 use Rattle.range_calls.proofs.iter_filter.Tie as tie

@@ -13,7 +13,7 @@ use Rattle.model.specs.RangedStates.{range, listOf, isolate}
 use Rattle.range_states.specs.View.{blank}
 use Rattle.range_isolate.proofs.Covering.{by-order}
 use Rattle.range_records.specs.declared.decisions.Piece.{Piece}
-use Rattle.range_records.specs.Passes.{begun, scanned, lowerOf, pieceOf, cutting}
+use Rattle.range_records.specs.Passes.{begun, scanned, lowerOf, cutPiece, cutting}
 use Rattle.range_records.proofs.Laws.Pieces.{Ascends, part, part-some, part-none, slices, pieces, pieced}
 use Rattle.range_records.proofs.Laws.Survey.{scanned-end}
 
@@ -159,8 +159,8 @@ record Pops (a e d : ℕ) (rs : List Range) (i g : ℕ) (p : Piece) : Type 0 whe
   few : p .left ≤ i
 
 -- the gap before all records
-pops-first : (a e d : ℕ) (rs : List Range) (g : ℕ) (r : Range) → 0 < length (left a e d rs 0 g) → Pops a e d rs 0 g (pieceOf 0 r g a e d)
-unfolding left pieceOf
+pops-first : (a e d : ℕ) (rs : List Range) (g : ℕ) (r : Range) → 0 < length (left a e d rs 0 g) → Pops a e d rs 0 g (cutPiece 0 r g a e d)
+unfolding left cutPiece
 pops-first a e d rs g r n =
     by-order (min g e) (max 0 a) (λ u. absurd (omega (arith, ap length (part-none (max 0 a) (min g e) d u)))) λ u.
     rw (lt-ltb (max 0 a) (min g e) u)
@@ -202,8 +202,8 @@ module _ (a e d : ℕ) (rs : List Range) (i g : ℕ) (k : a < e) (t : Ascends 0 
       let top : min (r .end) b ≡ b = omega (arith, l .high) in
       rw q record { is = rw (none, l .more v, top, part-none (max (r .end) a) (min b e) d (omega (arith, l .high))) (simp (append-nil, append-assoc)); ready = (o .0, v); few = omega arith })
 
-  pops-last : Pops a e d rs (suc i) g (pieceOf (suc i) r g a e d)
-  unfolding pieceOf
+  pops-last : Pops a e d rs (suc i) g (cutPiece (suc i) r g a e d)
+  unfolding cutPiece
   pops-last =
       by-order (min g e) (max (r .end) a)
       (λ u. rw (eqb·suc-zero i, le-ltb (max (r .end) a) (min g e) u)
@@ -212,7 +212,7 @@ module _ (a e d : ℕ) (rs : List Range) (i g : ℕ) (k : a < e) (t : Ascends 0 
 
 -- the record that is read, the last of i
 pops : (a e d : ℕ) (rs : List Range) (i g : ℕ) (l : List Range) → a < e → Ascends 0 rs → Ready rs i g → take i l ≡ take i rs → 0 < length (left a e d rs i g)
-    → Pops a e d rs i g (pieceOf i (getD l (i - 1) blank) g a e d)
+    → Pops a e d rs i g (cutPiece i (getD l (i - 1) blank) g a e d)
 pops a e d rs zero g l k t o q n = pops-first a e d rs g (getD l (0 - 1) blank) n
 pops a e d rs (suc i) g l k t o q n =
     let z : suc i - 1 ≡ i = omega arith in
@@ -244,7 +244,7 @@ cut : (a e d : ℕ) (rs : List Range) (w i g : ℕ) (l : List Range) → a < e �
 unfolding cutting
 cut a e d rs zero i g l k t o q n h = rw (none-long (left a e d rs i g) n)
 cut a e d rs (suc w) i g l k t o q n h =
-    let p = pieceOf i (getD l (i - 1) blank) g a e d in
+    let p = cutPiece i (getD l (i - 1) blank) g a e d in
     let m = pops a e d rs i g l k t o q (omega arith) in
     cut a e d rs w (p .left) (p .range .start) (set l w (p .range)) k t (m .ready) (turn-unread a e d rs w i g l p k t q n m) (turn-long a e d rs w i g l p k t q n m)
     (omega (arith, length-set l w (p .range)))

@@ -16,7 +16,7 @@ use Rattle.range_states.specs.Filtering.{overlaps, clip}
 use Rattle.range_records.specs.declared.decisions.Scan.{Scan}
 use Rattle.range_records.specs.declared.decisions.Piece.{Piece}
 use Rattle.range_records.specs.declared.decisions.Next.{Next}
-use Rattle.range_records.specs.Passes.{countOf, cutsOf, begun, lookOf, scanned, Few, endOf, leftOf, lowerOf, pieceOf, cutting, joinOf, joining, clipping}
+use Rattle.range_records.specs.Passes.{countOf, cutsOf, begun, lookOf, scanned, Few, endOf, leftOf, lowerOf, cutPiece, cutting, joinOf, joining, clipping}
 
 -- ---- survey
 pub scanned-none : (a e : ℕ) (s : Scan) (xs : List Range) → s ≡ scanned a e s (take 0 xs)
@@ -76,7 +76,7 @@ unfolding cutting
 cutting-none i g a e d l = refl
 
 pub cutting-less : (w i g a e d : ℕ) (l : List Range) → 0 < w
-    → cutting w i g a e d l ≡ cutting (w - 1) (pieceOf i (getD l (i - 1) blank) g a e d .left) (pieceOf i (getD l (i - 1) blank) g a e d .range .start) a e d (set l (w - 1) (pieceOf i (getD l (i - 1) blank) g a e d .range))
+    → cutting w i g a e d l ≡ cutting (w - 1) (cutPiece i (getD l (i - 1) blank) g a e d .left) (cutPiece i (getD l (i - 1) blank) g a e d .range .start) a e d (set l (w - 1) (cutPiece i (getD l (i - 1) blank) g a e d .range))
 unfolding cutting
 cutting-less zero i g a e d l p = absurd (not-suc-le-zero p)
 cutting-less (suc w) i g a e d l p = simp unary-clauses refl
@@ -90,8 +90,8 @@ either-few true i k x y l = le-refl i
 either-few false i k x y l = l
 
 -- no more records are left to read than were
-pub piece-few : (i : ℕ) (r : Range) (g a e d : ℕ) → pieceOf i r g a e d .left ≤ i
-unfolding pieceOf
+pub piece-few : (i : ℕ) (r : Range) (g a e d : ℕ) → cutPiece i r g a e d .left ≤ i
+unfolding cutPiece
 piece-few i r g a e d = either-few (ltb (max (endOf i r) a) (min g e)) i (leftOf i (lowerOf (r .start) (min (r .end) g) a e) r) _ _ (left-few (eqb (lowerOf (r .start) (min (r .end) g) a e) (r .start)) i)
 
 -- ---- join

@@ -1,8 +1,8 @@
 -- What the first pass finds: whether the records ascend, and how many of everything there are.
 use Prim.Native.Nat.{ℕ, suc, _+_, _≤_, _<_, min, max}
 use native.Mathlib.Omega.{arith}
-use mathlib.Core.Path.{_≡_, refl, ap, _∙_}
-use mathlib.Core.Bool.{Bool, true, false, _&&_}
+use mathlib.Core.Path.{_≡_, refl, sym, ap, _∙_}
+use mathlib.Core.Bool.{Bool, true, false, _&&_, and-true, and-assoc}
 use mathlib.Core.List.{List, [], _∷_}
 use borrow.Author.Tests.{lt-ltb, le-ltb, le-leb, lt-leb}
 use lib.Dec.{leb, ltb}
@@ -43,17 +43,9 @@ pub scanned-few : (a e : ℕ) (rs : List Range) → Few (scanned a e begun rs) (
 scanned-few a e rs = few-from a e begun 0 (length rs) rs (omega arith) (omega arith)
 
 -- ---- whether they ascend, and where the last one ends
-and-true : (b : Bool) → b ≡ (b && true)
-and-true true = refl
-and-true false = refl
-
-and-assoc : (x y z : Bool) → (x && y && z) ≡ (x && (y && z))
-and-assoc true y z = refl
-and-assoc false y z = refl
-
 ascends-from : (a e : ℕ) (s : Scan) (rs : List Range) → scanned a e s rs .ascends ≡ (s .ascends && ascends (s .from) rs)
 unfolding scanned lookOf
-ascends-from a e s [] = and-true (s .ascends)
+ascends-from a e s [] = sym (and-true (s .ascends))
 ascends-from a e s (r ∷ rs) = ascends-from a e (lookOf a e s r) rs ∙ and-assoc (s .ascends) (followsOf (s .from) r) (ascends (r .end) rs)
 
 pub scanned-ascends : (a e : ℕ) (rs : List Range) → scanned a e begun rs .ascends ≡ ascends 0 rs

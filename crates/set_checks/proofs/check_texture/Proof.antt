@@ -4,7 +4,7 @@ use Rattle.set_checks.proofs.Verdicts.{extent-tells}
 use mathlib.Core.Path.{sym, _∙_}
 use Rattle.model.specs.Refusals.{firstFailing}
 use Rattle.set_checks.specs.Head.{textureRefusal}
-use Rattle.set_checks.proofs.Tests.{tests}
+use Rattle.usage.proofs.Comparisons.{tests}
 use borrow.Author.Needs.{needs}
 use Rattle.set_checks.proofs.check_texture.Statement.{statement}
 use Rattle.set_checks.proofs.check_texture.Tie as tie

@@ -1,5 +1,5 @@
 -- `skips` is the definition's two comparisons, in its order.
-use Rattle.usage.proofs.Tests.{tests}
+use Rattle.usage.proofs.Comparisons.{tests}
 use Rattle.model.specs.StateRules.{skipBarrier}
 use Rattle.usage.proofs.skips.Statement.{statement}
 use Rattle.usage.proofs.skips.Tie as tie

@@ -9,7 +9,7 @@ use lib.ListN.{length, getD}
 use Rattle.model.specs.declared.Range.{Range}
 use Rattle.range_isolate.specs.declared.isolation.Placed.{Placed}
 use Rattle.range_states.specs.View.{view, blank}
-use Rattle.range_isolate.specs.Isolation.{Covered, Gapped, Room}
+use Rattle.range_isolate.specs.Isolation.{Covered, Gapped, CoverRoom}
 use Rattle.range_isolate.proofs.Covering.{cover-end, cover-before, cover-cut, cover-more, cover-room, cut-fits, room-gap, room-before, room-end}
 use Rattle.range_isolate.proofs.isolation.cover.Statement.{statement}
 use Rattle.range_isolate.proofs.isolation.cover.Tie as tie
@@ -17,11 +17,11 @@ use Rattle.range_isolate.proofs.isolation.cover.Tie as tie
 -- what is left to do, from here, is what was to do from the start
 record Onward (s₀ : List ℕ) (len pos at e d : ℕ) (s : List ℕ) (n p a : ℕ) : Type 0 where
   low : p ≤ n
-  room : Room s n p a e d
+  room : CoverRoom s n p a e d
   long : length s ≡ length s₀
   on : (r : Placed) (l′ : List ℕ) → Covered s n p a e d r l′ → Covered s₀ len pos at e d r l′
 
-start-of : (s : List ℕ) (len pos at e d : ℕ) → pos ≤ len → Room s len pos at e d → Onward s len pos at e d s len pos at
+start-of : (s : List ℕ) (len pos at e d : ℕ) → pos ≤ len → CoverRoom s len pos at e d → Onward s len pos at e d s len pos at
 start-of s len pos at e d h g = record { low = h; room = g; long = refl; on = λ r l′ c. c }
 
 turn : {s₀ : List ℕ} {len pos at e d : ℕ} {s : List ℕ} {n p a : ℕ} {x : Range} {g : ℕ} {s′ : List ℕ} → Onward s₀ len pos at e d s n p a → p < n → x ≡ getD (view s) p blank → x .start < e → Gapped s n p a (x .start) d g s′ → x .end < e → Onward s₀ len pos at e d s′ (n + g) (p + g + 1) (x .end)

@@ -1,5 +1,5 @@
 -- `next_piece` is a gap, or the upper part of the record.
-use Rattle.range_records.specs.Passes.{pieceOf}
+use Rattle.range_records.specs.Passes.{cutPiece}
 use native.Mathlib.Omega.{arith}
 use borrow.Author.Tests.{lt-ltb, le-ltb}
 use borrow.Author.Needs.{needs}
@@ -7,11 +7,11 @@ use Rattle.range_records.proofs.decisions.next_piece.Statement.{stateme
 use Rattle.range_records.proofs.decisions.next_piece.Tie as tie
 
 returns : tie.Need-returns
-unfolding pieceOf
+unfolding cutPiece
 returns c = let h = rw ((c .before .before .larger .ensures), (c .before .smaller .ensures), (c .before .before .before .end-of .ensures)) at (c .if1 .taken) in (rw (lt-ltb _ _ h, (c .before .before .larger .ensures), (c .before .smaller .ensures), (c .before .before .before .end-of .ensures)), omega arith)
 
 returns-2 : tie.Need-returns-2
-unfolding pieceOf
+unfolding cutPiece
 returns-2 c = let h = rw ((c .before .before .before .before .before .larger .ensures), (c .before .before .before .before .smaller .ensures), (c .before .before .before .before .before .before .end-of .ensures)) at (c .before .before .before .if1 .left) in (rw (le-ltb _ _ h, (c .left-of .ensures) .0, (c .before .lower .ensures), (c .before .before .smaller2 .ensures)), (c .left-of .ensures) .1)
 
 pub next-piece-spec : {M : Type 1} → statement M

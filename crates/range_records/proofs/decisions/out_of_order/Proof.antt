@@ -1,9 +1,10 @@
 -- `out_of_order` is check 14.
-use Rattle.range_records.proofs.Bools.{not-both}
+use mathlib.Core.Path.{sym}
+use mathlib.Core.Bool.{false≢true}
 use borrow.Author.Tests.{lt-ltb, le-ltb}
 use Rattle.range_records.proofs.decisions.out_of_order.Statement.{statement}
 use Rattle.range_records.proofs.decisions.out_of_order.Tie as tie
 
 pub out-of-order-spec : {M : Type 1} → statement M
-out-of-order-spec = tie.close (tie.spec (λ c. (simp (lt-ltb _ _ (c .if1 .taken)), λ e. not-both e))
+out-of-order-spec = tie.close (tie.spec (λ c. (simp (lt-ltb _ _ (c .if1 .taken)), λ e. absurd (false≢true (sym e))))
     (λ c. (simp (le-ltb _ _ (c .before .if1 .left)), λ e. (c .before .if1 .left))))

@@ -10,7 +10,7 @@ use Rattle.range_calls.proofs.CoalesceAnswer.Laws as answer-laws
 use Rattle.range_records.specs.declared.decisions.Scan.{Scan}
 use Rattle.range_records.specs.Passes.{begun, scanned, verdictOf, grantedOf, coalescedOf, Joined, joining}
 use Rattle.range_records.proofs.Walks.{E, ScanOf}
-use Rattle.range_records.proofs.Laws.Calls.{coalesce-fits, coalesces}
+use Rattle.range_records.proofs.Laws.Together.{coalesce-fits, coalesces}
 use Rattle.range_records.proofs.decisions as decisions
 use Rattle.range_records.proofs.strips as strips
 use Rattle.range_records.proofs.strips.coalesce as coalesce

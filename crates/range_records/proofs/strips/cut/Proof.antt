@@ -2,7 +2,7 @@
 use Rattle.walk.specs.Walk.{_≡_, refl, sym, _∙_, ⊎-elim, List, [], _∷_, none, some, ℕ, _<_, _≤_, _^_, _-_, zero-le, eq-or-lt-of-le, le-refl, arith, length, getD, set, length-set, URA, fullShare, named, w32, w64, Val, vint, SProp, emp, id⊢, Lft, Share, ftrue, flft, Model, Heap, Env, afterTurn, fmOf, factI, fact-mono, GhostRules, Running, Item, ‵, _⊛_, Sq, atRet, _$_, _∵_, !, qed, by, move, keep, split, join, fsplit, fjoin, frame, updating, whole, sub, look-in, stop, fld, from, load, lit, unit-lit, and-then, no-more, of-opd, bin, assigns, exec, scaled-fits, lt-ltb, le-ltb, owns, u32, usize, unit, MutSlice, Room, plain, nothing, owed, needs, number, UnitOf, word, half, Blocks, envOf, held, enters, var, part, within, lets, lets-last, points, turning, whiles, again, goes-on, breaks, spent, leaves, rules, tables-at, known, of, asks, by-value, lent, Function, args, Walks, Post, ends, proved, settled, bare, Row, a-value, typed, Slice, ref, run, knows, elem, put-elem, Writing, opens-run, closes-run}
 use Rattle.model.specs.declared.Range.{Range}
 use Rattle.range_states.specs.View.{blank}
-use Rattle.range_records.specs.Passes.{pieceOf, cutting}
+use Rattle.range_records.specs.Passes.{cutPiece, cutting}
 use Rattle.range_records.proofs.Walks.{E, start-fits, PieceOf}
 use Rattle.range_records.proofs.Laws.Loops.{cutting-none, cutting-less, piece-few}
 use Rattle.range_records.proofs.decisions as decisions
@@ -53,7 +53,7 @@ module _ {M : Type 1} (𝓤 : URA M) (H : Heap 𝓤) (𝓜 : Model 𝓤 H) (𝓖
         let w-fits : u .w - 1 < 2 ^ 64 = omega (arith, u .few) in
         let i-fits : u .i < 2 ^ 64 = omega (arith, u .inside, room .0) in
         let r = getD (u .l) (u .i - 1) blank in
-        let p = pieceOf (u .i) r (u .g) a e d in
+        let p = cutPiece (u .i) r (u .g) a e d in
         -- 0 < w, and w -= 1
         goes-on ! tt (bin ! (lit ! tt) (var ! tt refl) tt) (lt-ltb 0 (u .w) some-left) (tt, tt) $
         lets ! tt (bin ! (var ! tt refl) (lit ! tt) some-left) (tt, record { fits = w-fits }) $

@@ -9,7 +9,7 @@ use Rattle.range_records.specs.Passes.{begun, scanned, Few, isolatePlan,
 use Rattle.range_records.proofs.Walks.{E, ScanOf, PlanOf}
 use Rattle.range_records.proofs.Laws.Loops.{few-under}
 use Rattle.range_records.proofs.Laws.Survey.{scanned-few}
-use Rattle.range_records.proofs.Laws.Calls.{isolate-fits, isolates}
+use Rattle.range_records.proofs.Laws.Together.{isolate-fits, isolates}
 use Rattle.range_records.proofs.decisions as decisions
 use Rattle.range_records.proofs.strips as strips
 use Rattle.range_records.proofs.strips.isolate as isolate

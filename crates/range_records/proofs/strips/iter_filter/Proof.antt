@@ -7,7 +7,7 @@ use Rattle.range_calls.proofs.FilterAnswer.Laws as answer-laws
 use Rattle.range_records.specs.declared.decisions.Scan.{Scan}
 use Rattle.range_records.specs.Passes.{begun, scanned, filterPlan, filterCount, clipping}
 use Rattle.range_records.proofs.Walks.{E, ScanOf}
-use Rattle.range_records.proofs.Laws.Calls.{filter-fits, filters}
+use Rattle.range_records.proofs.Laws.Together.{filter-fits, filters}
 use Rattle.range_records.proofs.decisions as decisions
 use Rattle.range_records.proofs.strips as strips
 use Rattle.range_records.proofs.strips.iter_filter as iter-filter

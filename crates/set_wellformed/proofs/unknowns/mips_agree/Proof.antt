@@ -1,6 +1,6 @@
 -- `mips_agree` walks mip by mip; the first where the halves differ decides.
 use Prim.Native.Nat.{_-_}
-use Rattle.set_wellformed.specs.Tests.{Testing, testing-start, testing-stop, testing-turn, testing-end}
+use Rattle.set_wellformed.specs.Parts.{Testing, testing-start, testing-stop, testing-turn, testing-end}
 use Rattle.set_wellformed.specs.Unknowns.{mipAgrees, itself}
 use Rattle.set_wellformed.proofs.Ends.{mip-of}
 use borrow.Author.Needs.{needs}

@@ -2,7 +2,7 @@
 use Prim.Native.Nat.{_-_}
 use Rattle.model.specs.Base.{every}
 use Rattle.set_storage.specs.Storage.{numbersOf, mipOf}
-use Rattle.set_wellformed.specs.Tests.{Testing, testing-start, testing-stop, testing-turn, testing-end}
+use Rattle.set_wellformed.specs.Parts.{Testing, testing-start, testing-stop, testing-turn, testing-end}
 use Rattle.set_wellformed.specs.Unknowns.{isKnown}
 use Rattle.set_wellformed.proofs.Mips.{mips-told}
 use Rattle.set_wellformed.proofs.Ends.{mip-of}

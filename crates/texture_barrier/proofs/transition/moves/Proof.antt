@@ -1,6 +1,6 @@
 -- `moves` makes the definition's three tests, in its order.
 use Rattle.texture_barrier.specs.Steps.{moves-is}
-use Rattle.usage.proofs.Tests.{tests}
+use Rattle.usage.proofs.Comparisons.{tests}
 use borrow.Author.Needs.{needs}
 use Rattle.texture_barrier.proofs.transition.moves.Statement.{statement}
 use Rattle.texture_barrier.proofs.transition.moves.Tie as tie

@@ -1,5 +1,5 @@
 -- `end_after` is the definition's test.
-use Rattle.texture_merge.proofs.Tests.{tests}
+use Rattle.usage.proofs.Comparisons.{tests}
 use Rattle.texture_merge.proofs.giving.end_after.Statement.{statement}
 use Rattle.texture_merge.proofs.giving.end_after.Tie as tie
 

@@ -1,7 +1,7 @@
 -- `apart` is the definition's chain of tests, in its order.
 use mathlib.Core.Path.{sym, _∙_}
 use borrow.Author.Tests.{lt-ltb, ne-eqb, not-true, not-false}
-use Rattle.usage.proofs.Tests.{tests}
+use Rattle.usage.proofs.Comparisons.{tests}
 use borrow.Author.Needs.{needs}
 use Rattle.usage.proofs.flags.apart.Statement.{statement}
 use Rattle.usage.proofs.flags.apart.Tie as tie

@@ -1,5 +1,5 @@
 -- `same_flags` is the definition's chain of comparisons, in its order.
-use Rattle.usage.proofs.Tests.{tests}
+use Rattle.usage.proofs.Comparisons.{tests}
 use Rattle.usage.proofs.flags.same_flags.Statement.{statement}
 use Rattle.usage.proofs.flags.same_flags.Tie as tie
 

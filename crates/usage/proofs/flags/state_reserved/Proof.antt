@@ -1,7 +1,7 @@
 -- `state_reserved` is the definition's chain of tests, in its order.
 use borrow.Author.Tests.{ne-eqb}
 use mathlib.Core.Path.{sym, _∙_}
-use Rattle.usage.proofs.Tests.{tests}
+use Rattle.usage.proofs.Comparisons.{tests}
 use borrow.Author.Needs.{needs}
 use Rattle.usage.proofs.flags.state_reserved.Statement.{statement}
 use Rattle.usage.proofs.flags.state_reserved.Tie as tie

@@ -1,15 +1,15 @@
 -- The contracts of this crate and the model's three calls on a lent run (model, RangeCalls): what they refuse, and what they leave.
 use Prim.Native.Nat.{ℕ, _-_, _*_, _≤_}
 use native.Mathlib.Omega.{arith}
-use mathlib.Core.Path.{_≡_, refl, sym}
-use mathlib.Core.Bool.{Bool, true, false, _||_, not}
-use mathlib.Core.List.{List, _∷_, append-assoc}
-use mathlib.Core.Option.{none, some}
+use mathlib.Core.Path.{_≡_, sym}
+use mathlib.Core.Bool.{Bool, false, _||_, not}
+use mathlib.Core.List.{List, append-assoc}
+use mathlib.Core.Option.{none}
 use borrow.Author.Tests.{ltb-false}
 use lib.Dec.{ltb}
 use lib.ListN.{length, take}
-use Rattle.model.specs.Base.{if_then_else_}
-use Rattle.model.specs.Refusals.{Check, firstFailing}
+use Rattle.model.specs.BoolLaws.{neither}
+use Rattle.model.specs.CheckLaws.{first-passed}
 use Rattle.model.specs.RangedStates.{listOf, isolate, iterFilter}
 use Rattle.model.specs.RangeCalls.{ascends, isolateRefusal, isolated, coalesceRefusal, coalesced, filterRefusal}
 use Rattle.range_isolate.specs.declared.isolation.Isolated.{Isolated as Told}
@@ -18,35 +18,23 @@ use Rattle.range_isolate.specs.Isolation.{IsolateRoom, Isolating}
 use Rattle.range_states.specs.Coalescing.{Coalesced as Coalescing}
 
 -- ---- what is accepted has the room
-first-passes : (c : Check) (cs : List Check) → firstFailing (c ∷ cs) ≡ none → (c .fails ≡ false) × (firstFailing cs ≡ none)
-unfolding firstFailing
-first-passes c cs h = go (c .fails) refl h
-  where
-    go : (b : Bool) → c .fails ≡ b → (if b then some (c .answer) else firstFailing cs) ≡ none → (c .fails ≡ false) × (firstFailing cs ≡ none)
-    go false e q = (e, q)
-    go true e q = absurd (let z : _≡_ {A = ℕ} 0 1 = cc in omega arith)
-
-either-none : (a b : Bool) → (a || b) ≡ false → a ≡ false
-either-none false b e = refl
-either-none true b e = absurd (let z : _≡_ {A = ℕ} 0 1 = cc in omega arith)
-
 pub told-fits : (l : List ℕ) (told : ℕ) (b : Bool) → (ltb (length (view l)) told || b) ≡ false → 3 * told ≤ length l
 told-fits l told b e =
-    let h = ltb-false (length (view l)) told (either-none (ltb (length (view l)) told) b e) in omega (arith, view-count l)
+    let h = ltb-false (length (view l)) told (neither (ltb (length (view l)) told) b e .0) in omega (arith, view-count l)
 
 record-fits : (l : List ℕ) (n : ℕ) → ltb (length (view l)) n ≡ false → 3 * n ≤ length l
 record-fits l n e = let h = ltb-false (length (view l)) n e in omega (arith, view-count l)
 
 pub isolate-accepted : (l : List ℕ) (told a e d : ℕ) → isolateRefusal a e d told (view l) ≡ none → IsolateRoom l told a e d
 isolate-accepted l told a e d h =
-    let one = first-passes _ _ h in
-    let two = first-passes _ _ (one .1) in
-    let three = first-passes _ _ (two .1) in
+    let one = first-passed _ _ h in
+    let two = first-passed _ _ (one .1) in
+    let three = first-passed _ _ (two .1) in
     record { fits = told-fits l told (not (ascends 0 (take told (view l)))) (two .0); grown = record-fits l (length (listOf (isolate a e d (take told (view l))))) (three .0) }
 
 pub coalesce-accepted : (l : List ℕ) (told : ℕ) → coalesceRefusal told (view l) ≡ none → 3 * told ≤ length l
 coalesce-accepted l told h =
-    let one = first-passes _ _ h in
+    let one = first-passed _ _ h in
     told-fits l told (not (ascends 0 (take told (view l)))) (one .0)
 
 pub record FilterRoom (l : List ℕ) (told a e : ℕ) (m : List ℕ) : Type 0 where
@@ -55,9 +43,9 @@ pub record FilterRoom (l : List ℕ) (told a e : ℕ) (m : List ℕ) : Type 0 wh
 
 pub filter-accepted : (l : List ℕ) (told a e : ℕ) (m : List ℕ) → filterRefusal a e told (view l) (view m) ≡ none → FilterRoom l told a e m
 filter-accepted l told a e m h =
-    let one = first-passes _ _ h in
-    let two = first-passes _ _ (one .1) in
-    let three = first-passes _ _ (two .1) in
+    let one = first-passed _ _ h in
+    let two = first-passed _ _ (one .1) in
+    let three = first-passed _ _ (two .1) in
     record { fits = told-fits l told (not (ascends 0 (take told (view l)))) (two .0); room = record-fits m (length (iterFilter a e (take told (view l)))) (three .0) }
 
 -- ---- what is left is what the model's calls leave; that the told length is the model's is the contracts' own `size` and `count`

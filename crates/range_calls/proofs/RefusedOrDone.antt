@@ -10,8 +10,8 @@ use Rattle.range_states.specs.Coalescing.{Coalesced}
 use Rattle.range_states.specs.Filtering.{Filtered}
 use Rattle.range_isolate.specs.declared.isolation.Isolated.{Isolated}
 use Rattle.range_isolate.specs.Isolation.{Isolating}
-use Rattle.range_checks.specs.Calls.{isolated-is, coalesced-is}
-use Rattle.range_calls.specs.Answers.{isolateAnswer, isolateRecords, coalesceAnswer, coalesceRecords, filterAnswer, filterRecords, Isolates, Coalesces, Filters}
+use Rattle.range_checks.specs.Accepted.{isolated-is, coalesced-is}
+use Rattle.range_calls.specs.RangeContract.{isolateAnswer, isolateRecords, coalesceAnswer, coalesceRecords, filterAnswer, filterRecords, Isolates, Coalesces, Filters}
 use Rattle.range_calls.specs.declared.IsolateAnswer.the-variants as isolate
 use Rattle.range_calls.specs.declared.CoalesceAnswer.the-variants as coalesce
 use Rattle.range_calls.specs.declared.FilterAnswer.the-variants as filter

@@ -24,7 +24,7 @@ use Rattle.model.specs.declared.Verdict.the-variants as verdict
 use Rattle.range_calls.specs.declared.IsolateAnswer.the-variants as isolate
 use Rattle.range_calls.specs.declared.FilterAnswer.{FilterAnswer}
 use Rattle.range_calls.specs.declared.FilterAnswer.the-variants as filter
-use Rattle.range_calls.specs.Answers.{isolateAnswer, isolateRecords, coalesceAnswer, coalesceRecords, filterAnswer, filterRecords}
+use Rattle.range_calls.specs.RangeContract.{isolateAnswer, isolateRecords, coalesceAnswer, coalesceRecords, filterAnswer, filterRecords}
 use Rattle.range_records.specs.declared.decisions.Scan.{Scan}
 use Rattle.range_records.specs.declared.decisions.Plan.{Plan}
 use Rattle.range_records.specs.Passes.{begun, scanned, gapsOf, lengthOf, refusedPlan, isolatePlan, verdictOf, grantedOf, coalescedOf, filterPlan, filterCount, cutting, Joined, joining, clipping}

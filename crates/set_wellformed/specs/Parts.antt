@@ -4,7 +4,7 @@ use native.Mathlib.Omega.{arith}
 use native.Mathlib.Decide.{le-ind}
 use native.Mathlib.Numerals.{add-one}
 use mathlib.Core.Path.{_≡_, refl, sym, _∙_}
-use mathlib.Core.Bool.{Bool, true, false, _&&_, _||_, not}
+use mathlib.Core.Bool.{Bool, true, false, _&&_, _||_, not, and-true, and-assoc}
 use mathlib.Core.List.{List}
 use lib.Dec.{leb}
 use borrow.Author.Tests.{not-true, not-false}
@@ -49,15 +49,9 @@ module _ {A : Type 0} (g : A → Bool) (f : ℕ → A) where
   every-last : (k n : ℕ) → every g (listFrom f k (suc n)) ≡ every g (listFrom f k n) && g (f (k + n))
   unfolding listFrom
   every-last k zero = let e : k + 0 ≡ k = omega arith in rw e (and-true (g (f k)))
-    where
-      and-true : (b : Bool) → b && true ≡ true && b
-      and-true true = refl
-      and-true false = refl
-  every-last k (suc n) = let e : k + suc n ≡ suc k + n = omega arith in rw (e, every-last (suc k) n) (and-assoc (g (f k)) (every g (listFrom f (suc k) n)) (g (f (suc k + n))))
-    where
-      and-assoc : (a b c : Bool) → a && (b && c) ≡ (a && b) && c
-      and-assoc true b c = refl
-      and-assoc false b c = refl
+  every-last k (suc n) =
+      let e : k + suc n ≡ suc k + n = omega arith in
+      rw (e, every-last (suc k) n) (sym (and-assoc (g (f k)) (every g (listFrom f (suc k) n)) (g (f (suc k + n)))))
 
   pub every-none : every g (listFrom f 0 0) ≡ true
   unfolding listFrom
