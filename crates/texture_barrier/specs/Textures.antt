@@ -6,6 +6,7 @@ use mathlib.Core.Bool.{Bool, true, false, _&&_}
 use mathlib.Core.List.{List, [], _∷_, map, append-nil}
 use lib.Dec.{leb}
 use borrow.Author.Tests.{le-leb, lt-leb, lt-ltb, le-ltb}
+use Rattle.model.specs.declared.PendingTransition.{PendingTransition}
 use Rattle.model.specs.declared.Range.{Range}
 use Rattle.model.specs.declared.Selector.{Selector}
 use Rattle.model.specs.declared.Extent.{Extent}
@@ -15,16 +16,22 @@ use Rattle.model.specs.Refusals.{trackerIndex}
 use Rattle.model.specs.RangedStates.{range}
 use Rattle.model.specs.Representation.{select, full, mipStart, mipEnd, layerStart, layerEnd, inMips}
 use Rattle.model.specs.StateRules.{moveOf}
-use Rattle.model.specs.Texture.{single, many, Piece, givenSingle, givenMany, piecesOf, Entry, entry, barrier}
+use Rattle.model.specs.Texture.{single, many, Piece, Given, givenSingle, givenMany, piecesOf, Entry, entry, barrier}
 use Rattle.model.specs.ListLaws.{each-map, each-at, each-ext, at-ext}
-use Rattle.set_storage.specs.Storage.{listFrom}
+use Rattle.set_storage.specs.Storage.{numbersOf, endHalf, heldOf, listFrom}
 use Rattle.texture_barrier.specs.declared.transition.Task.{Task}
+use Rattle.texture_barrier.specs.Adds.{entriesAt}
 use Rattle.texture_barrier.specs.Steps.{stepEntries, toRanges, toStateIn, within-is}
 use Rattle.texture_barrier.specs.declared.mip.Step.the-variants.{To, Within, From}
 use Rattle.texture_barrier.specs.Mips.{mips-same, mips-only, mips-one}
 
+-- a state of what a selector names, as it is given
 abbrev pub piece : Selector → ℕ → Piece
 piece q st = record { selector = q; state = st }
+
+-- the transitions from a tracker's end of texture i to what is given
+abbrev pub barrierAt : UsageFlags → ℕ → Extent → List ℕ → List ℕ → ℕ → Given → List PendingTransition
+barrierAt p mask sh t e i g = entriesAt i (barrier p mask sh (heldOf (numbersOf t) endHalf t e i) g)
 
 -- what stays the same while the transitions of texture i are logged
 abbrev pub taskOf : ℕ → UsageFlags → ℕ → Bool → Task
