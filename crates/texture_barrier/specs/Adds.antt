@@ -1,5 +1,5 @@
 -- THE FORM OF EVERY CONTRACT: what a function that counts and writes transitions does to the log, and how such steps follow one another.
-use Prim.Native.Nat.{ℕ, _+_, _*_, _≤_}
+use Prim.Native.Nat.{ℕ, _+_, _*_, _≤_, _<_}
 use native.Mathlib.Omega.{arith}
 use mathlib.Core.Path.{_≡_, refl, sym, ap, subst, _∙_}
 use mathlib.Core.Bool.{Bool, true, false}
@@ -96,41 +96,59 @@ adds-then write {a} {b} {c} {l} {n} {x} {y} {xs} {ys} {l₁} {l₂} room t p q =
     go true r u v = v ∙ content-then l n x xs ys (p .count) (r refl) l₁ u
     go false r u v = v ∙ u
 
--- ---- A loop of steps: of all some are added, at most `got`, and `rest` is left
-pub record Adding (got : ℕ) (write : Bool) (l₀ : List ℕ) (n : ℕ) (all rest : List PendingTransition) (x : ℕ) (l : List ℕ) : Type 0 where
+-- ---- What a loop has left: ys at turn k, and then what is left behind it
+pub record NextLeft (rest : ℕ → List PendingTransition) (k : ℕ) (ys : List PendingTransition) : Type 0 where
+  pub is : rest k ≡ ys ++ rest (k + 1)
+
+-- and nothing at its end
+pub record NoneLeft (rest : ℕ → List PendingTransition) (hi : ℕ) : Type 0 where
+  pub is : rest hi ≡ []
+
+-- ---- A loop of steps: before turn k of hi x of all are added, at most `got`, and `rest k` is left
+pub record Adding (got : ℕ) (write : Bool) (l₀ : List ℕ) (n : ℕ) (all : List PendingTransition) (rest : ℕ → List PendingTransition)
+    (hi x k : ℕ) (l : List ℕ) : Type 0 where
   pub done : List PendingTransition
-  pub left : done ++ rest ≡ all
+  pub left : done ++ rest k ≡ all
+  pub high : k ≤ hi
   pub few : x ≤ got
   pub into : Adds got write l₀ n done x l
 
 -- none yet
-pub adding-start : (got : ℕ) (write : Bool) (l : List ℕ) (n : ℕ) (all : List PendingTransition) → Adding got write l n all all 0 l
-adding-start got write l n all = record { done = []; left = refl; few = omega arith; into = adds-none got write l n }
+pub adding-start : (got : ℕ) (write : Bool) (l : List ℕ) (n : ℕ) (rest : ℕ → List PendingTransition) (hi k : ℕ) → k ≤ hi
+    → {all : List PendingTransition} → rest k ≡ all → Adding got write l n all rest hi 0 k l
+adding-start got write l n rest hi k h e = record { done = []; left = e; high = h; few = omega arith; into = adds-none got write l n }
 
-module _ {got : ℕ} {write : Bool} {l₀ : List ℕ} {n : ℕ} {all rest : List PendingTransition} {x : ℕ} {l : List ℕ}
-    (j : Adding got write l₀ n all rest x l) where
-  module _ (room : RoomFor write l₀ n all) (ys more : List PendingTransition) (next : rest ≡ ys ++ more) where
-    all-are : all ≡ (j .done ++ ys) ++ more
-    all-are = sym (j .left) ∙ rw next (sym (append-assoc (j .done) ys more))
+module _ {got : ℕ} {write : Bool} {l₀ : List ℕ} {n : ℕ} {all : List PendingTransition} {rest : ℕ → List PendingTransition} {hi x k : ℕ}
+    {l : List ℕ} (j : Adding got write l₀ n all rest hi x k l) where
+  module _ (room : RoomFor write l₀ n all) {ys : List PendingTransition} (next : NextLeft rest k ys) where
+    all-are : (j .done ++ ys) ++ rest (k + 1) ≡ all
+    all-are = append-assoc (j .done) ys (rest (k + 1)) ∙ rw (next .is) at (j .left)
 
-    front-room : RoomFor write l₀ n (j .done ++ ys)
-    front-room w =
-        let r = room w in
-        let e : length all ≡ length (j .done ++ ys) + length more = ap length all-are ∙ length-append (j .done ++ ys) more in omega arith
+    front-long : length (j .done ++ ys) ≤ length all
+    front-long = rw (← all-are) (omega (arith, length-append (j .done ++ ys) (rest (k + 1))))
 
     -- there is room for the next ones
     pub adding-room : RoomFor write l (n + x) ys
-    adding-room w = omega (arith, front-room w, length-append (j .done) ys, j .into .count, j .into .long)
+    adding-room w = omega (arith, room w, front-long, length-append (j .done) ys, j .into .count, j .into .long)
 
-    -- which are added
-    pub adding-turn : {c w got′ : ℕ} {l′ : List ℕ} → got + c ≤ got′ → Adds c write l (n + x) ys w l′
-        → Adding got′ write l₀ n all more (x + w) l′
-    adding-turn t a =
-        let b = adds-then write front-room t (j .into) a in
-        record { done = j .done ++ ys; left = sym all-are; few = b .few; into = b }
+    module _ {c w : ℕ} {l′ : List ℕ} (h : k < hi) (a : Adds c write l (n + x) ys w l′) where
+      front-added : Adds (got + c) write l₀ n (j .done ++ ys) (x + w) l′
+      front-added = adds-then write (λ z. omega (arith, room z, front-long)) (omega arith) (j .into) a
+
+      turn : {top : ℕ} → Adds top write l₀ n (j .done ++ ys) (x + w) l′ → Adding top write l₀ n all rest hi (x + w) (k + 1) l′
+      turn b = record { done = j .done ++ ys; left = all-are; high = omega arith; few = b .few; into = b }
+
+      -- which are added
+      pub adding-turn : {top : ℕ} → got + c ≤ top → Adding top write l₀ n all rest hi (x + w) (k + 1) l′
+      adding-turn {top} t = turn (adds-within front-added top t)
+
+      -- and no more than all of them
+      pub adding-few : {top : ℕ} → length all ≤ top → Adding top write l₀ n all rest hi (x + w) (k + 1) l′
+      adding-few {top} t = turn (adds-few front-added top (omega (arith, front-long)))
 
   -- none is left
-  pub adding-end : {top : ℕ} → got ≤ top → rest ≡ [] → Adds top write l₀ n all x l
-  adding-end {top} t e =
-      let d : j .done ≡ all = sym (append-nil (j .done)) ∙ rw e at (j .left) in
+  pub adding-end : {top : ℕ} → got ≤ top → hi ≤ k → NoneLeft rest hi → Adds top write l₀ n all x l
+  adding-end {top} t past e =
+      let z : k ≡ hi = omega (arith, j .high) in
+      let d : j .done ≡ all = sym (append-nil (j .done)) ∙ rw (z, e .is) at (j .left) in
       adds-within (subst (λ (y : List PendingTransition). Adds got write l₀ n y x l) d (j .into)) top t

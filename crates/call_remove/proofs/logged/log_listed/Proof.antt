@@ -3,17 +3,18 @@ use Prim.Native.Nat.{ℕ, _-_}
 use native.Mathlib.Omega.{arith}
 use lib.ListN.{length, getD}
 use borrow.Author.Needs.{needs}
-use Rattle.texture_barrier.specs.Adds.{entriesAt}
-use Rattle.log_head.specs.UpTo.{AddsUpTo, up-start, up-room, up-turn-few, up-end}
-use Rattle.call_remove.specs.Logs.{mostEntries, listedEntries}
+use Rattle.texture_barrier.specs.Adds.{entriesAt, Adding, adding-start, adding-room, adding-few, adding-end}
+use Rattle.log_head.specs.UpTo.{upLeft, up-all, up-next, up-done}
+use Rattle.call_remove.specs.Logs.{mostEntries, listedEntries, entriesTo}
 use Rattle.call_remove.proofs.Seen.{Seen, seen-none, seen-next, once-is}
 use Rattle.call_remove.proofs.logged.log_listed.Statement.{statement}
 use Rattle.call_remove.proofs.logged.log_listed.Tie as tie
 
 abbrev Inv-loop : tie.InvT-loop
 Inv-loop table ends p mask given lent indices log₀ at write seen₀ x₀ k₀ log seen x k =
-    AddsUpTo mostEntries (λ (j : ℕ). entriesAt (getD indices j 0) (listedEntries p mask table ends given lent indices j)) (length indices)
-    write log₀ at k x log
+    let n = length indices in
+    Adding mostEntries write log₀ at (entriesTo p mask table ends given lent indices n)
+    (upLeft (λ (j : ℕ). entriesAt (getD indices j 0) (listedEntries p mask table ends given lent indices j)) n) n x k log
     × Seen seen indices k
 
 abbrev μ-loop : tie.MeasureT-loop
@@ -41,7 +42,7 @@ log-listed-at-requires c κs =
     let e = c .before .wide .ensures .0 in
     let f = at-pre .pre .0 .each _ b in
     let o = once-is (v .1) e (f .index) (a .p) (a .mask) (a .table .now) (a .ends .now) (a .given .now) (a .lent .now) in
-    (rw e f, (omega (arith, v .0 .into .few, at-pre .pre .1 .1 .0), rw o (up-room (v .0) b (at-pre .pre .1 .1 .1))))
+    (rw e f, (omega (arith, v .0 .into .few, at-pre .pre .1 .1 .0), rw o (adding-room (v .0) (at-pre .pre .1 .1 .1) (up-next _ _ b))))
 
 array-write-seen : tie.Need-array-write-seen Inv-loop μ-loop
 array-write-seen c =
@@ -55,12 +56,6 @@ add-x c =
     let v = c .before .before .before .before .before .before .before .loop .inv in
     omega (arith, v .0 .into .few, c .before .before .log-listed-at .ensures .few)
 
-add-k : tie.Need-add-k Inv-loop μ-loop
-add-k c = omega (arith, (c .before .before .before .before .before .before .loop-test .taken))
-
-loop-less : tie.Need-loop-less Inv-loop μ-loop
-loop-less c = omega (arith, (c .before .before .before .before .before .before .loop-test .taken))
-
 loop-again : tie.Need-loop-again Inv-loop μ-loop
 loop-again c =
     let at-loop = c .before .before .before .before .before .before .before in
@@ -71,17 +66,14 @@ loop-again c =
     let e = c .before .before .before .before .wide .ensures .0 in
     let f = at-pre .pre .0 .each _ b in
     let o = once-is (v .1) e (f .index) (a .p) (a .mask) (a .table .now) (a .ends .now) (a .given .now) (a .lent .now) in (
-      up-turn-few (v .0) b (at-pre .pre .1 .1 .1) (rw o at (c .before .before .log-listed-at .ensures)) (at-pre .pre .1 .0),
+      adding-few (v .0) (at-pre .pre .1 .1 .1) (up-next _ _ b) b (rw o at (c .before .before .log-listed-at .ensures)) (at-pre .pre .1 .0),
       seen-next (v .1) b e (f .index),
     )
 
-same-length : tie.Need-same-length Inv-loop μ-loop
-same-length c = (c .before .loop .inv .0) .into .long
-
-returns : tie.Need-returns Inv-loop μ-loop
-returns c = up-end (c .before .loop .inv .0) (omega arith) (c .loop-test .left)
-
 pub log-listed-spec : {M : Type 1} → statement M
-log-listed-spec = tie.close (tie.spec Inv-loop μ-loop (λ c. (up-start _ _ _ _ _ _, seen-none _)) (λ c. search needs)
-    (λ c. search needs) (λ c κs. search needs) array-read-again add-log-listed-at log-listed-at-requires array-write-seen
-    add-x add-k loop-less loop-again same-length returns)
+log-listed-spec = tie.close (tie.spec Inv-loop μ-loop (λ c. (adding-start _ _ _ _ _ _ _ (omega arith) (up-all _ _), seen-none _))
+    (λ c. search needs) (λ c. search needs) (λ c κs. search needs) array-read-again add-log-listed-at log-listed-at-requires
+    array-write-seen add-x (λ c. omega (arith, c .before .before .before .before .before .before .loop-test .taken))
+    (λ c. omega (arith, c .before .before .before .before .before .before .loop-test .taken)) loop-again
+    (λ c. c .before .loop .inv .0 .into .long)
+    (λ c. adding-end (c .before .loop .inv .0) (omega arith) (c .loop-test .left) (up-done _ _)))
