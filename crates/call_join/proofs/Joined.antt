@@ -31,7 +31,7 @@ use Rattle.log_head.specs.Log.{headWithin, refusedWith}
 use Rattle.texture_track.specs.GivenSlot.{pairOf, passStart, passEnd}
 use Rattle.call_join.specs.Lists.{over-same, each-same}
 use Rattle.call_join.specs.Join.{GivenTested, Joins, joinCall, givenOf, joinedEntries, joinedTracker}
-use Rattle.call_join.proofs.Adding.{entries-model}
+use Rattle.call_join.proofs.Logs.{entries-model}
 use Rattle.model.specs.BoolLaws.{and-left}
 
 -- ---- `set_from`

@@ -1,3 +1,3 @@
-pub mod Adding
+pub mod Logs
 pub mod Setting
 pub mod Joined

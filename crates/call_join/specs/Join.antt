@@ -15,14 +15,14 @@ use Rattle.model.specs.Texture.{Held, Entry, ranged}
 use Rattle.set_storage.specs.Storage.{numbersOf, flagsOf, extentOf, ownedOf, startHalf, endHalf, setWith, trackerOf, maskAt, texturesAt}
 use Rattle.set_storage.specs.Stays.{ownedBy, TrackerFrame}
 use Rattle.set_storage.specs.Frames.{Measured}
-use Rattle.texture_barrier.specs.Logged.{entriesAt}
+use Rattle.texture_barrier.specs.Adds.{entriesAt}
 use Rattle.set_checks.specs.Passed.{SetPassed}
 use Rattle.agreement.specs.Fits.{ExtentFits}
 use Rattle.set_ready.specs.Named.{within}
 use Rattle.set_ready.specs.Tested.{HalfFits, half-fits, ScopeTested, TrackerTested}
 use Rattle.texture_track.specs.Given.{HalfGiven}
 use Rattle.texture_track.specs.GivenSlot.{LogsAt, pairOf, passStart, passEnd, givenEntries}
-use Rattle.log_head.specs.Adds.{upTo}
+use Rattle.log_head.specs.UpTo.{upTo}
 
 -- ---- The given set: its halves `from` and `to`, with the ranges a and b, are given as start and end
 abbrev pub givenOf : ℕ → ℕ → List ℕ → List ℕ → List ℕ → Set (Ends Held)

@@ -7,7 +7,7 @@ use Rattle.model.specs.Base.{each, eachAt₂, over₂}
 use Rattle.model.specs.ListLaws.{each-append}
 use Rattle.set_storage.specs.Storage.{listFrom}
 use Rattle.set_storage.specs.Lists.{list-ext}
-use Rattle.log_head.specs.Adds.{upTo}
+use Rattle.log_head.specs.UpTo.{upTo}
 
 -- ---- `over₂`
 module _ {A B : Type 0} (f : ℕ → A → B → A) (F H : ℕ → A) (G : ℕ → B) where

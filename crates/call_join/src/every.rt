@@ -8,7 +8,8 @@ ghost use Prim.Native.Nat.{_+_, _≤_};
 ghost use lib.ListN.{getD};
 ghost use Rattle.set_storage.specs.Storage.{flagsOf, texturesAt};
 ghost use Rattle.texture_barrier.specs.Steps.{logTop};
-ghost use Rattle.log_head.specs.Adds.{setTop, RoomFor, Adds};
+ghost use Rattle.texture_barrier.specs.Adds.{RoomFor, Adds};
+ghost use Rattle.log_head.specs.UpTo.{setTop};
 ghost use Rattle.call_join.specs.Join.{Joins, LogsSet, SetsAll, entriesTo};
 
 // The transitions by ascending index, counted, or written after the first `at` entries of the log. n is the given set's N.

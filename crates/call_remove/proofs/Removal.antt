@@ -30,7 +30,7 @@ use Rattle.set_checks.specs.Passed.{sparse-passed}
 use Rattle.set_ready.specs.Tested.{ScopeTested, TrackerTested}
 use Rattle.model.specs.declared.Answered.{Answered}
 use Rattle.log_head.specs.Log.{headWithin, refusedWith, movedOn}
-use Rattle.log_head.specs.Adds.{Adds}
+use Rattle.texture_barrier.specs.Adds.{Adds}
 use Rattle.log_head.specs.Called.{not-enough, written}
 use Rattle.call_remove.specs.Removed.{Both, setsOf, Removed, Removes, away-own, removes-removed}
 use Rattle.call_remove.specs.Logs.{mostEntries, removedEntries, entries-model}

@@ -15,7 +15,7 @@ use Rattle.model.specs.Log.{pending, pendingOf}
 use Rattle.model.specs.Texture.{Held, Entry, ranged}
 use Rattle.set_storage.specs.Storage.{numbersOf, flagsOf, extentOf, ownedOf, startHalf, heldOf, slotWith, scopeOf, trackerOf, maskAt, texturesAt}
 use Rattle.set_storage.specs.Lists.{list-at}
-use Rattle.texture_barrier.specs.Logged.{entriesAt}
+use Rattle.texture_barrier.specs.Adds.{entriesAt}
 use Rattle.agreement.specs.LogBound.{listed}
 use Rattle.set_checks.specs.Passed.{SparsePassed}
 use Rattle.set_ready.specs.Tested.{half-fits, ScopeTested, TrackerTested}
@@ -23,7 +23,7 @@ use Rattle.set_ready.specs.Half.{tracker-texture}
 use Rattle.texture_track.specs.Slot.{slotOf, slot-pending}
 use Rattle.texture_track.specs.Given.{givenAt}
 use Rattle.texture_track.specs.GivenSlot.{LogsAt, endEntries, givenEntries}
-use Rattle.log_head.specs.Adds.{upTo}
+use Rattle.log_head.specs.UpTo.{upTo}
 use Rattle.call_remove.specs.Once.{onceAt, once-up, once-each, up-ext}
 use Rattle.call_remove.specs.Removed.{setsOf}
 use Rattle.call_remove.specs.Sparse.{into, given, takenLog, sparse-log}

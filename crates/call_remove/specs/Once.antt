@@ -12,7 +12,7 @@ use borrow.Author.Tests.{eq-eqb, eqb-true, eqb-false}
 use Rattle.model.specs.Base.{if_then_else_, each}
 use Rattle.model.specs.ListLaws.{each-append}
 use Rattle.agreement.specs.LogBound.{listed}
-use Rattle.log_head.specs.Adds.{upTo}
+use Rattle.log_head.specs.UpTo.{upTo}
 
 -- ---- Whether an index is listed
 -- one more index at the end

@@ -10,8 +10,7 @@ use texture_track::given::log_single;
 ghost use Prim.Native.Nat.{_+_, _≤_};
 ghost use lib.ListN.{length};
 ghost use Rattle.texture_barrier.specs.Steps.{logTop};
-ghost use Rattle.texture_barrier.specs.Logged.{Room, Logged};
-ghost use Rattle.log_head.specs.Adds.{RoomFor, Adds};
+ghost use Rattle.texture_barrier.specs.Adds.{RoomFor, Adds, entriesAt};
 ghost use Rattle.call_remove.specs.Logs.{LogsListed, mostEntries, onceEntries, entriesTo};
 ghost use Rattle.set_storage.specs.Storage.{startHalf};
 ghost use Rattle.texture_track.specs.GivenSlot.{LogsAt};
@@ -33,9 +32,9 @@ pub fn log_listed_at(
 ) -> usize
     requires { ⌜ LogsAt (now table) (now ends) i startHalf (now given) (now lent) ⌝ }
     requires { ⌜ at ≤ logTop ⌝ }
-    requires { ⌜ Room write (now log) at (onceEntries again p mask (now table) (now ends) (now given) (now lent) i) ⌝ }
+    requires { ⌜ RoomFor write (now log) at (entriesAt i (onceEntries again p mask (now table) (now ends) (now given) (now lent) i)) ⌝ }
     ensures { λ x. let t = now (table .entry) in let e = now (ends .entry) in let g = now (given .entry) in let r = now (lent .entry) in
-        ⌜ Logged 1048576 i write (now (log .entry)) at (onceEntries again p mask t e g r i) x (now (log .exit)) ⌝ }
+        ⌜ Adds 1048576 write (now (log .entry)) at (entriesAt i (onceEntries again p mask t e g r i)) x (now (log .exit)) ⌝ }
 {
     if again {
         return 0;

@@ -1,10 +1,10 @@
 -- `set_checked` and `set_single`: from what the code found, wrote and changed to the contract.
-use Prim.Native.Nat.{ℕ, _+_, _*_, _/_, _≤_, _<_}
+use Prim.Native.Nat.{ℕ, _/_, _≤_, _<_}
 use mathlib.Core.Path.{_≡_, refl, sym, ap, subst, _∙_}
 use mathlib.Core.Bool.{Bool, true}
 use mathlib.Core.List.{List}
 use mathlib.Core.Option.{Option, none, some}
-use lib.ListN.{length, getD, set, length-map}
+use lib.ListN.{length, getD, set}
 use Rattle.model.specs.declared.Extent.{Extent}
 use Rattle.model.specs.declared.InvalidUse.{InvalidUse}
 use Rattle.model.specs.declared.LogHead.{LogHead}
@@ -35,25 +35,14 @@ use Rattle.set_ready.specs.Half.{BothReady, tracker-texture}
 use Rattle.set_ready.specs.Selectors.{full-is}
 use Rattle.model.specs.declared.Answered.{Answered}
 use Rattle.texture_track.specs.Tracked.{Same, Tracked, Changes, away-own, changes-tracked}
-use Rattle.texture_track.specs.Slot.{slotOf, slotEntries, SlotSet, slot-view, slot-pending}
+use Rattle.texture_track.specs.Slot.{slotOf, SlotSet, slot-view, slot-pending}
 use Rattle.set_ready.specs.Merges.{TakenUse}
 use Rattle.call_set.specs.Used.{usedEntries, usedTracker}
 use Rattle.log_head.specs.Log.{headWithin, refusedWith}
-use Rattle.log_head.specs.Called.{Changed, room-for}
+use Rattle.log_head.specs.Called.{Changed}
 
 -- ---- `set_checked`
 module _ (t s e : List ℕ) (i : ℕ) (sh : Extent) (g : Given) where
-  abbrev es : List Entry
-  es = slotEntries (flagsOf t) (getD t maskAt 0) sh g (slotOf t s e i)
-
-  -- as the log's entries they are as many
-  as-many : length (usedEntries t s e i sh g) ≡ length es
-  as-many = length-map es _
-
-  -- what fits in what is free fits where it is written
-  pub used-room : (h : LogHead) (l : List ℕ) → headWithin (length l / 7) h ≡ true → length (usedEntries t s e i sh g) ≤ h .free → 7 * (h .written + length es) ≤ length l
-  used-room h l f k = rw as-many at (room-for h l (usedEntries t s e i sh g) f k)
-
   -- the texture changed
   pub used : {h : LogHead} {l l′ : List ℕ} {x : Answered} {t′ s′ e′ : List ℕ} → BothReady t s e i sh → SlotSet (only i) t s e i (setSlot ranged (flagsOf t) sh g g (slotOf t s e i)) t′ s′ e′
       → (trackerOf t′ s′ e′ ≡ usedTracker t s e i sh g → Changed (trackerOf t s e) (trackerOf t′ s′ e′) (Same t s e t′ s′ e′) (usedEntries t s e i sh g) (usedTracker t s e i sh g) h l x l′)

@@ -8,7 +8,7 @@ use Rattle.model.specs.Sets.{Tracker, withTracker}
 use Rattle.model.specs.Calls.{setSlot}
 use Rattle.model.specs.Texture.{Held, Given, ranged}
 use Rattle.set_storage.specs.Storage.{flagsOf, trackerOf, maskAt}
-use Rattle.texture_barrier.specs.Logged.{entriesAt}
+use Rattle.texture_barrier.specs.Adds.{entriesAt}
 use Rattle.texture_track.specs.Slot.{slotOf, slotEntries}
 
 abbrev pub usedEntries : List ℕ → List ℕ → List ℕ → ℕ → Extent → Given → List PendingTransition

@@ -17,7 +17,7 @@ use Rattle.model.specs.Log.{Logged, isRefused, added, pending, logging}
 use Rattle.model.specs.Texture.{Entry}
 use Rattle.texture_barrier.specs.Entries.{Added}
 use Rattle.log_head.specs.Log.{logOf, Logs, headWithin, refusedWith, movedOn, head-le, lent-is, staying, unfit, too-short, own-refusal, too-few, logged-on, log-stays, log-moves}
-use Rattle.log_head.specs.Adds.{Adds, adds-added}
+use Rattle.texture_barrier.specs.Adds.{Adds, adds-added}
 use Rattle.model.specs.BoolLaws.{by-lt}
 
 -- `fits` says whether every set that was handed in is well formed, m is the model's call, and `same` says that every number of the sets stays

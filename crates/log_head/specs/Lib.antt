@@ -1,3 +1,3 @@
 pub mod Log
-pub mod Adds
+pub mod UpTo
 pub mod Called

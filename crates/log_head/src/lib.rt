@@ -4,7 +4,7 @@
 // check the head (5), count their entries against what is free (15) and move it on. `empty_log` is a public call.
 //
 // What holds: each answer is the model's (model/specs/Log), and a refusal leaves the head as it was. specs/Called is the contract of a call
-// that logs, over any view of the sets that it is lent, check by check; specs/Adds that of what counts or writes entries.
+// that logs, over any view of the sets that it is lent, check by check; specs/UpTo what a loop over textures adds.
 use model::Answered;
 use model::LogHead;
 use model::Outcome;

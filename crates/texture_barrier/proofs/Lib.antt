@@ -1,4 +1,3 @@
 pub mod Moving
-pub mod Running
-pub mod Mipping
+pub mod Remaining
 pub mod Holding

@@ -1,6 +1,6 @@
 pub mod Over
 pub mod Entries
-pub mod Logged
+pub mod Adds
 pub mod Steps
 pub mod Mips
 pub mod Textures

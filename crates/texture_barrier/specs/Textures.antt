@@ -6,6 +6,7 @@ use mathlib.Core.Bool.{Bool, true, false, _&&_}
 use mathlib.Core.List.{List, [], _∷_, map, append-nil}
 use lib.Dec.{leb}
 use borrow.Author.Tests.{le-leb, lt-leb, lt-ltb, le-ltb}
+use Rattle.model.specs.declared.PendingTransition.{PendingTransition}
 use Rattle.model.specs.declared.Range.{Range}
 use Rattle.model.specs.declared.Selector.{Selector}
 use Rattle.model.specs.declared.Extent.{Extent}
@@ -15,24 +16,30 @@ use Rattle.model.specs.Refusals.{trackerIndex}
 use Rattle.model.specs.RangedStates.{range}
 use Rattle.model.specs.Representation.{select, full, mipStart, mipEnd, layerStart, layerEnd, inMips}
 use Rattle.model.specs.StateRules.{moveOf}
-use Rattle.model.specs.Texture.{single, many, Piece, givenSingle, givenMany, piecesOf, Entry, entry, barrier}
+use Rattle.model.specs.Texture.{single, many, Piece, Given, givenSingle, givenMany, piecesOf, Entry, entry, barrier}
 use Rattle.model.specs.ListLaws.{each-map, each-at, each-ext, at-ext}
-use Rattle.set_storage.specs.Storage.{listFrom}
+use Rattle.set_storage.specs.Storage.{numbersOf, endHalf, heldOf, listFrom}
 use Rattle.texture_barrier.specs.declared.transition.Task.{Task}
+use Rattle.texture_barrier.specs.Adds.{entriesAt}
 use Rattle.texture_barrier.specs.Steps.{stepEntries, toRanges, toStateIn, within-is}
 use Rattle.texture_barrier.specs.declared.mip.Step.the-variants.{To, Within, From}
 use Rattle.texture_barrier.specs.Mips.{mips-same, mips-only, mips-one}
 
+-- a state of what a selector names, as it is given
 abbrev pub piece : Selector → ℕ → Piece
 piece q st = record { selector = q; state = st }
+
+-- the transitions from a tracker's end of texture i to what is given
+abbrev pub barrierAt : UsageFlags → ℕ → Extent → List ℕ → List ℕ → ℕ → Given → List PendingTransition
+barrierAt p mask sh t e i g = entriesAt i (barrier p mask sh (heldOf (numbersOf t) endHalf t e i) g)
 
 -- what stays the same while the transitions of texture i are logged
 abbrev pub taskOf : ℕ → UsageFlags → ℕ → Bool → Task
 taskOf i p mask write = record { index = trackerIndex i; unknown = p .unknown; mask = mask; write = write }
 
 -- a range of mip k, handed on
-abbrev pub pieceOf : ℕ → Range → Piece
-pieceOf k r = piece (select k (suc k) (r .start) (r .end)) (r .state)
+abbrev rangePiece : ℕ → Range → Piece
+rangePiece k r = piece (select k (suc k) (r .start) (r .end)) (r .state)
 
 -- what a piece adds on mip k of a Many texture
 abbrev pub pieceAt : ℕ → ℕ → Piece → ℕ → List Range → List Entry
@@ -70,7 +77,7 @@ module _ (p : UsageFlags) (mask : ℕ) (sh : Extent) where
   unfolding barrier
   single-to-many cur gs =
       let f : Piece → List Entry = λ q. entry (q .selector) (moveOf (p .unknown) mask cur (q .state)) in
-      each-at f (λ k. map (pieceOf k)) 0 gs ∙ at-ext (λ k s. each f (map (pieceOf k) s)) (stepEntries (p .unknown) mask (From cur)) (λ k s. each-map f (pieceOf k) s) 0 gs
+      each-at f (λ k. map (rangePiece k)) 0 gs ∙ at-ext (λ k s. each f (map (rangePiece k) s)) (stepEntries (p .unknown) mask (From cur)) (λ k s. each-map f (rangePiece k) s) 0 gs
 
   -- ---- a held Many texture, whose mips are G 0, G 1 and so on
   module _ (G : ℕ → List Range) (n : ℕ) where
@@ -84,7 +91,7 @@ module _ (p : UsageFlags) (mask : ℕ) (sh : Extent) where
         ∙ mips-same F G (stepEntries (p .unknown) mask (Within (range (layerStart q) (layerEnd q) new))) (mipStart q) (mipEnd q - mipStart q) (λ x h k. rw (in-mips q x h (omega arith)) (within-is (p .unknown) mask (range (layerStart q) (layerEnd q) new) x (G x)))
 
     -- the piece of one range is on its own mip
-    one-mip : (k : ℕ) (g : Range) → k < n → eachAt (pieceAt (p .unknown) mask (pieceOf k g)) 0 (listFrom G 0 n) ≡ stepEntries (p .unknown) mask (Within g) k (G k)
+    one-mip : (k : ℕ) (g : Range) → k < n → eachAt (pieceAt (p .unknown) mask (rangePiece k g)) 0 (listFrom G 0 n) ≡ stepEntries (p .unknown) mask (Within g) k (G k)
     one-mip k g h =
         let q = select k (suc k) (g .start) (g .end) in
         mips-one (pieceAt (p .unknown) mask (piece q (g .state))) G k n h (λ x b. rw (under-mips q x b)) (λ x b. rw (past-mips q x b))
@@ -95,7 +102,7 @@ module _ (p : UsageFlags) (mask : ℕ) (sh : Extent) where
     unfolding barrier
     many-to-many H =
         let f : Piece → List Entry = λ q. eachAt (pieceAt (p .unknown) mask q) 0 (listFrom G 0 n) in
-        each-at f (λ k. map (pieceOf k)) 0 (listFrom H 0 n)
-        ∙ mips-same (λ k s. each f (map (pieceOf k) s)) H (λ k s. toRanges (p .unknown) mask (G k) k s) 0 n
-        (λ k a b. each-map f (pieceOf k) (H k)
-        ∙ each-ext (λ (r : Range). f (pieceOf k r)) (λ (r : Range). stepEntries (p .unknown) mask (Within r) k (G k)) (λ r. one-mip k r (omega arith)) (H k))
+        each-at f (λ k. map (rangePiece k)) 0 (listFrom H 0 n)
+        ∙ mips-same (λ k s. each f (map (rangePiece k) s)) H (λ k s. toRanges (p .unknown) mask (G k) k s) 0 n
+        (λ k a b. each-map f (rangePiece k) (H k)
+        ∙ each-ext (λ (r : Range). f (rangePiece k r)) (λ (r : Range). stepEntries (p .unknown) mask (Within r) k (G k)) (λ r. one-mip k r (omega arith)) (H k))

@@ -13,7 +13,7 @@
 //
 // What holds of every function: with es the model's entries, it tells how many es are. With `write` they stand after the first `at`
 // entries of the log and every other number of it is as it was, and without it no number changes; room is required only where they are
-// written (`Logged` and `Room`, specs/Logged). Only `put_entry` and `get_entry` know where an entry's numbers stand: `entriesOf`
+// written (`Adds` and `RoomFor`, specs/Adds). Only `put_entry` and `get_entry` know where an entry's numbers stand: `entriesOf`
 // (specs/Entries) is the view of a log, and through it what is written is the model's `added`. The bounds in the contracts are crude and
 // are there so that no sum is too large; `logTop` (specs/Steps) is past the entries of any log, so a caller always meets it.
 pub mod entries;

@@ -7,7 +7,7 @@ use set_storage::Table;
 use set_storage::locate;
 use set_storage::wide;
 ghost use Prim.Native.Nat.{_≤_};
-ghost use Rattle.texture_barrier.specs.Logged.{Room, Logged};
+ghost use Rattle.texture_barrier.specs.Adds.{RoomFor, Adds, entriesAt};
 ghost use Rattle.texture_barrier.specs.Steps.{logTop, stepEntries};
 ghost use Rattle.texture_barrier.specs.Ready.{Ready, mipsEntries, pairEntries};
 
@@ -27,8 +27,11 @@ pub fn log_mips(
     requires { ⌜ Ready half (now table) (now ranges) i high ⌝ }
     requires { ⌜ low ≤ high ⌝ }
     requires { ⌜ at ≤ logTop ⌝ }
-    requires { ⌜ Room (t .write) (now log) at (mipsEntries (stepEntries (t .unknown) (t .mask) step) half (now table) (now ranges) i low high) ⌝ }
-    ensures { λ x. ⌜ Logged 4096 (t .index .0) (t .write) (now (log .entry)) at (mipsEntries (stepEntries (t .unknown) (t .mask) step) half (now (table .entry)) (now (ranges .entry)) i low high) x (now (log .exit)) ⌝ }
+    requires { let es = mipsEntries (stepEntries (t .unknown) (t .mask) step) half (now table) (now ranges) i low high in
+        ⌜ RoomFor (t .write) (now log) at (entriesAt (t .index .0) es) ⌝ }
+    ensures { λ x. let s = now (table .entry) in let r = now (ranges .entry) in
+        let es = mipsEntries (stepEntries (t .unknown) (t .mask) step) half s r i low high in
+        ⌜ Adds 4096 (t .write) (now (log .entry)) at (entriesAt (t .index .0) es) x (now (log .exit)) ⌝ }
 {
     let mut x = 0;
     let mut m = low;
@@ -61,8 +64,12 @@ pub fn log_mip_pairs(
     requires { ⌜ Ready half (now table) (now ranges) i high ⌝ }
     requires { ⌜ Ready side (now given) (now pieces) i high ⌝ }
     requires { ⌜ at ≤ logTop ⌝ }
-    requires { ⌜ Room (t .write) (now log) at (pairEntries (t .unknown) (t .mask) half (now table) (now ranges) side (now given) (now pieces) i high) ⌝ }
-    ensures { λ x. ⌜ Logged 1048576 (t .index .0) (t .write) (now (log .entry)) at (pairEntries (t .unknown) (t .mask) half (now (table .entry)) (now (ranges .entry)) side (now (given .entry)) (now (pieces .entry)) i high) x (now (log .exit)) ⌝ }
+    requires { let es = pairEntries (t .unknown) (t .mask) half (now table) (now ranges) side (now given) (now pieces) i high in
+        ⌜ RoomFor (t .write) (now log) at (entriesAt (t .index .0) es) ⌝ }
+    ensures { λ x.
+        let s = now (table .entry) in let r = now (ranges .entry) in let g = now (given .entry) in let a = now (pieces .entry) in
+        let es = pairEntries (t .unknown) (t .mask) half s r side g a i high in
+        ⌜ Adds 1048576 (t .write) (now (log .entry)) at (entriesAt (t .index .0) es) x (now (log .exit)) ⌝ }
 {
     let mut x = 0;
     let mut m = 0;

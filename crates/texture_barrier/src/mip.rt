@@ -14,7 +14,7 @@ ghost use mathlib.Core.Path.{_≡_};
 ghost use Prim.Native.Nat.{suc, _<_};
 ghost use Rattle.model.specs.Representation.{select};
 ghost use Rattle.range_states.specs.View.{decode};
-ghost use Rattle.texture_barrier.specs.Logged.{Room, Logged};
+ghost use Rattle.texture_barrier.specs.Adds.{RoomFor, Adds, entriesAt};
 ghost use Rattle.texture_barrier.specs.Steps.{RunReady, PairReady, changeOf, rangeEntries, stepEntries, toRanges};
 
 // What is done with each range of a texture that is Many.
@@ -89,8 +89,9 @@ pub fn change_of(step: Step, r: Range) -> Change
 // A step's transition of one range, if it makes one.
 pub fn log_range(r: Range, step: Step, mip: u32, t: Task, log: &mut [u32], at: usize) -> usize
     requires { ⌜ mip < 16 ⌝ }
-    requires { ⌜ Room (t .write) (now log) at (rangeEntries (t .unknown) (t .mask) step mip r) ⌝ }
-    ensures { λ x. ⌜ Logged 1 (t .index .0) (t .write) (now (log .entry)) at (rangeEntries (t .unknown) (t .mask) step mip r) x (now (log .exit)) ⌝ }
+    requires { ⌜ RoomFor (t .write) (now log) at (entriesAt (t .index .0) (rangeEntries (t .unknown) (t .mask) step mip r)) ⌝ }
+    ensures { λ x. ⌜ Adds 1 (t .write) (now (log .entry)) at (entriesAt (t .index .0) (rangeEntries (t .unknown) (t .mask) step mip r)) x
+        (now (log .exit)) ⌝ }
 {
     let c = change_of(step, r);
     if !c.made {
@@ -111,8 +112,10 @@ pub fn log_run(
     at: usize,
 ) -> usize
     requires { ⌜ RunReady (now run) len mip at ⌝ }
-    requires { ⌜ Room (t .write) (now log) at (stepEntries (t .unknown) (t .mask) step mip (decode len (now run))) ⌝ }
-    ensures { λ x. ⌜ Logged 256 (t .index .0) (t .write) (now (log .entry)) at (stepEntries (t .unknown) (t .mask) step mip (decode len (now (run .entry)))) x (now (log .exit)) ⌝ }
+    requires { let es = stepEntries (t .unknown) (t .mask) step mip (decode len (now run)) in
+        ⌜ RoomFor (t .write) (now log) at (entriesAt (t .index .0) es) ⌝ }
+    ensures { λ x. let es = stepEntries (t .unknown) (t .mask) step mip (decode len (now (run .entry))) in
+        ⌜ Adds 256 (t .write) (now (log .entry)) at (entriesAt (t .index .0) es) x (now (log .exit)) ⌝ }
 {
     let mut x = 0;
     let mut k = 0;
@@ -137,8 +140,10 @@ pub fn log_pairs(
     at: usize,
 ) -> usize
     requires { ⌜ PairReady (now run) len (now given) many mip at ⌝ }
-    requires { ⌜ Room (t .write) (now log) at (toRanges (t .unknown) (t .mask) (decode len (now run)) mip (decode many (now given))) ⌝ }
-    ensures { λ x. ⌜ Logged 65536 (t .index .0) (t .write) (now (log .entry)) at (toRanges (t .unknown) (t .mask) (decode len (now (run .entry))) mip (decode many (now (given .entry)))) x (now (log .exit)) ⌝ }
+    requires { let es = toRanges (t .unknown) (t .mask) (decode len (now run)) mip (decode many (now given)) in
+        ⌜ RoomFor (t .write) (now log) at (entriesAt (t .index .0) es) ⌝ }
+    ensures { λ x. let es = toRanges (t .unknown) (t .mask) (decode len (now (run .entry))) mip (decode many (now (given .entry))) in
+        ⌜ Adds 65536 (t .write) (now (log .entry)) at (entriesAt (t .index .0) es) x (now (log .exit)) ⌝ }
 {
     let mut x = 0;
     let mut k = 0;

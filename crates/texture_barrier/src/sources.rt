@@ -24,12 +24,12 @@ ghost use mathlib.Core.List.{[], _∷_};
 ghost use Prim.Native.Nat.{_≤_, _<_};
 ghost use Rattle.model.specs.Representation.{full as fullOf};
 ghost use Rattle.model.specs.StateRules.{moveOf};
-ghost use Rattle.model.specs.Texture.{givenSingle, givenMany, fromHeld, entry, barrier};
+ghost use Rattle.model.specs.Texture.{givenSingle, givenMany, fromHeld, entry};
 ghost use Rattle.set_storage.specs.Storage.{numbersOf, endHalf, heldOf};
-ghost use Rattle.texture_barrier.specs.Logged.{Room, Logged};
+ghost use Rattle.texture_barrier.specs.Adds.{RoomFor, Adds, entriesAt};
 ghost use Rattle.set_storage.specs.Texture.{TextureHeld, SelectorWithin};
 ghost use Rattle.texture_barrier.specs.Steps.{logTop};
-ghost use Rattle.texture_barrier.specs.Textures.{piece, taskOf};
+ghost use Rattle.texture_barrier.specs.Textures.{piece, taskOf, barrierAt};
 
 // The selector of all of a texture.
 fn full(extent: Extent) -> Selector
@@ -73,8 +73,9 @@ pub fn barrier_single(
     write: bool,
 ) -> usize
     requires { ⌜ i < 64 ⌝ }
-    requires { ⌜ Room write (now log) at (entry (fullOf extent) (moveOf (p .unknown) mask cur new)) ⌝ }
-    ensures { λ x. ⌜ Logged 1 i write (now (log .entry)) at (entry (fullOf extent) (moveOf (p .unknown) mask cur new)) x (now (log .exit)) ⌝ }
+    requires { ⌜ RoomFor write (now log) at (entriesAt i (entry (fullOf extent) (moveOf (p .unknown) mask cur new))) ⌝ }
+    ensures { λ x. let es = entriesAt i (entry (fullOf extent) (moveOf (p .unknown) mask cur new)) in
+        ⌜ Adds 1 write (now (log .entry)) at es x (now (log .exit)) ⌝ }
 {
     let t = task_of(i, p, mask, write);
     let q = full(extent);
@@ -96,8 +97,9 @@ pub fn barrier_state(
 ) -> usize
     requires { ⌜ TextureHeld (numbersOf (now table)) endHalf (now table) (now ends) i extent ⌝ }
     requires { ⌜ at ≤ logTop ⌝ }
-    requires { ⌜ Room write (now log) at (barrier p mask extent (heldOf (numbersOf (now table)) endHalf (now table) (now ends) i) (givenSingle new)) ⌝ }
-    ensures { λ x. ⌜ Logged 4096 i write (now (log .entry)) at (barrier p mask extent (heldOf (numbersOf (now (table .entry))) endHalf (now (table .entry)) (now (ends .entry)) i) (givenSingle new)) x (now (log .exit)) ⌝ }
+    requires { ⌜ RoomFor write (now log) at (barrierAt p mask extent (now table) (now ends) i (givenSingle new)) ⌝ }
+    ensures { λ x. let t = now (table .entry) in let e = now (ends .entry) in
+        ⌜ Adds 4096 write (now (log .entry)) at (barrierAt p mask extent t e i (givenSingle new)) x (now (log .exit)) ⌝ }
 {
     let t = task_of(i, p, mask, write);
     let flags = flags_of(table);
@@ -126,8 +128,9 @@ pub fn barrier_selector(
     requires { ⌜ TextureHeld (numbersOf (now table)) endHalf (now table) (now ends) i extent ⌝ }
     requires { ⌜ SelectorWithin extent q ⌝ }
     requires { ⌜ at ≤ logTop ⌝ }
-    requires { ⌜ Room write (now log) at (barrier p mask extent (heldOf (numbersOf (now table)) endHalf (now table) (now ends) i) (givenMany (piece q new ∷ []))) ⌝ }
-    ensures { λ x. ⌜ Logged 4096 i write (now (log .entry)) at (barrier p mask extent (heldOf (numbersOf (now (table .entry))) endHalf (now (table .entry)) (now (ends .entry)) i) (givenMany (piece q new ∷ []))) x (now (log .exit)) ⌝ }
+    requires { ⌜ RoomFor write (now log) at (barrierAt p mask extent (now table) (now ends) i (givenMany (piece q new ∷ []))) ⌝ }
+    ensures { λ x. let t = now (table .entry) in let e = now (ends .entry) in
+        ⌜ Adds 4096 write (now (log .entry)) at (barrierAt p mask extent t e i (givenMany (piece q new ∷ []))) x (now (log .exit)) ⌝ }
 {
     let t = task_of(i, p, mask, write);
     let flags = flags_of(table);
@@ -163,8 +166,11 @@ pub fn barrier_texture(
     requires { ⌜ TextureHeld (numbersOf (now table)) endHalf (now table) (now ends) i extent ⌝ }
     requires { ⌜ TextureHeld (numbersOf (now given)) side (now given) (now pieces) i extent ⌝ }
     requires { ⌜ at ≤ logTop ⌝ }
-    requires { ⌜ Room write (now log) at (barrier p mask extent (heldOf (numbersOf (now table)) endHalf (now table) (now ends) i) (fromHeld (heldOf (numbersOf (now given)) side (now given) (now pieces) i))) ⌝ }
-    ensures { λ x. ⌜ Logged 1048576 i write (now (log .entry)) at (barrier p mask extent (heldOf (numbersOf (now (table .entry))) endHalf (now (table .entry)) (now (ends .entry)) i) (fromHeld (heldOf (numbersOf (now (given .entry))) side (now (given .entry)) (now (pieces .entry)) i))) x (now (log .exit)) ⌝ }
+    requires { let x = heldOf (numbersOf (now given)) side (now given) (now pieces) i in
+        ⌜ RoomFor write (now log) at (barrierAt p mask extent (now table) (now ends) i (fromHeld x)) ⌝ }
+    ensures { λ x. let t = now (table .entry) in let e = now (ends .entry) in let g = now (given .entry) in let r = now (pieces .entry) in
+        ⌜ Adds 1048576 write (now (log .entry)) at (barrierAt p mask extent t e i (fromHeld (heldOf (numbersOf g) side g r i))) x
+        (now (log .exit)) ⌝ }
 {
     let flags = flags_of(given);
     let new = given[side + i];

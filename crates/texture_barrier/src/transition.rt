@@ -7,7 +7,7 @@ use usage::skips;
 ghost use mathlib.Core.Path.{_≡_};
 ghost use Rattle.model.specs.StateRules.{moveOf};
 ghost use Rattle.model.specs.Texture.{entry};
-ghost use Rattle.texture_barrier.specs.Logged.{Room, Logged};
+ghost use Rattle.texture_barrier.specs.Adds.{RoomFor, Adds, entriesAt};
 ghost use Rattle.texture_barrier.specs.Steps.{isMade};
 
 // Whether `old` to `new` makes a transition: neither is UNKNOWN, and it is not skipped.
@@ -41,8 +41,9 @@ pub fn log_move(
     log: &mut [u32],
     at: usize,
 ) -> usize
-    requires { ⌜ Room (t .write) (now log) at (entry selector (moveOf (t .unknown) (t .mask) old new)) ⌝ }
-    ensures { λ x. ⌜ Logged 1 (t .index .0) (t .write) (now (log .entry)) at (entry selector (moveOf (t .unknown) (t .mask) old new)) x (now (log .exit)) ⌝ }
+    requires { ⌜ RoomFor (t .write) (now log) at (entriesAt (t .index .0) (entry selector (moveOf (t .unknown) (t .mask) old new))) ⌝ }
+    ensures { λ x. let es = entriesAt (t .index .0) (entry selector (moveOf (t .unknown) (t .mask) old new)) in
+        ⌜ Adds 1 (t .write) (now (log .entry)) at es x (now (log .exit)) ⌝ }
 {
     if !moves(t.unknown, t.mask, old, new) {
         return 0;

@@ -19,7 +19,7 @@ use Rattle.set_storage.specs.Frames.{Measured}
 use Rattle.set_storage.specs.Stays.{only, both-then, both-more, TrackerFrame}
 use Rattle.set_storage.specs.Slots.{HalfBecomes, ownWords, slot-owned, set-becomes, tracker-own, tracker-both, tracker-slots, own-owned}
 use Rattle.texture_update.specs.Both.{BothBecome, low-of, start-then-end}
-use Rattle.texture_barrier.specs.Logged.{entriesAt}
+use Rattle.texture_barrier.specs.Adds.{entriesAt}
 use Rattle.set_ready.specs.Half.{BothReady}
 use Rattle.set_ready.specs.Merges.{own-numbers, own-extent, own-passed, own-measured}
 

@@ -19,7 +19,7 @@ ghost use Prim.Native.Nat.{_≤_, _<_};
 ghost use Rattle.model.specs.Calls.{setSlot};
 ghost use Rattle.model.specs.Texture.{ranged};
 ghost use Rattle.texture_barrier.specs.Steps.{logTop};
-ghost use Rattle.texture_barrier.specs.Logged.{Room, Logged};
+ghost use Rattle.texture_barrier.specs.Adds.{RoomFor, Adds, entriesAt};
 ghost use Rattle.texture_track.specs.Slot.{slotOf, SlotSet};
 ghost use Rattle.set_storage.specs.Stays.{only, onlyOwned};
 ghost use Rattle.texture_track.specs.Given.{givenAt, HalfGiven};
@@ -76,9 +76,11 @@ pub fn log_given_at(
     requires { ⌜ HalfReady endHalf (now table) (now ends) i extent ⌝ }
     requires { ⌜ HalfGiven (now table) i extent from (now given) (now first) ⌝ }
     requires { ⌜ at ≤ logTop ⌝ }
-    requires { ⌜ Room write (now log) at (endEntries p mask extent (givenAt from (now given) (now first) i) (now table) (now ends) i) ⌝ }
+    requires { let es = endEntries p mask extent (givenAt from (now given) (now first) i) (now table) (now ends) i in
+        ⌜ RoomFor write (now log) at (entriesAt i es) ⌝ }
     ensures { λ x. let t = now (table .entry) in let e = now (ends .entry) in let g = now (given .entry) in let a = now (first .entry) in
-        ⌜ Logged 1048576 i write (now (log .entry)) at (endEntries p mask extent (givenAt from g a i) t e i) x (now (log .exit)) ⌝ }
+        let es = endEntries p mask extent (givenAt from g a i) t e i in
+        ⌜ Adds 1048576 write (now (log .entry)) at (entriesAt i es) x (now (log .exit)) ⌝ }
 {
     if table[OWNED + i] == 0 {
         return 0;
@@ -156,9 +158,9 @@ pub fn log_owned_at(
 ) -> usize
     requires { ⌜ LogsAt (now table) (now ends) i from (now given) (now first) ⌝ }
     requires { ⌜ at ≤ logTop ⌝ }
-    requires { ⌜ Room write (now log) at (givenEntries p mask (now table) (now ends) from (now given) (now first) i) ⌝ }
+    requires { ⌜ RoomFor write (now log) at (entriesAt i (givenEntries p mask (now table) (now ends) from (now given) (now first) i)) ⌝ }
     ensures { λ x. let t = now (table .entry) in let e = now (ends .entry) in let g = now (given .entry) in let a = now (first .entry) in
-        ⌜ Logged 1048576 i write (now (log .entry)) at (givenEntries p mask t e from g a i) x (now (log .exit)) ⌝ }
+        ⌜ Adds 1048576 write (now (log .entry)) at (entriesAt i (givenEntries p mask t e from g a i)) x (now (log .exit)) ⌝ }
 {
     if given[OWNED + i] == 0 {
         return 0;
@@ -203,9 +205,9 @@ pub fn log_single(
     write: bool,
 ) -> usize
     requires { ⌜ (i < 64) × (from ≤ endHalf) ⌝ }
-    requires { ⌜ Room write (now log) at (singleEntry p mask (now table) from (now given) i) ⌝ }
+    requires { ⌜ RoomFor write (now log) at (entriesAt i (singleEntry p mask (now table) from (now given) i)) ⌝ }
     ensures { λ x. let t = now (table .entry) in let g = now (given .entry) in
-        ⌜ Logged 1 i write (now (log .entry)) at (singleEntry p mask t from g i) x (now (log .exit)) ⌝ }
+        ⌜ Adds 1 write (now (log .entry)) at (entriesAt i (singleEntry p mask t from g i)) x (now (log .exit)) ⌝ }
 {
     let mips = given[MIPS + i];
     let layers = given[LAYERS + i];
@@ -231,9 +233,9 @@ pub fn log_at(
 ) -> usize
     requires { ⌜ LogsAt (now table) (now ends) i from (now given) (now first) ⌝ }
     requires { ⌜ at ≤ logTop ⌝ }
-    requires { ⌜ Room write (now log) at (givenEntries p mask (now table) (now ends) from (now given) (now first) i) ⌝ }
+    requires { ⌜ RoomFor write (now log) at (entriesAt i (givenEntries p mask (now table) (now ends) from (now given) (now first) i)) ⌝ }
     ensures { λ x. let t = now (table .entry) in let e = now (ends .entry) in let g = now (given .entry) in let a = now (first .entry) in
-        ⌜ Logged 1048576 i write (now (log .entry)) at (givenEntries p mask t e from g a i) x (now (log .exit)) ⌝ }
+        ⌜ Adds 1048576 write (now (log .entry)) at (entriesAt i (givenEntries p mask t e from g a i)) x (now (log .exit)) ⌝ }
 {
     if given[OWNED + i] == 0 {
         return 0;

@@ -18,7 +18,7 @@ ghost use Rattle.model.specs.Texture.{ranged};
 ghost use Rattle.set_storage.specs.Stays.{only};
 ghost use Rattle.texture_merge.specs.Uses.{useOf};
 ghost use Rattle.texture_barrier.specs.Steps.{logTop};
-ghost use Rattle.texture_barrier.specs.Logged.{Room, Logged};
+ghost use Rattle.texture_barrier.specs.Adds.{RoomFor, Adds, entriesAt};
 ghost use Rattle.texture_track.specs.Slot.{slotOf, slotEntries, SlotSet};
 ghost use Rattle.set_ready.specs.Merges.{TakenUse};
 ghost use Rattle.set_ready.specs.Half.{BothReady};
@@ -73,9 +73,11 @@ pub fn log_use_at(
     requires { ⌜ BothReady (now table) (now starts) (now ends) i extent ⌝ }
     requires { ⌜ TakenUse (now table) extent all q p new ⌝ }
     requires { ⌜ at ≤ logTop ⌝ }
-    requires { ⌜ Room write (now log) at (slotEntries p mask extent (useOf all q new) (slotOf (now table) (now starts) (now ends) i)) ⌝ }
+    requires { let es = slotEntries p mask extent (useOf all q new) (slotOf (now table) (now starts) (now ends) i) in
+        ⌜ RoomFor write (now log) at (entriesAt i es) ⌝ }
     ensures { λ x. let t = now (table .entry) in let s = now (starts .entry) in let e = now (ends .entry) in
-        ⌜ Logged 4096 i write (now (log .entry)) at (slotEntries p mask extent (useOf all q new) (slotOf t s e i)) x (now (log .exit)) ⌝ }
+        let es = slotEntries p mask extent (useOf all q new) (slotOf t s e i) in
+        ⌜ Adds 4096 write (now (log .entry)) at (entriesAt i es) x (now (log .exit)) ⌝ }
 {
     if table[OWNED + i] == 0 {
         return 0;

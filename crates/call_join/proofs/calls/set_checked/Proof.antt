@@ -9,7 +9,7 @@ use Rattle.set_storage.specs.Stays.{both-refl}
 use Rattle.log_head.specs.Log.{head-le}
 use Rattle.log_head.specs.Called.{Fitting, counted-fits, all-fit, room-for, not-enough, written}
 use Rattle.call_join.specs.Join.{joinedEntries}
-use Rattle.call_join.proofs.Adding.{logs-set}
+use Rattle.call_join.proofs.Logs.{logs-set}
 use borrow.Author.Needs.{needs}
 use Rattle.call_join.proofs.calls.set_checked.Statement.{statement}
 use Rattle.call_join.proofs.calls.set_checked.Tie as tie

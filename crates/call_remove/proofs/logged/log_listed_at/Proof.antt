@@ -3,20 +3,20 @@ use native.Mathlib.Omega.{arith}
 use mathlib.Core.Path.{sym, _∙_}
 use borrow.Author.Tests.{eq-eqb, ne-eqb}
 use Rattle.set_storage.specs.Storage.{startHalf}
-use Rattle.texture_barrier.specs.Logged.{logged-none, logged-within}
+use Rattle.texture_barrier.specs.Adds.{adds-none, adds-within}
 use Rattle.texture_track.proofs.Plain.{plain-entries}
 use borrow.Author.Needs.{needs}
 use Rattle.call_remove.proofs.logged.log_listed_at.Statement.{statement}
 use Rattle.call_remove.proofs.logged.log_listed_at.Tie as tie
 
 returns : tie.Need-returns
-returns c = rw (c .if1 .taken) (logged-none _ _ _ _ _)
+returns c = rw (c .if1 .taken) (adds-none _ _ _ _)
 
 returns-2 : tie.Need-returns-2
-returns-2 c = rw ((c .before .before .if1 .left), eq-eqb _ _ (c .if2 .taken)) (logged-none _ _ _ _ _)
+returns-2 c = rw ((c .before .before .if1 .left), eq-eqb _ _ (c .if2 .taken)) (adds-none _ _ _ _)
 
 returns-3 : tie.Need-returns-3
-returns-3 c = rw ((c .before .before .before .before .if1 .left), ne-eqb _ _ (c .before .before .if2 .left), eq-eqb _ _ (c .if3 .taken)) (logged-none _ _ _ _ _)
+returns-3 c = rw ((c .before .before .before .before .if1 .left), ne-eqb _ _ (c .before .before .if2 .left), eq-eqb _ _ (c .if3 .taken)) (adds-none _ _ _ _)
 
 both-single-requires : tie.Need-both-single-requires
 both-single-requires c κs = ((c .before .before .before .before .before .before .before .before .pre .0) .index, omega arith)
@@ -25,7 +25,7 @@ log-single-requires : tie.Need-log-single-requires
 log-single-requires c κs = (((c .before .before .before .before .before .before .before .before .before .before .before .pre .0) .index, omega arith), rw ((c .before .before .before .before .before .before .before .if1 .left), plain-entries ((c .before .before .before .before .before .before .before .before .before .before .before .args) .p) ((c .before .before .before .before .before .before .before .before .before .before .before .args) .mask) ((c .before .before .before .before .before .before .before .before .before .before .before .args) .table .now) ((c .before .before .before .before .before .before .before .before .before .before .before .args) .ends .now) startHalf ((c .before .before .before .before .before .before .before .before .before .before .before .args) .given .now) ((c .before .before .before .before .before .before .before .before .before .before .before .args) .lent .now) ((c .before .before .before .before .before .before .before .before .before .before .before .args) .i) (c .before .before .before .before .before .if2 .left) (c .before .before .before .if3 .left) (sym (c .before .before .both-single .ensures) ∙ (c .before .if4 .taken))) at (c .before .before .before .before .before .before .before .before .before .before .before .pre .1 .1))
 
 returns-4 : tie.Need-returns-4
-returns-4 c = rw ((c .before .before .before .before .before .before .before .before .before .before .if1 .left), plain-entries ((c .before .before .before .before .before .before .before .before .before .before .before .before .before .before .args) .p) ((c .before .before .before .before .before .before .before .before .before .before .before .before .before .before .args) .mask) ((c .before .before .before .before .before .before .before .before .before .before .before .before .before .before .args) .table .now) ((c .before .before .before .before .before .before .before .before .before .before .before .before .before .before .args) .ends .now) startHalf ((c .before .before .before .before .before .before .before .before .before .before .before .before .before .before .args) .given .now) ((c .before .before .before .before .before .before .before .before .before .before .before .before .before .before .args) .lent .now) ((c .before .before .before .before .before .before .before .before .before .before .before .before .before .before .args) .i) (c .before .before .before .before .before .before .before .before .if2 .left) (c .before .before .before .before .before .before .if3 .left) (sym (c .before .before .before .before .before .both-single .ensures) ∙ (c .before .before .before .before .if4 .taken))) (logged-within 1048576 (omega arith) (c .before .before .log-single .ensures))
+returns-4 c = rw ((c .before .before .before .before .before .before .before .before .before .before .if1 .left), plain-entries ((c .before .before .before .before .before .before .before .before .before .before .before .before .before .before .args) .p) ((c .before .before .before .before .before .before .before .before .before .before .before .before .before .before .args) .mask) ((c .before .before .before .before .before .before .before .before .before .before .before .before .before .before .args) .table .now) ((c .before .before .before .before .before .before .before .before .before .before .before .before .before .before .args) .ends .now) startHalf ((c .before .before .before .before .before .before .before .before .before .before .before .before .before .before .args) .given .now) ((c .before .before .before .before .before .before .before .before .before .before .before .before .before .before .args) .lent .now) ((c .before .before .before .before .before .before .before .before .before .before .before .before .before .before .args) .i) (c .before .before .before .before .before .before .before .before .if2 .left) (c .before .before .before .before .before .before .if3 .left) (sym (c .before .before .before .before .before .both-single .ensures) ∙ (c .before .before .before .before .if4 .taken))) (adds-within (c .before .before .log-single .ensures) 1048576 (omega arith))
 
 log-owned-at-requires : tie.Need-log-owned-at-requires
 log-owned-at-requires c κs = ((c .before .before .before .before .before .before .before .before .before .before .before .pre .0), ((c .before .before .before .before .before .before .before .before .before .before .before .pre .1 .0), rw (c .before .before .before .before .before .before .before .if1 .left) at (c .before .before .before .before .before .before .before .before .before .before .before .pre .1 .1)))

@@ -1,32 +1,44 @@
 -- `log_pairs` takes the given ranges one by one, each against all of the run.
 use native.Mathlib.Omega.{arith}
+use mathlib.Core.Path.{refl}
 use borrow.Author.Needs.{needs}
+use Rattle.texture_barrier.specs.Adds.{Adding, adding-start, adding-room, adding-turn, adding-end}
 use Rattle.texture_barrier.specs.Steps.{stepEntries}
 use Rattle.texture_barrier.specs.declared.mip.Step.the-variants.{Within}
 use Rattle.range_states.specs.View.{decode}
 use Rattle.model.specs.declared.Range.{Range}
-use Rattle.texture_barrier.proofs.Running.{Running, run-start, run-room, run-turn, run-end}
+use Rattle.texture_barrier.proofs.Remaining.{runLeft, run-next, run-done}
 use Prim.Native.Nat.{_*_, _-_}
 use Rattle.texture_barrier.proofs.mip.log_pairs.Statement.{statement}
 use Rattle.texture_barrier.proofs.mip.log_pairs.Tie as tie
 
 abbrev Inv-loop : tie.InvT-loop
 Inv-loop run len given many mip t log₀ at x₀ k₀ log x k =
-    Running (256 * k) (t .index .0) (t .write) (λ (g : Range). stepEntries (t .unknown) (t .mask) (Within g) mip (decode len run)) given many log₀ at x k log
+    let left = runLeft (t .index .0) (λ (g : Range). stepEntries (t .unknown) (t .mask) (Within g) mip (decode len run)) given many in
+    Adding (256 * k) (t .write) log₀ at (left 0) left many x k log
 
 abbrev μ-loop : tie.MeasureT-loop
 μ-loop run len given many mip t log₀ at x₀ k₀ log x k = many - k
 
 log-run-requires : tie.Need-log-run-requires Inv-loop μ-loop
-log-run-requires c κs = (record { room = (c .before .before .before .before .before .before .before .pre) .0 .held .room; few = (c .before .before .before .before .before .before .before .pre) .0 .held .few; level = (c .before .before .before .before .before .before .before .pre) .0 .held .level; low = omega arith }, run-room _ (c .before .before .before .loop .inv) ((c .before .before .before .before .before .before .before .pre) .0 .room) ((c .before .before .before .before .before .before .before .pre) .1) (c .before .before .loop-test .taken) (c .before .get .ensures))
+log-run-requires c κs =
+    let at-loop = c .before .before .before in
+    let p = at-loop .before .before .before .before .pre in
+    let q = p .0 .held in
+    let b = c .before .before .loop-test .taken in (
+      record { room = q .room; few = q .few; level = q .level; low = omega arith },
+      adding-room (at-loop .loop .inv) (p .1) (run-next _ _ _ _ (p .0 .room) b (c .before .get .ensures)),
+    )
 
 loop-again : tie.Need-loop-again Inv-loop μ-loop
-loop-again c = run-turn _ (c .before .before .before .before .before .before .loop .inv) ((c .before .before .before .before .before .before .before .before .before .before .pre) .0 .room) ((c .before .before .before .before .before .before .before .before .before .before .pre) .1) (c .before .before .before .before .before .loop-test .taken) (c .before .before .before .before .get .ensures) (omega arith) (c .before .before .log-run .ensures)
-
-returns : tie.Need-returns Inv-loop μ-loop
-returns c = run-end _ (c .before .loop .inv) (omega arith) (c .loop-test .left)
+loop-again c =
+    let at-loop = c .before .before .before .before .before .before in
+    let p = at-loop .before .before .before .before .pre in
+    let b = c .before .before .before .before .before .loop-test .taken in
+    adding-turn (at-loop .loop .inv) (p .1) (run-next _ _ _ _ (p .0 .room) b (c .before .before .before .before .get .ensures)) b
+    (c .before .before .log-run .ensures) (omega arith)
 
 pub log-pairs-spec : {M : Type 1} → statement M
-log-pairs-spec = tie.close (tie.spec Inv-loop μ-loop (λ c. run-start _ _ _ _ _ _ _) (λ c κs. search needs)
+log-pairs-spec = tie.close (tie.spec Inv-loop μ-loop (λ c. adding-start _ _ _ _ _ _ _ (omega arith) refl) (λ c κs. search needs)
     (λ c. search needs) log-run-requires (λ c. search needs) (λ c. search needs) (λ c. search needs) loop-again
-    (λ c. search needs) returns)
+    (λ c. search needs) (λ c. adding-end (c .before .loop .inv) (omega arith) (c .loop-test .left) (run-done _ _ _ _)))

@@ -1,13 +1,15 @@
 -- `log_range` makes the change before its transition.
 use borrow.Author.Tests.{not-true, not-false}
 use Rattle.texture_barrier.specs.Steps.{change-none, change-one}
-use Rattle.texture_barrier.specs.Logged.{logged-none}
+use Rattle.texture_barrier.specs.Adds.{adds-none}
 use borrow.Author.Needs.{needs}
 use Rattle.texture_barrier.proofs.mip.log_range.Statement.{statement}
 use Rattle.texture_barrier.proofs.mip.log_range.Tie as tie
 
 returns : tie.Need-returns
-returns c = rw (change-none _ _ _ _ _ (c .before .before .change-of .ensures) (not-true _ (c .if1 .taken))) (logged-none _ _ _ _ _)
+returns c =
+    let a = (c .before .before .before .before .args) in
+    rw (change-none (a .t .unknown) (a .t .mask) (a .mip) (a .step) (a .r) (c .before .before .change-of .ensures) (not-true _ (c .if1 .taken))) (adds-none _ _ _ _)
 
 log-move-requires : tie.Need-log-move-requires
 log-move-requires c κs =
@@ -15,7 +17,9 @@ log-move-requires c κs =
     rw (← change-one (a .t .unknown) (a .t .mask) (a .mip) (a .step) (a .r) (c .before .before .before .before .change-of .ensures) (not-false _ (c .before .before .if1 .left)) (c .before .on-mip .ensures)) ((c .before .before .before .before .before .before .pre) .1)
 
 returns-2 : tie.Need-returns-2
-returns-2 c = rw (change-one _ _ _ _ _ (c .before .before .before .before .before .before .before .change-of .ensures) (not-false _ (c .before .before .before .before .before .if1 .left)) (c .before .before .before .before .on-mip .ensures)) (c .before .before .log-move .ensures)
+returns-2 c =
+    let a = (c .before .before .before .before .before .before .before .before .before .args) in
+    rw (change-one (a .t .unknown) (a .t .mask) (a .mip) (a .step) (a .r) (c .before .before .before .before .before .before .before .change-of .ensures) (not-false _ (c .before .before .before .before .before .if1 .left)) (c .before .before .before .before .on-mip .ensures)) (c .before .before .log-move .ensures)
 
 pub log-range-spec : {M : Type 1} → statement M
 log-range-spec = tie.close (tie.spec (λ c κs. search needs) returns (λ c κs. search needs) log-move-requires

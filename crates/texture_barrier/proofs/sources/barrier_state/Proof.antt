@@ -1,7 +1,7 @@
 -- `barrier_state` goes by the texture's word: mip by mip where it is Many, otherwise one transition over the full extent.
 use Rattle.texture_barrier.proofs.Holding.{state-many, state-single}
 use Rattle.texture_barrier.specs.Ready.{ready}
-use Rattle.texture_barrier.specs.Logged.{logged-within}
+use Rattle.texture_barrier.specs.Adds.{adds-within}
 use Rattle.model.specs.declared.UsageFlags.{UsageFlags}
 use mathlib.Core.Path.{sym, ap, _∙_}
 use native.Mathlib.Omega.{arith}
@@ -19,7 +19,7 @@ barrier-single-requires : tie.Need-barrier-single-requires
 barrier-single-requires c κs = (omega (arith, (c .before .before .before .before .before .before .before .before .pre .0) .ready .index, (c .before .before .before .before .before .before .before .before .pre .0) .ready .measured .textures), rw (state-single (c .before .before .before .before .before .before .before .before .pre .0) ((c .before .before .before .before .before .before .before .before .args) .p) ((c .before .before .before .before .before .before .before .before .args) .mask) ((c .before .before .before .before .before .before .before .before .args) .new) (λ z. (c .before .if1 .left) (z ∙ sym (ap (λ (f : UsageFlags). f .complex) (c .before .before .before .before .flags-of .ensures))))) at (c .before .before .before .before .before .before .before .before .pre .1 .1))
 
 returns-2 : tie.Need-returns-2
-returns-2 c = rw (state-single (c .before .before .before .before .before .before .before .before .before .before .before .pre .0) ((c .before .before .before .before .before .before .before .before .before .before .before .args) .p) ((c .before .before .before .before .before .before .before .before .before .before .before .args) .mask) ((c .before .before .before .before .before .before .before .before .before .before .before .args) .new) (λ z. (c .before .before .before .before .if1 .left) (z ∙ sym (ap (λ (f : UsageFlags). f .complex) (c .before .before .before .before .before .before .before .flags-of .ensures))))) (logged-within 4096 (omega arith) (c .before .before .barrier-single .ensures))
+returns-2 c = rw (state-single (c .before .before .before .before .before .before .before .before .before .before .before .pre .0) ((c .before .before .before .before .before .before .before .before .before .before .before .args) .p) ((c .before .before .before .before .before .before .before .before .before .before .before .args) .mask) ((c .before .before .before .before .before .before .before .before .before .before .before .args) .new) (λ z. (c .before .before .before .before .if1 .left) (z ∙ sym (ap (λ (f : UsageFlags). f .complex) (c .before .before .before .before .before .before .before .flags-of .ensures))))) (adds-within (c .before .before .barrier-single .ensures) 4096 (omega arith))
 
 pub barrier-state-spec : {M : Type 1} → statement M
 barrier-state-spec = tie.close (tie.spec (λ c κs. search needs) (λ c κs. search needs) (λ c. search needs)

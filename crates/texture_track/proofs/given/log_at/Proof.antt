@@ -2,17 +2,17 @@
 use native.Mathlib.Omega.{arith}
 use mathlib.Core.Path.{sym, _∙_}
 use borrow.Author.Tests.{eq-eqb, ne-eqb}
-use Rattle.texture_barrier.specs.Logged.{logged-none, logged-within}
+use Rattle.texture_barrier.specs.Adds.{adds-none, adds-within}
 use Rattle.texture_track.proofs.Plain.{plain-entries}
 use borrow.Author.Needs.{needs}
 use Rattle.texture_track.proofs.given.log_at.Statement.{statement}
 use Rattle.texture_track.proofs.given.log_at.Tie as tie
 
 returns : tie.Need-returns
-returns c = rw (eq-eqb _ _ (c .if1 .taken)) (logged-none _ _ _ _ _)
+returns c = rw (eq-eqb _ _ (c .if1 .taken)) (adds-none _ _ _ _)
 
 returns-2 : tie.Need-returns-2
-returns-2 c = rw (ne-eqb _ _ (c .before .before .if1 .left), eq-eqb _ _ (c .if2 .taken)) (logged-none _ _ _ _ _)
+returns-2 c = rw (ne-eqb _ _ (c .before .before .if1 .left), eq-eqb _ _ (c .if2 .taken)) (adds-none _ _ _ _)
 
 both-single-requires : tie.Need-both-single-requires
 both-single-requires c κs = ((c .before .before .before .before .before .before .before .pre .0) .index, (c .before .before .before .before .before .before .before .pre .0) .given (rw (ne-eqb _ _ (c .before .before .if1 .left))) .measured .half .1)
@@ -21,7 +21,7 @@ log-single-requires : tie.Need-log-single-requires
 log-single-requires c κs = (((c .before .before .before .before .before .before .before .before .before .before .pre .0) .index, (c .before .before .before .before .before .before .before .before .before .before .pre .0) .given (rw (ne-eqb _ _ (c .before .before .before .before .before .if1 .left))) .measured .half .1), rw (plain-entries ((c .before .before .before .before .before .before .before .before .before .before .args) .p) ((c .before .before .before .before .before .before .before .before .before .before .args) .mask) ((c .before .before .before .before .before .before .before .before .before .before .args) .table .now) ((c .before .before .before .before .before .before .before .before .before .before .args) .ends .now) ((c .before .before .before .before .before .before .before .before .before .before .args) .from) ((c .before .before .before .before .before .before .before .before .before .before .args) .given .now) ((c .before .before .before .before .before .before .before .before .before .before .args) .first .now) ((c .before .before .before .before .before .before .before .before .before .before .args) .i) (c .before .before .before .before .before .if1 .left) (c .before .before .before .if2 .left) (sym (c .before .before .both-single .ensures) ∙ (c .before .if3 .taken))) at (c .before .before .before .before .before .before .before .before .before .before .pre .1 .1))
 
 returns-3 : tie.Need-returns-3
-returns-3 c = rw (plain-entries ((c .before .before .before .before .before .before .before .before .before .before .before .before .before .args) .p) ((c .before .before .before .before .before .before .before .before .before .before .before .before .before .args) .mask) ((c .before .before .before .before .before .before .before .before .before .before .before .before .before .args) .table .now) ((c .before .before .before .before .before .before .before .before .before .before .before .before .before .args) .ends .now) ((c .before .before .before .before .before .before .before .before .before .before .before .before .before .args) .from) ((c .before .before .before .before .before .before .before .before .before .before .before .before .before .args) .given .now) ((c .before .before .before .before .before .before .before .before .before .before .before .before .before .args) .first .now) ((c .before .before .before .before .before .before .before .before .before .before .before .before .before .args) .i) (c .before .before .before .before .before .before .before .before .if1 .left) (c .before .before .before .before .before .before .if2 .left) (sym (c .before .before .before .before .before .both-single .ensures) ∙ (c .before .before .before .before .if3 .taken))) (logged-within 1048576 (omega arith) (c .before .before .log-single .ensures))
+returns-3 c = rw (plain-entries ((c .before .before .before .before .before .before .before .before .before .before .before .before .before .args) .p) ((c .before .before .before .before .before .before .before .before .before .before .before .before .before .args) .mask) ((c .before .before .before .before .before .before .before .before .before .before .before .before .before .args) .table .now) ((c .before .before .before .before .before .before .before .before .before .before .before .before .before .args) .ends .now) ((c .before .before .before .before .before .before .before .before .before .before .before .before .before .args) .from) ((c .before .before .before .before .before .before .before .before .before .before .before .before .before .args) .given .now) ((c .before .before .before .before .before .before .before .before .before .before .before .before .before .args) .first .now) ((c .before .before .before .before .before .before .before .before .before .before .before .before .before .args) .i) (c .before .before .before .before .before .before .before .before .if1 .left) (c .before .before .before .before .before .before .if2 .left) (sym (c .before .before .before .before .before .both-single .ensures) ∙ (c .before .before .before .before .if3 .taken))) (adds-within (c .before .before .log-single .ensures) 1048576 (omega arith))
 
 log-owned-at-requires : tie.Need-log-owned-at-requires
 log-owned-at-requires c κs = (c .before .before .before .before .before .before .before .before .before .before .pre)

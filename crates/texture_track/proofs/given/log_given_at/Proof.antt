@@ -1,14 +1,14 @@
 -- `log_given_at`: no transitions where the texture is not owned, otherwise the model's `barrier`.
 use borrow.Author.Tests.{eq-eqb, ne-eqb}
 use borrow.Author.Needs.{needs}
-use Rattle.texture_barrier.specs.Logged.{logged-none}
+use Rattle.texture_barrier.specs.Adds.{adds-none}
 use Rattle.set_ready.specs.Half.{half-held}
 use Rattle.texture_track.specs.Given.{given-textured}
 use Rattle.texture_track.proofs.given.log_given_at.Statement.{statement}
 use Rattle.texture_track.proofs.given.log_given_at.Tie as tie
 
 returns : tie.Need-returns
-returns c = rw (eq-eqb _ _ (c .if1 .taken)) (logged-none _ _ _ _ _)
+returns c = rw (eq-eqb _ _ (c .if1 .taken)) (adds-none _ _ _ _)
 
 barrier-texture-requires : tie.Need-barrier-texture-requires
 barrier-texture-requires c κs = let p = (c .before .before .before .before .before .before .pre) in let o = (c .before .if1 .left) in (half-held (p .0) o, (given-textured (p .1 .0), (p .1 .1 .0, rw (ne-eqb _ _ o) at (p .1 .1 .1))))

@@ -1,12 +1,12 @@
 -- `log_owned_at`: no transitions where the given set does not own the index, otherwise those of the texture.
 use borrow.Author.Tests.{eq-eqb, ne-eqb}
 use borrow.Author.Needs.{needs}
-use Rattle.texture_barrier.specs.Logged.{logged-none}
+use Rattle.texture_barrier.specs.Adds.{adds-none}
 use Rattle.texture_track.proofs.given.log_owned_at.Statement.{statement}
 use Rattle.texture_track.proofs.given.log_owned_at.Tie as tie
 
 returns : tie.Need-returns
-returns c = rw (eq-eqb _ _ (c .if1 .taken)) (logged-none _ _ _ _ _)
+returns c = rw (eq-eqb _ _ (c .if1 .taken)) (adds-none _ _ _ _)
 
 log-given-at-requires : tie.Need-log-given-at-requires
 log-given-at-requires c κs = let p = (c .before .before .before .before .before .before .before .before .pre) in let o = (c .before .before .before .if1 .left) in (p .0 .ready (rw (ne-eqb _ _ o)), (p .0 .given (rw (ne-eqb _ _ o)), (p .1 .0, rw (ne-eqb _ _ o) at (p .1 .1))))

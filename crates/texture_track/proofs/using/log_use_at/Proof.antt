@@ -3,14 +3,14 @@ use mathlib.Core.List.{[], _∷_}
 use Rattle.model.specs.Texture.{givenSingle, givenMany}
 use Rattle.texture_merge.specs.Uses.{useOf}
 use Rattle.texture_barrier.specs.Textures.{piece}
-use Rattle.texture_barrier.specs.Logged.{logged-none}
+use Rattle.texture_barrier.specs.Adds.{adds-none}
 use Rattle.texture_track.specs.Using.{old-textured, old-selects, use-all, use-part, entries-none, entries-are}
 use borrow.Author.Needs.{needs}
 use Rattle.texture_track.proofs.using.log_use_at.Statement.{statement}
 use Rattle.texture_track.proofs.using.log_use_at.Tie as tie
 
 returns : tie.Need-returns
-returns c = rw (entries-none ((c .before .before .before .before .before .args) .p) ((c .before .before .before .before .before .args) .mask) ((c .before .before .before .before .before .args) .extent) ((c .before .before .before .before .before .args) .table .now) ((c .before .before .before .before .before .args) .starts .now) ((c .before .before .before .before .before .args) .ends .now) ((c .before .before .before .before .before .args) .i) (useOf ((c .before .before .before .before .before .args) .all) ((c .before .before .before .before .before .args) .q) ((c .before .before .before .before .before .args) .new)) (c .if1 .taken)) (logged-none _ _ _ _ _)
+returns c = rw (entries-none ((c .before .before .before .before .before .args) .p) ((c .before .before .before .before .before .args) .mask) ((c .before .before .before .before .before .args) .extent) ((c .before .before .before .before .before .args) .table .now) ((c .before .before .before .before .before .args) .starts .now) ((c .before .before .before .before .before .args) .ends .now) ((c .before .before .before .before .before .args) .i) (useOf ((c .before .before .before .before .before .args) .all) ((c .before .before .before .before .before .args) .q) ((c .before .before .before .before .before .args) .new)) (c .if1 .taken)) (adds-none _ _ _ _)
 
 barrier-state-requires : tie.Need-barrier-state-requires
 barrier-state-requires c κs = (old-textured ((c .before .before .before .before .before .before .before .pre) .0) ((c .before .before .before .before .before .before .before .pre) .1 .0) (c .before .before .if1 .left), ((c .before .before .before .before .before .before .before .pre) .1 .1 .0, rw ((entries-are ((c .before .before .before .before .before .before .before .args) .p) ((c .before .before .before .before .before .before .before .args) .mask) ((c .before .before .before .before .before .before .before .args) .extent) ((c .before .before .before .before .before .before .before .args) .table .now) ((c .before .before .before .before .before .before .before .args) .starts .now) ((c .before .before .before .before .before .before .before .args) .ends .now) ((c .before .before .before .before .before .before .before .args) .i) (useOf ((c .before .before .before .before .before .before .before .args) .all) ((c .before .before .before .before .before .before .before .args) .q) ((c .before .before .before .before .before .before .before .args) .new)) (givenSingle ((c .before .before .before .before .before .before .before .args) .new)) (use-all ((c .before .before .before .before .before .before .before .args) .all) ((c .before .before .before .before .before .before .before .args) .q) ((c .before .before .before .before .before .before .before .args) .new) (c .before .if2 .taken)) (c .before .before .if1 .left))) at ((c .before .before .before .before .before .before .before .pre) .1 .1 .1)))

@@ -1,0 +1,51 @@
+-- `log_listed`: which indices were listed before, and the entries of one by that.
+use Prim.Native.Nat.{ℕ, _+_, _<_}
+use native.Mathlib.Decide.{ℕ-discrete}
+use native.Mathlib.Numerals.{add-one}
+use native.Mathlib.Omega.{arith}
+use mathlib.Core.Path.{_≡_, refl, sym, _∙_}
+use mathlib.Core.Bool.{Bool, true, false, not}
+use mathlib.Core.List.{List, [], _∷_, _++_}
+use lib.Dec.{eqb}
+use lib.ListN.{length, getD, set, take, replicate, length-set, getD-replicate}
+use lib.Seq.{take-suc, getD-set-same, getD-set-other}
+use borrow.Author.Tests.{eq-eqb, ne-eqb}
+use Rattle.model.specs.declared.UsageFlags.{UsageFlags}
+use Rattle.model.specs.Base.{if_then_else_}
+use Rattle.texture_barrier.specs.Adds.{entriesAt}
+use Rattle.agreement.specs.LogBound.{listed}
+use Rattle.call_remove.specs.Logs.{onceEntries, listedEntries}
+
+-- ---- Which indices were listed so far: 1 at each
+pub record Seen (seen is : List ℕ) (k : ℕ) : Type 0 where
+  pub long : length seen ≡ 64
+  pub tells : (j : ℕ) → j < 64 → not (eqb (getD seen j 0) 0) ≡ listed j (take k is)
+
+-- none yet
+pub seen-none : (is : List ℕ) → Seen (replicate 64 0) is 0
+seen-none is = record { long = refl; tells = λ j h. let e = getD-replicate {A = ℕ} 64 j 0 0 h in rw e }
+
+-- one listed after others
+listed-last : (j i : ℕ) (l : List ℕ) → listed j (l ++ (i ∷ [])) ≡ (if eqb i j then true else listed j l)
+listed-last j i [] = refl
+listed-last j i (x ∷ l) = go (eqb x j) (eqb i j) (listed-last j i l)
+  where
+    go : (a b : Bool) → listed j (l ++ (i ∷ [])) ≡ (if b then true else listed j l) → (if a then true else listed j (l ++ (i ∷ []))) ≡ (if b then true else (if a then true else listed j l))
+    go true true e = refl
+    go true false e = refl
+    go false b e = e
+
+pub seen-next : {seen is : List ℕ} {k i : ℕ} → Seen seen is k → k < length is → i ≡ getD is k 0 → getD is k 0 < 64
+    → Seen (set seen i 1) is (k + 1)
+seen-next {seen} {is} {k} {i} q h e l = record { long = length-set seen i 1 ∙ q .long; tells = λ j b. rw (add-one, take-suc is k 0 h, listed-last j (getD is k 0) (take k is), ← e) (go j b (ℕ-discrete i j)) }
+  where
+    go : (j : ℕ) → j < 64 → Dec (i ≡ j) → not (eqb (getD (set seen i 1) j 0) 0) ≡ (if eqb i j then true else listed j (take k is))
+    go j b (yes z) = rw (← z, getD-set-same seen i 1 0 (omega (arith, q .long)), eq-eqb i i refl)
+    go j b (no z) = rw (getD-set-other seen i j 1 0 (λ y. z (sym y)), ne-eqb i j z) (q .tells j b)
+
+-- the entries of the index at position k, as `log_listed_at` adds them: by whether it was listed before
+pub once-is : {seen is : List ℕ} {k i : ℕ} → Seen seen is k → i ≡ getD is k 0 → getD is k 0 < 64
+    → (p : UsageFlags) (mask : ℕ) (t e g r : List ℕ)
+    → entriesAt i (onceEntries (not (eqb (getD seen i 0) 0)) p mask t e g r i)
+    ≡ entriesAt (getD is k 0) (listedEntries p mask t e g r is k)
+once-is {is = is} {k} q e h p mask t e′ g r = rw (e, q .tells (getD is k 0) h)
