@@ -6,7 +6,7 @@ use mathlib.Core.List.{List}
 use lib.ListN.{getD}
 use Rattle.model.specs.declared.Extent.{Extent}
 use Rattle.model.specs.Representation.{Ends}
-use Rattle.model.specs.Sets.{Numbers, Slot, withSlots, withTracker}
+use Rattle.model.specs.Sets.{Numbers, Slot, withTracker}
 use Rattle.model.specs.Texture.{Held}
 use Rattle.set_storage.specs.Storage.{numbersOf, flagsOf, startHalf, endsOf, slotWith, setWith, trackerOf, listFrom, maskAt, texturesAt}
 use Rattle.set_storage.specs.Stays.{both-refl, both-then, both-more, TrackerFrame}
@@ -18,9 +18,9 @@ use Rattle.set_ready.specs.Half.{HeadStays, BothReady, tracker-keeps, nu
 use Rattle.set_ready.specs.Walked.{Walked, walked-start}
 
 -- the view of a set whose head stays: its slots as they are now
-pub set-view : {H : Type 0} (held held₁ : ℕ → H) {t t₁ : List ℕ} → HeadStays t t₁
-    → setWith held₁ t₁ ≡ withSlots (setWith held t) (listFrom (slotWith held₁ t₁) 0 (getD t texturesAt 0))
-set-view held held₁ q = rw (numbers-stay q, flags-stay q, q .words texturesAt (omega arith))
+pub set-view : {H : Type 0} (held : ℕ → H) {t t₁ : List ℕ} → HeadStays t t₁
+    → setWith held t₁ ≡ record { numbers = numbersOf t; flags = flagsOf t; slots = listFrom (slotWith held t₁) 0 (getD t texturesAt 0) }
+set-view held q = rw (numbers-stay q, flags-stay q, q .words texturesAt (omega arith))
 
 -- its slots are walked over, read by N, M and W as they were, and what is of no named index stays
 pub record TrackerWalked (named : ℕ → Type 0) (t s e : List ℕ) (R : ℕ → Slot (Ends Held) → Slot (Ends Held) → Type 0) (left : ℕ → Type 0)
@@ -57,5 +57,5 @@ tracker-view {t = t} {s} {e} {t₁} {s₁} {e₁} f =
     let q = tracker-keeps f in
     rw (
       q .words maskAt (omega arith),
-      ap (λ (d : Numbers). setWith (endsOf d t₁ s₁ e₁) t₁) (numbers-stay q) ∙ set-view (endsOf (numbersOf t) t s e) (endsOf (numbersOf t) t₁ s₁ e₁) q,
+      ap (λ (d : Numbers). setWith (endsOf d t₁ s₁ e₁) t₁) (numbers-stay q) ∙ set-view (endsOf (numbersOf t) t₁ s₁ e₁) q,
     )
