@@ -18,25 +18,24 @@ module _ {A : Type 0} (n : ℕ) (R : ℕ → A → A → Type 0) (before : ℕ �
   pub walked-start : {left : ℕ → Type 0} → ((j : ℕ) → (left j → ⊥) → R j (before j) (before j)) → Walked left before
   walked-start d = record { done = λ j h. d j; same = λ j h l. refl }
 
-  module _ {left : ℕ → Type 0} {now after : ℕ → A} (q : Walked left now) (k : ℕ) (others : (j : ℕ) → j < n → (j ≡ k → ⊥) → after j ≡ now j) where
-    -- slot k is done, and no other changed
-    pub walked-turn : {next : ℕ → Type 0} → left k → (k < n → R k (now k) (after k)) → ((j : ℕ) → (j ≡ k → ⊥) → left j → next j)
-        → ((j : ℕ) → next j → (j ≡ k → ⊥) × left j) → Walked next after
-    walked-turn {next} l r up down = record {
-      done = λ j h out. go j h out (ℕ-discrete j k);
-      same = λ j h y. let d = down j y in others j h (d .0) ∙ q .same j h (d .1);
-    }
-      where
-        go : (j : ℕ) → j < n → (next j → ⊥) → Dec (j ≡ k) → R j (before j) (after j)
-        go j h out (yes e) =
-            subst (λ (i : ℕ). R i (before i) (after i)) (sym e)
-            (let b : k < n = subst (λ (i : ℕ). i < n) e h in subst (λ (x : A). R k x (after k)) (q .same k b l) (r b))
-        go j h out (no ne) = subst (R j (before j)) (sym (others j h ne)) (q .done j h (λ y. out (up j ne y)))
+  -- slot k is done, and no other changed
+  pub walked-turn : {left next : ℕ → Type 0} {now after : ℕ → A} {k : ℕ} → Walked left now → ((j : ℕ) → j < n → (j ≡ k → ⊥) → after j ≡ now j)
+      → (k < n → R k (before k) (after k)) → ((j : ℕ) → (j ≡ k → ⊥) → left j → next j) → ((j : ℕ) → next j → (j ≡ k → ⊥) × left j) → Walked next after
+  walked-turn {left} {next} {now} {after} {k} q others r up down = record {
+    done = λ j h out. go j h out (ℕ-discrete j k);
+    same = λ j h y. let d = down j y in others j h (d .0) ∙ q .same j h (d .1);
+  }
+    where
+      go : (j : ℕ) → j < n → (next j → ⊥) → Dec (j ≡ k) → R j (before j) (after j)
+      go j h out (yes e) = subst (λ (i : ℕ). R i (before i) (after i)) (sym e) (r (subst (λ (i : ℕ). i < n) e h))
+      go j h out (no ne) = subst (R j (before j)) (sym (others j h ne)) (q .done j h (λ y. out (up j ne y)))
 
   -- by ascending index: those from k on are left
   pub walked-next : {k : ℕ} {now after : ℕ → A} → Walked (λ j. k ≤ j) now → ((j : ℕ) → j < n → (j ≡ k → ⊥) → after j ≡ now j)
       → (k < n → R k (now k) (after k)) → Walked (λ j. k + 1 ≤ j) after
-  walked-next {k} q o r = walked-turn q k o (omega arith) r (λ j ne l. omega arith) (λ j l. ((λ e. omega arith), omega arith))
+  walked-next {k} {now} {after} q others r =
+      walked-turn q others (λ b. subst (λ (x : A). R k x (after k)) (q .same k b (omega arith)) (r b))
+      (λ j ne l. omega arith) (λ j l. ((λ e. omega arith), omega arith))
 
 -- ---- At the end, with a partner G j of each slot below m: `walk₂`
 module _ {C A B : Type 0} (f : ℕ → A → B → Stop C A) (F H : ℕ → A) (G : ℕ → B) where
