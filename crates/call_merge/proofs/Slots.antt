@@ -115,8 +115,10 @@ module _ {p : UsageFlags} {t₀ r₀ g l : List ℕ} {k : ℕ} {t r : List ℕ} 
           let n : metAt k x ≡ none = y .conflict ∙ rw e in let s : metAt k x ≡ some (indexed k c) = ap (metAt k) z in
           absurd (let w : _≡_ {A = ℕ} 0 1 = cc in omega arith)
 
-      pub stop : {c : InvalidUse} → x ≡ At c → SlotsMerged (ownedBy g) (mergedSlots p t₀ r₀ g l) t₀ r₀ (outcome.Conflict (record { index = trackerIndex k; found = c })) t′ r′
+      pub stop : {c : InvalidUse} → x ≡ At c
+          → SlotsMerged (ownedBy g) (mergedSlots p t₀ r₀ g l) t₀ r₀ (outcome.Conflict (record { index = trackerIndex k; found = c })) t′ r′
       unfolding scopeOf
       stop {c} e =
           let b = q .passed .each k h (is-owned (ownedOf g k) refl e) .texture in
-          walk-gives (walk-stop (mergeGiven ranged p) (slotOf t₀ r₀) (slotOf t′ r′) (slotOf g l) (m .slots) b h others (rw e at this)) frame-now
+          let w = walk-stop (mergeGiven ranged p) (slotOf t₀ r₀) (slotOf t′ r′) (slotOf g l) (m .slots) b h others (rw e at this) in
+          walk-gives w frame-now

@@ -8,9 +8,10 @@ use mathlib.Core.List.{List, [], _∷_}
 use lib.ListN.{length, getD, set, take, length-set}
 use lib.Seq.{getD-set-same, getD-set-other}
 use borrow.Author.Tests.{eq-eqb}
-use Rattle.model.specs.declared.Extent.{Extent}
-use Rattle.model.specs.Sets.{Numbers, withSlots}
-use Rattle.set_storage.specs.Storage.{numbersOf, extentOf, ownedOf, startHalf, countAt, heldOf, slotWith, setWith, scopeOf, complexAt, layersAt, mipsAt, ownedAt, stateAt, tableIndices, tableLength, texturesAt}
+use Rattle.model.specs.Sets.{Numbers, Slot, withSlots}
+use Rattle.model.specs.Texture.{Held}
+use Rattle.set_storage.specs.Storage.{numbersOf, extentOf, ownedOf, heldOf, slotWith, setWith, scopeOf, startHalf}
+use Rattle.set_storage.specs.Storage.{tableIndices, tableLength, texturesAt, complexAt, ownedAt, mipsAt, layersAt, stateAt, countAt}
 use Rattle.set_storage.specs.Stays.{Stays, only, stays-refl, stays-then, stays-more, stays-set, head-off, ScopeFrame}
 use Rattle.set_storage.specs.Slots.{SlotFrame, set-becomes, held-ext, mip-ext}
 use Rattle.set_ready.specs.Tested.{ScopeTested}
@@ -24,11 +25,11 @@ OffOwned i x = x ≡ ownedAt i → ⊥
 
 module _ {named : ℕ → Type 0} {g g₁ : List ℕ} (f : Stays OffOwned named g g₁) where
   -- the head
-  owned-keeps : HeadStays g g₁
+  pub owned-keeps : HeadStays g g₁
   owned-keeps = record { words = λ x q. f .same x (λ i _ _. head-off i x q .head .owned); long = f .long }
 
   -- the extents
-  extent-stays : (j : ℕ) → extentOf g₁ j ≡ extentOf g j
+  pub extent-stays : (j : ℕ) → extentOf g₁ j ≡ extentOf g j
   extent-stays j = rw (f .same (mipsAt j) (λ i h _ z. omega arith), f .same (layersAt j) (λ i h _ z. omega arith))
 
   -- what is held
@@ -39,7 +40,8 @@ module _ {named : ℕ → Type 0} {g g₁ : List ℕ} (f : Stays OffOwned named 
       (λ k q. mip-ext d startHalf g r g₁ r j k (f .same (countAt startHalf j k) (λ i h _ z. omega arith)) refl)
 
   -- a slot, where it is owned as before
-  slot-stays : (d : Numbers) (r : List ℕ) (j : ℕ) → ownedOf g₁ j ≡ ownedOf g j → slotWith (heldOf d startHalf g₁ r) g₁ j ≡ slotWith (heldOf d startHalf g r) g j
+  slot-stays : (d : Numbers) (r : List ℕ) (j : ℕ) → ownedOf g₁ j ≡ ownedOf g j
+      → slotWith (heldOf d startHalf g₁ r) g₁ j ≡ slotWith (heldOf d startHalf g r) g j
   slot-stays d r j e = λ i. record { owned = e i; extent = extent-stays j i; held = held-stays d r j i }
 
 -- ---- The scope without texture i
@@ -64,17 +66,20 @@ module _ (g : List ℕ) (i : ℕ) (few : i < tableIndices) where
         go (yes e) = absurd (false≢true (sym off-not ∙ rw e at o))
         go (no ne) = (ne, sym (off-other j ne) ∙ o)
 
-    -- THE VIEW after it
+    -- its slot then
+    abbrev offSlot : List ℕ → Slot Held
+    offSlot r = record { owned = false; extent = extentOf g i; held = heldOf (numbersOf g) startHalf g r i }
+
+    -- THE VIEW
     pub off-view : (r : List ℕ) → i < getD g texturesAt 0
-        → scopeOf (set g (ownedAt i) 0) r ≡ withSlots (scopeOf g r) (set (scopeOf g r .slots) i (record { owned = false; extent = extentOf g i; held = heldOf (numbersOf g) startHalf g r i }))
+        → scopeOf (set g (ownedAt i) 0) r ≡ withSlots (scopeOf g r) (set (scopeOf g r .slots) i (offSlot r))
     unfolding scopeOf
     off-view r h =
-        let n = numbersOf g in let f = off-one in
-        let q : SlotFrame (getD g texturesAt 0) i (heldOf n startHalf g r) (heldOf n startHalf (set g (ownedAt i) 0) r) g (set g (ownedAt i) 0) =
+        let n = numbersOf g in let g₁ = set g (ownedAt i) 0 in let f = off-one in
+        let q : SlotFrame (getD g texturesAt 0) i (heldOf n startHalf g r) (heldOf n startHalf g₁ r) g g₁ =
         record { head = owned-keeps f .words; others = λ j a ne. slot-stays f n r j (off-other j ne) } in
-        ap (λ (y : Numbers). setWith (heldOf y startHalf (set g (ownedAt i) 0) r) (set g (ownedAt i) 0)) (numbers-stay (owned-keeps f))
-        ∙ set-becomes (record { owned = false; extent = extentOf g i; held = heldOf n startHalf g r i }) h q
-        (λ k. record { owned = off-not k; extent = extent-stays f i k; held = held-stays f n r i k })
+        ap (λ (y : Numbers). setWith (heldOf y startHalf g₁ r) g₁) (numbers-stay (owned-keeps f))
+        ∙ set-becomes (offSlot r) h q (λ k. record { owned = off-not k; extent = extent-stays f i k; held = held-stays f n r i k })
 
 -- ---- The scope without some of its textures
 pub record Fewer (g g₁ : List ℕ) : Type 0 where
@@ -82,7 +87,8 @@ pub record Fewer (g g₁ : List ℕ) : Type 0 where
   pub less : (j : ℕ) → ownedOf g₁ j ≡ true → ownedOf g j ≡ true
 
 -- without the first k that are listed
-pub fewer : (is g : List ℕ) (k : ℕ) → ((j : ℕ) → j < length is → getD is j 0 < tableIndices) → length g ≡ tableLength → Fewer g (disowned (take k is) g)
+pub fewer : (is g : List ℕ) (k : ℕ) → ((j : ℕ) → j < length is → getD is j 0 < tableIndices) → length g ≡ tableLength
+    → Fewer g (disowned (take k is) g)
 unfolding disowned
 fewer is g zero b long = record { words = stays-refl g; less = λ j o. o }
 fewer [] g (suc k) b long = record { words = stays-refl g; less = λ j o. o }
@@ -93,18 +99,14 @@ fewer (i ∷ is) g (suc k) b long =
       less = λ j o. off-still g i few long j (q .less j o) .1;
     }
 
-module _ {g g₁ : List ℕ} (v : Fewer g g₁) where
-  pub fewer-keeps : HeadStays g g₁
-  fewer-keeps = owned-keeps (v .words)
-
-  pub extent-same : (j : ℕ) → extentOf g₁ j ≡ extentOf g j
-  extent-same = extent-stays (v .words)
-
-  -- a texture that it owns still is ready
-  pub still-ready : {r : List ℕ} {j : ℕ} → ScopeTested g r → j < getD g texturesAt 0 → ownedOf g₁ j ≡ true → HalfReady startHalf g₁ r j (extentOf g₁ j)
-  still-ready {r} {j} q h o =
-      let y = q .slots j h .extent (v .less j o) in
-      let f : ScopeFrame (λ i. i < tableIndices) (numbersOf g) g r g₁ r = record { words = stays-more (λ i n. n) (λ i x z. z .head .owned) (v .words); ranges = stays-refl r } in
-      let same = ap (λ (d : Numbers). slotWith (heldOf d startHalf g₁ r) g₁ j) (numbers-stay fewer-keeps) ∙ slot-stays (v .words) (numbersOf g) r j (o ∙ sym (v .less j o)) in
-      subst (HalfReady startHalf g₁ r j) (sym (extent-same j))
-      (scope-still q (record { texture = h; mip = y .mip; top = y .mips; some = y .layer; low = y .layers; own = λ z. refl }) f same)
+-- a texture that it owns still is ready
+pub still-ready : {g g₁ r : List ℕ} {j : ℕ} → Fewer g g₁ → ScopeTested g r → j < getD g texturesAt 0 → ownedOf g₁ j ≡ true
+    → HalfReady startHalf g₁ r j (extentOf g₁ j)
+still-ready {g} {g₁} {r} {j} v q h o =
+    let f = v .words in let y = q .slots j h .extent (v .less j o) in
+    let same = ap (λ (d : Numbers). slotWith (heldOf d startHalf g₁ r) g₁ j) (numbers-stay (owned-keeps f))
+    ∙ slot-stays f (numbersOf g) r j (o ∙ sym (v .less j o)) in
+    let frame : ScopeFrame (λ i. i < tableIndices) (numbersOf g) g r g₁ r =
+    record { words = stays-more (λ i n. n) (λ i x z. z .head .owned) f; ranges = stays-refl r } in
+    subst (HalfReady startHalf g₁ r j) (sym (extent-stays f j))
+    (scope-still q (record { texture = h; mip = y .mip; top = y .mips; some = y .layer; low = y .layers; own = λ z. refl }) frame same)

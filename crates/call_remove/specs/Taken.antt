@@ -16,8 +16,9 @@ use Rattle.model.specs.Texture.{Held, Entry, ranged}
 use Rattle.model.specs.BoolLaws.{by-test}
 use Rattle.set_storage.specs.Stays.{only, onlyOwned, TrackerFrame}
 use Rattle.set_storage.specs.Frames.{Measured}
-use Rattle.set_storage.specs.Storage.{numbersOf, flagsOf, extentOf, ownedOf, ownedAt, startHalf, scopeOf, trackerOf, tableIndices, tableLength, texturesAt}
-use Rattle.set_checks.specs.Passed.{SparsePassed}
+use Rattle.set_storage.specs.Storage.{numbersOf, flagsOf, extentOf, ownedOf, startHalf, scopeOf, trackerOf}
+use Rattle.set_storage.specs.Storage.{ownedAt, texturesAt, tableIndices, tableLength}
+use Rattle.set_checks.specs.Passed.{TexturePassed, SparsePassed}
 use Rattle.set_ready.specs.Named.{within}
 use Rattle.set_ready.specs.Tested.{ScopeTested, TrackerTested}
 use Rattle.set_ready.specs.Half.{HeadStays, BothReady, tracker-keeps, flags-stay, measured-stays}
@@ -30,7 +31,7 @@ use Rattle.call_remove.specs.Gone.{Listed, disowned, set-zero, disowned-
 use Rattle.call_remove.specs.Removed.{Both, setsOf}
 use Rattle.call_remove.specs.Sparse.{given}
 use Rattle.call_remove.specs.Logs.{given-is, into-is}
-use Rattle.call_remove.specs.Fewer.{off-other, off-still, off-view, Fewer, fewer, fewer-keeps, extent-same, still-ready}
+use Rattle.call_remove.specs.Fewer.{owned-keeps, extent-stays, off-other, off-still, off-view, Fewer, fewer, still-ready}
 
 -- THE CONTRACT of one texture: the tracker takes it where the scope owns it, otherwise nothing changes; and the scope has it no more
 pub record TakenAt (t s e g r : List ℕ) (i : ℕ) (p : UsageFlags) (t′ s′ e′ g′ : List ℕ) : Type 0 where
@@ -66,28 +67,33 @@ taken-not {t} {s} {e} {g = g} {i = i} z = record {
 
 -- it does, and its word of ownership becomes 0
 pub taken-own : {t s e g r : List ℕ} {i : ℕ} {p : UsageFlags} {t′ s′ e′ : List ℕ} → (getD g (ownedAt i) 0 ≡ 0 → ⊥)
-    → SlotSet (onlyOwned g i) t s e i (slotAfter p startHalf startHalf g r r i (slotOf t s e i)) t′ s′ e′ → TakenAt t s e g r i p t′ s′ e′ (set g (ownedAt i) 0)
-taken-own {g = g} {i = i} z q = record { into = q; free = λ o. absurd (false≢true (sym o ∙ rw (ne-eqb (getD g (ownedAt i) 0) 0 z))); gone = refl }
+    → SlotSet (onlyOwned g i) t s e i (slotAfter p startHalf startHalf g r r i (slotOf t s e i)) t′ s′ e′
+    → TakenAt t s e g r i p t′ s′ e′ (set g (ownedAt i) 0)
+taken-own {g = g} {i = i} z q =
+    record { into = q; free = λ o. absurd (false≢true (sym o ∙ rw (ne-eqb (getD g (ownedAt i) 0) 0 z))); gone = refl }
 
 -- it is the model's
-module _ {t s e g r : List ℕ} {i : ℕ} {p : UsageFlags} {t′ s′ e′ g′ : List ℕ} (q : TakenAt t s e g r i p t′ s′ e′ g′) (h : i < getD g texturesAt 0)
-    (few : i < tableIndices) (long : length g ≡ tableLength) where
+module _ {t s e g r : List ℕ} {i : ℕ} {p : UsageFlags} {t′ s′ e′ g′ : List ℕ} (q : TakenAt t s e g r i p t′ s′ e′ g′)
+    (few : i < tableIndices) (long : length g ≡ tableLength) (h : i < getD g texturesAt 0) where
   one-view : p ≡ flagsOf t → Measured (numbersOf t) startHalf t s → (ownedOf g i ≡ true → i < getD t texturesAt 0)
       → _≡_ {A = Both} (setsOf t′ s′ e′ g′ r) (sparseOne ranged i (setsOf t s e g r) .after)
   unfolding trackerOf
   one-view f m inside =
-      let z = given-is t s e g r i h in let own = ap (λ (y : Slot Held). y .owned) z in
-      by-test (λ (o : CallResult InvalidUse (List Entry) Both). _≡_ {A = Both} (setsOf t′ s′ e′ g′ r) (o .after)) (given (setsOf t s e g r) i .owned)
+      let z = given-is t s e g r i h in let own = sym (ap (λ (y : Slot Held). y .owned) z) in
+      by-test (λ (o : CallResult InvalidUse (List Entry) Both). _≡_ {A = Both} (setsOf t′ s′ e′ g′ r) (o .after))
+      (given (setsOf t s e g r) i .owned)
       (λ o.
-      let y = sym own ∙ o in
-      let x = rw y at (slot-only (λ j n. n .0) (q .into)) in
-      let ss = subst (λ (y : UsageFlags). SlotSet (only i) t s e i (setSlot ranged y (extentOf g i) (givenAt startHalf g r i) (givenAt startHalf g r i) (slotOf t s e i)) t′ s′ e′) f x in
-      rw (z, into-is t s e g r i (inside y)) (λ j. (slot-view m (inside y) ss j, (ap (λ (y : List ℕ). scopeOf y r) (q .gone) ∙ off-view g i few long r h) j)))
+      let b = inside (own ∙ o) in let x = givenAt startHalf g r i in
+      let y = subst (λ (y : UsageFlags). SlotSet (only i) t s e i (setSlot ranged y (extentOf g i) x x (slotOf t s e i)) t′ s′ e′) f
+      (rw (own ∙ o) at (slot-only (λ j n. n .0) (q .into))) in
+      let w = ap (λ (y : List ℕ). scopeOf y r) (q .gone) ∙ off-view g i few long r h in
+      rw (z, into-is t s e g r i b) (λ j. (slot-view m b y j, w j)))
       (λ o.
-      let y = sym own ∙ o in let w = q .free y in let n = set-zero g (ownedAt i) (eqb-true _ _ (not-false _ y)) in
-      rw (w .0, w .1 .0, w .1 .1, q .gone, n))
+      let w = q .free (own ∙ o) in
+      rw (w .0, w .1 .0, w .1 .1, q .gone, set-zero g (ownedAt i) (eqb-true _ _ (not-false _ (own ∙ o)))))
 
--- ---- All that is listed, turn by turn: what is left of the list makes of the sets what all of it makes at entry, and a texture that the scope still owns is as it was
+-- ---- All that is listed, turn by turn: what is left of the list makes of the sets what all of it makes at entry, and the tracker's slots
+-- that the scope owns still are left
 pub record Taking (t s e g r is : List ℕ) (k : ℕ) (t₁ s₁ e₁ g₁ : List ℕ) : Type 0 where
   pub reached : k ≤ length is
   pub after : setsAfter t₁ s₁ e₁ g₁ r (drop k is) ≡ setsAfter t s e g r is
@@ -99,7 +105,8 @@ pub taking-start : (t s e g r is : List ℕ) → Taking t s e g r is 0 t s e g
 unfolding disowned
 taking-start t s e g r is = record { reached = omega arith; after = refl; gone = refl; walked = tracker-start (λ j l. tt) }
 
-module _ {t s e g r is : List ℕ} (w : Listing t s e g r is) {k : ℕ} {t₁ s₁ e₁ g₁ : List ℕ} (q : Taking t s e g r is k t₁ s₁ e₁ g₁) (h : k < length is) where
+module _ {t s e g r is : List ℕ} (w : Listing t s e g r is) {k : ℕ} {t₁ s₁ e₁ g₁ : List ℕ} (q : Taking t s e g r is k t₁ s₁ e₁ g₁)
+    (h : k < length is) where
   -- the index at k
   abbrev i : ℕ
   i = getD is k 0
@@ -111,52 +118,71 @@ module _ {t s e g r is : List ℕ} (w : Listing t s e g r is) {k : ℕ} {t₁ s�
   few : (j : ℕ) → j < length is → getD is j 0 < tableIndices
   few j l = omega (arith, w .passed .below j l, w .scope .measured .textures)
 
-  -- the scope is as it was, but that it owns less
+  -- the scope owns less
   scope-now : Fewer g g₁
   scope-now = subst (Fewer g) (sym (q .gone)) (fewer is g k few (w .scope .measured .table))
 
-  long-now : length g₁ ≡ tableLength
-  long-now = scope-now .words .long ∙ w .scope .measured .table
+  -- the checks of a listed index that it owns
+  owned-passed : (j : ℕ) → j ≡ i → ownedOf g₁ j ≡ true → TexturePassed t j (extentOf g j)
+  owned-passed j e o = rw e (w .passed .each k h (scope-now .less i (rw e at o)))
 
-  -- the index at k is ready
+  -- index i is ready
   pub taking-ready : {p : UsageFlags} → p ≡ flagsOf t → SetsAt t₁ s₁ e₁ i startHalf startHalf g₁ r r p
   taking-ready f =
-      let v = scope-now in let b = w .passed .below k h in
-      let half : ownedOf g₁ i ≡ true → HalfGiven t₁ i (extentOf g₁ i) startHalf g₁ r = λ o. let y = still-ready v (w .scope) b o in let x = y .texture in record {
+      let v = scope-now in
+      let half : ownedOf g₁ i ≡ true → HalfGiven t₁ i (extentOf g₁ i) startHalf g₁ r = λ o.
+      let y = still-ready v (w .scope) (w .passed .below k h) o in let x = y .texture in record {
         measured = y .measured;
         texture = x .texture;
-        flags = flags-stay (fewer-keeps v) ∙ w .passed .flags ∙ sym (flags-stay keeps);
+        flags = flags-stay (owned-keeps (v .words)) ∙ w .passed .flags ∙ sym (flags-stay keeps);
         extent = refl;
         fits = record { mip = x .mip; mips = x .top; layer = x .some; layers = x .low };
         held = y .held o;
       } in
       record {
         index = few k h;
-        ready = λ o. subst (BothReady t₁ s₁ e₁ i) (sym (extent-same v i)) (left-ready (q .walked) (w .tracker) (w .passed .each k h (v .less i o)) o);
+        ready = λ o.
+            subst (BothReady t₁ s₁ e₁ i) (sym (extent-stays (v .words) i)) (left-ready (q .walked) (w .tracker) (owned-passed i refl o) o);
         given = λ o. record { flags = f ∙ sym (flags-stay keeps); start = half o; end = half o };
       }
 
-  -- one more is taken
-  pub taking-turn : {t₂ s₂ e₂ g₂ : List ℕ} {p : UsageFlags} → p ≡ flagsOf t → TakenAt t₁ s₁ e₁ g₁ r i p t₂ s₂ e₂ g₂ → Taking t s e g r is (k + 1) t₂ s₂ e₂ g₂
-  unfolding disowned
-  taking-turn {t₂} {s₂} {e₂} {g₂} f z =
-      let v = scope-now in
-      let rest : drop k is ≡ i ∷ drop (k + 1) is = rw add-one (drop-cons is k 0 h) in
-      let passed : (j : ℕ) → j ≡ i → ownedOf g₁ j ≡ true → j < getD t texturesAt 0 = λ j e o.
-      subst (λ (y : ℕ). y < getD t texturesAt 0) (sym e) (w .passed .each k h (v .less i (subst (λ (y : ℕ). ownedOf g₁ y ≡ true) e o)) .texture) in
-      let view = one-view z (rw (fewer-keeps v .words texturesAt (omega arith)) (w .passed .below k h)) (few k h) long-now (f ∙ sym (flags-stay keeps))
-      (measured-stays keeps (q .walked .frame .starts .long) (w .tracker .starts)) (λ o. rw (keeps .words texturesAt (omega arith)) (passed i refl o)) in
-      record {
-        reached = omega arith;
-        after = ap (λ (y : Both). sparseAll ranged (drop (k + 1) is) y .after) view ∙ sym (ap (λ (l : List ℕ). setsAfter t₁ s₁ e₁ g₁ r l) rest) ∙ q .after;
-        gone = z .gone ∙ rw (add-one, take-suc is k 0 h, disowned-last (take k is) i g, q .gone);
-        walked = tracker-turn (q .walked) (w .tracker .starts)
-            (λ j n. (n .0, (passed j (n .0) (n .1), record { at = k; below = h; here = sym (n .0); owned = v .less j (n .1) }))) (z .into .frame)
-            (λ o. walked-turn _ _ _ (q .walked .slots) o (λ b. tt) (λ j ne l. rw (z .gone) (off-other g₁ i (few k h) j ne ∙ l)) (λ j l. off-still g₁ i (few k h) long-now j (rw (z .gone) at l)));
-      }
+  module _ {t₂ s₂ e₂ g₂ : List ℕ} {p : UsageFlags} (f : p ≡ flagsOf t) (z : TakenAt t₁ s₁ e₁ g₁ r i p t₂ s₂ e₂ g₂) where
+    long-now : length g₁ ≡ tableLength
+    long-now = scope-now .words .long ∙ w .scope .measured .table
+
+    -- what is left of the list after it
+    after-turn : setsAfter t₂ s₂ e₂ g₂ r (drop (k + 1) is) ≡ setsAfter t s e g r is
+    after-turn =
+        let rest : drop k is ≡ i ∷ drop (k + 1) is = rw add-one (drop-cons is k 0 h) in
+        let m : Measured (numbersOf t₁) startHalf t₁ s₁ = measured-stays keeps (q .walked .frame .starts .long) (w .tracker .starts) in
+        let v = owned-keeps (scope-now .words) in
+        let below : i < getD g₁ texturesAt 0 = rw (v .words texturesAt (omega arith)) (w .passed .below k h) in
+        let view = one-view z (few k h) long-now below (f ∙ sym (flags-stay keeps)) m
+        (λ o. rw (keeps .words texturesAt (omega arith)) (owned-passed i refl o .texture)) in
+        ap (λ (y : Both). sparseAll ranged (drop (k + 1) is) y .after) view ∙ sym (ap (setsAfter t₁ s₁ e₁ g₁ r) rest) ∙ q .after
+
+    -- one more is taken
+    pub taking-turn : Taking t s e g r is (k + 1) t₂ s₂ e₂ g₂
+    taking-turn =
+        let listed : (j : ℕ) → onlyOwned g₁ i j → (j ≡ i) × within t (Listed is g) j = λ j n. (
+          n .0,
+          (
+            owned-passed j (n .0) (n .1) .texture,
+            record { at = k; below = h; here = sym (n .0); owned = scope-now .less j (n .1) },
+          ),
+        ) in
+        record {
+          reached = omega arith;
+          after = after-turn;
+          gone = z .gone ∙ rw (add-one, take-suc is k 0 h, disowned-last (take k is) i g, q .gone);
+          walked = tracker-turn (q .walked) (w .tracker .starts) listed (z .into .frame) (λ o.
+              walked-turn _ _ _ (q .walked .slots) o (λ b. tt) (λ j ne l. rw (z .gone) (off-other g₁ i (few k h) j ne ∙ l))
+              (λ j l. off-still g₁ i (few k h) long-now j (rw (z .gone) at l)));
+        }
 
 -- the list is at its end
-pub taking-end : {t s e g r is : List ℕ} {k : ℕ} {t₁ s₁ e₁ g₁ : List ℕ} → Taking t s e g r is k t₁ s₁ e₁ g₁ → length is ≤ k → Takes t s e g r is t₁ s₁ e₁ g₁
+pub taking-end : {t s e g r is : List ℕ} {k : ℕ} {t₁ s₁ e₁ g₁ : List ℕ} → Taking t s e g r is k t₁ s₁ e₁ g₁ → length is ≤ k
+    → Takes t s e g r is t₁ s₁ e₁ g₁
 taking-end {t} {s} {e} {g} {r} {is} {k} {t₁} {s₁} {e₁} {g₁} q past =
     let n : drop k is ≡ [] = let z : k ≡ length is = omega (arith, q .reached) in rw z (drop-length is) in
     let a : setsOf t₁ s₁ e₁ g₁ r ≡ setsAfter t s e g r is = sym (ap (λ (l : List ℕ). setsAfter t₁ s₁ e₁ g₁ r l) n) ∙ q .after in

@@ -1,4 +1,4 @@
--- A walk over slots that are changed one by one: which are done, which are left as they were, and that the model's walks make the same of them.
+-- A walk over slots that changes them one by one: which are done, which are left as they were, and that the model's walks give the same.
 use Prim.Native.Nat.{ℕ, zero, suc, _+_, _≤_, _<_}
 use native.Mathlib.Decide.{ℕ-discrete}
 use native.Mathlib.Omega.{arith}
@@ -19,16 +19,18 @@ module _ {A : Type 0} (n : ℕ) (R : ℕ → A → A → Type 0) (before : ℕ �
   walked-start d = record { done = λ j h. d j; same = λ j h l. refl }
 
   -- slot k is done, and no other changed
-  pub walked-turn : {left next : ℕ → Type 0} {now after : ℕ → A} {k : ℕ} → Walked left now → ((j : ℕ) → j < n → (j ≡ k → ⊥) → after j ≡ now j)
-      → (k < n → R k (before k) (after k)) → ((j : ℕ) → (j ≡ k → ⊥) → left j → next j) → ((j : ℕ) → next j → (j ≡ k → ⊥) × left j) → Walked next after
-  walked-turn {left} {next} {now} {after} {k} q others r up down = record {
-    done = λ j h out. go j h out (ℕ-discrete j k);
-    same = λ j h y. let d = down j y in others j h (d .0) ∙ q .same j h (d .1);
-  }
-    where
-      go : (j : ℕ) → j < n → (next j → ⊥) → Dec (j ≡ k) → R j (before j) (after j)
-      go j h out (yes e) = subst (λ (i : ℕ). R i (before i) (after i)) (sym e) (r (subst (λ (i : ℕ). i < n) e h))
-      go j h out (no ne) = subst (R j (before j)) (sym (others j h ne)) (q .done j h (λ y. out (up j ne y)))
+  module _ {left next : ℕ → Type 0} {now after : ℕ → A} {k : ℕ} (q : Walked left now)
+      (others : (j : ℕ) → j < n → (j ≡ k → ⊥) → after j ≡ now j) where
+    pub walked-turn : (k < n → R k (before k) (after k)) → ((j : ℕ) → (j ≡ k → ⊥) → left j → next j)
+        → ((j : ℕ) → next j → (j ≡ k → ⊥) × left j) → Walked next after
+    walked-turn r up down = record {
+      done = λ j h out. go j h out (ℕ-discrete j k);
+      same = λ j h y. let d = down j y in others j h (d .0) ∙ q .same j h (d .1);
+    }
+      where
+        go : (j : ℕ) → j < n → (next j → ⊥) → Dec (j ≡ k) → R j (before j) (after j)
+        go j h out (yes e) = subst (λ (i : ℕ). R i (before i) (after i)) (sym e) (r (subst (λ (i : ℕ). i < n) e h))
+        go j h out (no ne) = subst (R j (before j)) (sym (others j h ne)) (q .done j h (λ y. out (up j ne y)))
 
   -- by ascending index: those from k on are left
   pub walked-next : {k : ℕ} {now after : ℕ → A} → Walked (λ j. k ≤ j) now → ((j : ℕ) → j < n → (j ≡ k → ⊥) → after j ≡ now j)
@@ -89,5 +91,6 @@ module _ {A B : Type 0} (f : ℕ → A → B → A) where
   pub over-end : (F H : ℕ → A) (G : ℕ → B) (n m : ℕ) → Walked n (λ j x y. y ≡ f j x (G j)) F (λ j. m ≤ j) H
       → listFrom H 0 n ≡ over₂ f 0 (listFrom F 0 n) (listFrom G 0 m)
   over-end F H G n m q =
-      let w = walk-end {C = ℕ} (λ j x y. fine (f j x y)) F H G n m (record { done = λ j h o. ap fine (sym (q .done j h o)); same = q .same }) in
-      ap (λ (y : Stop ℕ (List A)). y .value) (sym w ∙ over-walk 0 (listFrom F 0 n) (listFrom G 0 m))
+      let z : Walked n (λ j x y. fine {C = ℕ} (f j x (G j)) ≡ fine y) F (λ j. m ≤ j) H =
+      record { done = λ j h o. ap fine (sym (q .done j h o)); same = q .same } in
+      ap (λ (y : Stop ℕ (List A)). y .value) (sym (walk-end _ F H G n m z) ∙ over-walk 0 (listFrom F 0 n) (listFrom G 0 m))

@@ -19,13 +19,14 @@ loop-holds c = (omega arith, setting-start _ _ _ _)
 
 set-at-requires : tie.Need-set-at-requires Inv-loop μ-loop
 set-at-requires c κs =
-    let p = c .before .before .before .before .before .before .before .before .before .pre in
-    setting-ready (p .0) (c .before .before .before .before .loop .inv .1) (rw (p .1 .0) at (c .before .before .before .loop-test .taken)) (p .1 .1)
+    let l = c .before .before .before in let p = l .before .before .before .before .before .before .pre in
+    setting-ready (p .0) (l .before .loop .inv .1) (rw (p .1 .0) at (l .loop-test .taken)) (p .1 .1)
 
 add-k : tie.Need-add-k Inv-loop μ-loop
 add-k c =
     let l = c .before .before .before .before .before .before .before .before in
-    let p = l .before .before .before .before .before .before .pre in omega (arith, p .0 .given .start .textures, l .loop-test .taken, p .1 .0)
+    let p = l .before .before .before .before .before .before .pre in
+    omega (arith, p .0 .given .start .textures, l .loop-test .taken, p .1 .0)
 
 loop-less : tie.Need-loop-less Inv-loop μ-loop
 loop-less c = omega (arith, c .before .before .before .before .before .before .before .before .loop-test .taken)
