@@ -6,35 +6,24 @@ use mathlib.Core.List.{List, [], _∷_, _++_, append-assoc, append-nil}
 use Rattle.model.specs.Base.{each, eachAt₂, over₂}
 use Rattle.model.specs.ListLaws.{each-append}
 use Rattle.set_storage.specs.Storage.{listFrom}
-use Rattle.set_storage.specs.Lists.{list-ext}
 use Rattle.log_head.specs.UpTo.{upTo}
 
--- ---- `over₂`
-module _ {A B : Type 0} (f : ℕ → A → B → A) (F H : ℕ → A) (G : ℕ → B) where
-  -- f where both lists go on, and the first as it was past the second
-  pub over-list : (k n m : ℕ) → ((x : ℕ) → k ≤ x → x < k + n → x < k + m → H x ≡ f x (F x) (G x)) → ((x : ℕ) → k + m ≤ x → x < k + n → H x ≡ F x)
-      → listFrom H k n ≡ over₂ f k (listFrom F k n) (listFrom G k m)
-  unfolding listFrom
-  over-list k zero m a b = refl
-  over-list k (suc n) zero a b = rw (b k (omega arith) (omega arith), list-ext F H (suc k) n (λ x p q. b x (omega arith) (omega arith)))
-  over-list k (suc n) (suc m) a b =
-      rw (a k (omega arith) (omega arith) (omega arith), over-list (suc k) n m (λ x p q r. a x (omega arith) (omega arith) (omega arith)) (λ x p q. b x (omega arith) (omega arith)))
-
--- the second list of another kind
+-- ---- Where the second list is of another kind
+-- `over₂`
 pub over-same : {A B D : Type 0} (f : ℕ → A → B → A) (g : ℕ → A → D → A) (F : ℕ → B) (G : ℕ → D) → ((x : ℕ) (y : A) → f x y (F x) ≡ g x y (G x)) → (s : List A) (k n : ℕ) → over₂ f k s (listFrom F k n) ≡ over₂ g k s (listFrom G k n)
 unfolding listFrom
 over-same f g F G e [] k n = refl
 over-same f g F G e (y ∷ s) k zero = refl
 over-same f g F G e (y ∷ s) k (suc n) = rw (e k y, over-same f g F G e s (suc k) n)
 
--- and of what each pair makes
+-- `eachAt₂`
 pub each-same : {A B D E : Type 0} (f : ℕ → A → B → List E) (g : ℕ → A → D → List E) (F : ℕ → B) (G : ℕ → D) → ((x : ℕ) (y : A) → f x y (F x) ≡ g x y (G x)) → (s : List A) (k n : ℕ) → eachAt₂ f k s (listFrom F k n) ≡ eachAt₂ g k s (listFrom G k n)
 unfolding listFrom
 each-same f g F G e [] k n = refl
 each-same f g F G e (y ∷ s) k zero = refl
 each-same f g F G e (y ∷ s) k (suc n) = rw (e k y, each-same f g F G e s (suc k) n)
 
--- ---- `eachAt₂`
+-- ---- What each pair makes
 -- what h makes at k, k + 1 and so on, n of them
 unfoldable allFrom : {A : Type 0} → (ℕ → List A) → ℕ → ℕ → List A
 allFrom h k zero = []

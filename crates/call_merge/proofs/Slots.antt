@@ -5,101 +5,72 @@ use mathlib.Core.Path.{_≡_, refl, sym, ap, subst, _∙_}
 use mathlib.Core.Bool.{Bool, true, false}
 use mathlib.Core.List.{List}
 use mathlib.Core.Option.{Option, none, some}
-use lib.ListN.{length, getD, set, drop}
-use lib.Seq.{set-out}
-use borrow.Author.Tests.{lt-ltb, le-ltb}
+use lib.ListN.{getD}
 use Rattle.model.specs.declared.UsageFlags.{UsageFlags}
 use Rattle.model.specs.declared.InvalidUse.{InvalidUse}
 use Rattle.model.specs.declared.Outcome.the-variants as outcome
-use Rattle.model.specs.Base.{Stop, walk}
+use Rattle.model.specs.Base.{Stop, fine}
 use Rattle.model.specs.Refusals.{trackerIndex}
-use Rattle.model.specs.Sets.{Numbers, Slot, Set, withSlots, emptySlot}
+use Rattle.model.specs.Sets.{Numbers, Slot}
 use Rattle.model.specs.Calls.{Indexed, answer, mergeGiven}
 use Rattle.model.specs.Log.{outcomeOf}
-use Rattle.model.specs.Texture.{Held, single, ranged}
-use Rattle.model.specs.BoolLaws.{by-lt}
-use Rattle.set_storage.specs.Storage.{numbersOf, flagsOf, extentOf, ownedOf, startHalf, scopeOf, texturesAt}
-use Rattle.set_storage.specs.Lists.{list-at, list-long}
-use Rattle.set_storage.specs.Stays.{only, onlyOwned, ownedBy, keeps-refl, keeps-then, keeps-more, ScopeFrame}
-use Rattle.set_storage.specs.Frames.{Measured}
-use Rattle.set_storage.specs.Slots.{scope-head}
+use Rattle.model.specs.Texture.{Held, ranged}
+use Rattle.set_storage.specs.Storage.{numbersOf, extentOf, ownedOf, startHalf, heldOf, slotWith, scopeOf, listFrom, texturesAt}
+use Rattle.set_storage.specs.Stays.{onlyOwned, ownedBy, keeps-refl, keeps-then, keeps-more, ScopeFrame}
 use Rattle.texture_merge.specs.declared.Stopped.{Stopped}
 use Rattle.texture_merge.specs.declared.Stopped.the-variants.{Nowhere, At}
-use Rattle.texture_merge.specs.Walking.{Walking, walk-start, walk-turn, walk-stop, walk-rest, walk-end}
 use Rattle.set_ready.specs.Tested.{half-fits}
-use Rattle.set_ready.specs.Half.{HalfReady, scope-keeps, numbers-stay, flags-stay, measured-stays, scope-still}
+use Rattle.set_ready.specs.Half.{HalfReady, HeadStays, scope-keeps, numbers-stay, flags-stay, measured-stays, scope-still}
 use Rattle.set_ready.specs.Answers.{indexed, metAt}
-use Rattle.call_merge.specs.Slot.{slotOf, TakenTexture, OwnedReady, SlotMerged, slot-only, slot-view, slot-other}
+use Rattle.set_ready.specs.Walked.{Walked, walked-start, walked-next, walk-end, walk-stop}
+use Rattle.set_ready.specs.TrackerWalk.{set-view}
+use Rattle.call_merge.specs.Slot.{slotOf, TakenTexture, OwnedReady, SlotMerged, slot-only, slot-other}
 use Rattle.call_merge.specs.Scope.{mergedSlots, SlotsReady, SlotsMerged}
-use Rattle.call_merge.proofs.Beside.{beside, walk-beside, walk-past}
 
--- what the given scope makes of texture j
-abbrev step : UsageFlags → List ℕ → List ℕ → ℕ → Slot Held → Stop (Indexed InvalidUse) (Slot Held)
-step p g l = beside (mergeGiven ranged p) (slotOf g l) (getD g texturesAt 0)
+-- what the given scope makes of texture j, where it met no conflict
+abbrev Became : UsageFlags → List ℕ → List ℕ → ℕ → Slot Held → Slot Held → Type 0
+Became p g l j x y = mergeGiven ranged p j x (slotOf g l j) ≡ fine y
 
 -- ---- THE INVARIANT: the textures below k are done, and the others read as at entry
 pub record Merging (p : UsageFlags) (t₀ r₀ g l : List ℕ) (k : ℕ) (t r : List ℕ) : Type 0 where
   pub within : k ≤ getD g texturesAt 0
-  pub walking : Walking (step p g l) (scopeOf t₀ r₀ .slots) k (scopeOf t r .slots)
-  pub whole : scopeOf t r ≡ withSlots (scopeOf t₀ r₀) (scopeOf t r .slots)
-  pub left : (j : ℕ) → k ≤ j → j < getD t₀ texturesAt 0 → slotOf t r j ≡ slotOf t₀ r₀ j
+  pub slots : Walked (getD t₀ texturesAt 0) (Became p g l) (slotOf t₀ r₀) (λ j. k ≤ j) (slotOf t r)
   pub frame : ScopeFrame (ownedBy g) (numbersOf t₀) t₀ r₀ t r
 
 pub start : (p : UsageFlags) (t r g l : List ℕ) → Merging p t r g l 0 t r
-start p t r g l = record {
-  within = omega arith;
-  walking = walk-start (step p g l) (scopeOf t r .slots);
-  whole = refl;
-  left = λ j a b. refl;
-  frame = keeps-refl t r;
-}
+start p t r g l = record { within = omega arith; slots = walked-start _ _ _ (λ j l. absurd (l (omega arith))); frame = keeps-refl t r }
 
--- the walk of both, as the invariant has it
-slots-are : (p : UsageFlags) (t r g l : List ℕ) → mergedSlots p t r g l ≡ walk (step p g l) 0 (scopeOf t r .slots)
+-- what a walk gives that leaves these textures, and the view then
+walk-gives : {named : ℕ → Type 0} {w : Stop (Indexed InvalidUse) (List (Slot Held))} {o : Option (Indexed InvalidUse)} {t₀ r₀ t r : List ℕ}
+    → w ≡ record { value = listFrom (slotOf t r) 0 (getD t₀ texturesAt 0); conflict = o } → ScopeFrame named (numbersOf t₀) t₀ r₀ t r
+    → SlotsMerged named w t₀ r₀ (outcomeOf (answer o)) t r
 unfolding scopeOf
-slots-are p t r g l = walk-beside (mergeGiven ranged p) (slotOf g l) (getD g texturesAt 0) 0 (getD g texturesAt 0) (scopeOf t r .slots) (omega arith)
-
-slot-at : (t r : List ℕ) (k : ℕ) → k < getD t texturesAt 0 → getD (scopeOf t r .slots) k (emptySlot (single 0)) ≡ slotOf t r k
-unfolding scopeOf
-slot-at t r k h = list-at (slotOf t r) (getD t texturesAt 0) k (emptySlot (single 0)) h
-
-slots-long : (t r : List ℕ) → length (scopeOf t r .slots) ≡ getD t texturesAt 0
-unfolding scopeOf
-slots-long t r = list-long (slotOf t r) 0 (getD t texturesAt 0)
+walk-gives {named} {o = o} {t₀} {r₀} {t} {r} e f =
+    subst (λ (w : Stop (Indexed InvalidUse) (List (Slot Held))). SlotsMerged named w t₀ r₀ (outcomeOf (answer o)) t r) (sym e)
+    (record { answer = refl; view = set-view _ (scope-keeps f); frame = f })
 
 module _ {p : UsageFlags} {t₀ r₀ g l : List ℕ} {k : ℕ} {t r : List ℕ} (m : Merging p t₀ r₀ g l k t r) where
-  word : (y : ℕ) → y < 8 → getD t y 0 ≡ getD t₀ y 0
-  word = scope-head (m .frame)
-
-  same-numbers : numbersOf t ≡ numbersOf t₀
-  same-numbers = numbers-stay (scope-keeps (m .frame))
-
-  same-flags : flagsOf t ≡ flagsOf t₀
-  same-flags = flags-stay (scope-keeps (m .frame))
-
   -- all were walked over
   pub finish : getD g texturesAt 0 ≤ k → SlotsMerged (ownedBy g) (mergedSlots p t₀ r₀ g l) t₀ r₀ outcome.Done t r
+  unfolding scopeOf
   finish h =
-      let y = walk-end (step p g l) (m .walking) (walk-rest (step p g l) k (drop k (scopeOf t r .slots)) (λ j x b. rw (le-ltb j (getD g texturesAt 0) (omega arith)))) in
-      subst (λ (w : Stop (Indexed InvalidUse) (List (Slot Held))). SlotsMerged (ownedBy g) w t₀ r₀ outcome.Done t r) (sym (slots-are p t₀ r₀ g l)) (record {
-        answer = ap (λ (o : Option (Indexed InvalidUse)). outcomeOf (answer o)) (y .1);
-        view = m .whole ∙ ap (withSlots (scopeOf t₀ r₀)) (y .0);
-        frame = m .frame;
-      })
+      let n = getD t₀ texturesAt 0 in let z : k ≡ getD g texturesAt 0 = omega (arith, m .within) in
+      let y = subst (λ (i : ℕ). Walked n (Became p g l) (slotOf t₀ r₀) (λ j. i ≤ j) (slotOf t r)) z (m .slots) in
+      walk-gives (walk-end (mergeGiven ranged p) (slotOf t₀ r₀) (slotOf t r) (slotOf g l) n (getD g texturesAt 0) y) (m .frame)
 
   module _ (q : SlotsReady t₀ r₀ g l p) (h : k < getD g texturesAt 0) where
-    measured-now : Measured (numbersOf t) startHalf t r
-    measured-now = measured-stays (scope-keeps (m .frame)) (m .frame .ranges .long) (q .into .measured)
+    keeps : HeadStays t₀ t
+    keeps = scope-keeps (m .frame)
 
     module _ (o : ownedOf g k ≡ true) where
       slot-now : HalfReady startHalf t r k (extentOf g k)
-      slot-now = let x = q .passed .each k h o in scope-still (q .into) x (m .frame) (m .left k (omega arith) (x .texture))
+      slot-now = let x = q .passed .each k h o in scope-still (q .into) x (m .frame) (m .slots .same k (x .texture) (omega arith))
 
       taken-now : TakenTexture t k (extentOf g k) g l p
       taken-now =
-          let f = q .given .slots k h in record {
-            flags = q .flags ∙ sym same-flags;
-            same = q .passed .flags ∙ sym same-flags;
+          let f = q .given .slots k h in let same = flags-stay keeps in record {
+            flags = q .flags ∙ sym same;
+            same = q .passed .flags ∙ sym same;
             extent = refl;
             measured = q .given .measured;
             texture = h;
@@ -113,40 +84,29 @@ module _ {p : UsageFlags} {t₀ r₀ g l : List ℕ} {k : ℕ} {t r : List ℕ} 
 
     -- ---- After a lap
     module _ {x : Stopped} {t′ r′ : List ℕ} (y : SlotMerged (onlyOwned g k) t r k (mergeGiven ranged p k (slotOf t r k) (slotOf g l k)) x t′ r′) where
-      at-k : SlotMerged (only k) t r k (mergeGiven ranged p k (slotOf t r k) (slotOf g l k)) x t′ r′
-      at-k = slot-only (λ j n. n .0) y
-
-      here : k < getD t texturesAt 0 → step p g l k (getD (scopeOf t r .slots) k (emptySlot (single 0))) ≡ mergeGiven ranged p k (slotOf t r k) (slotOf g l k)
-      here b = rw (slot-at t r k b, lt-ltb k (getD g texturesAt 0) h)
-
-      slots-now : scopeOf t′ r′ .slots ≡ set (scopeOf t r .slots) k (mergeGiven ranged p k (slotOf t r k) (slotOf g l k) .value)
-      slots-now = ap (λ (s : Set Held). s .slots) (slot-view measured-now at-k)
-
-      whole-now : scopeOf t′ r′ ≡ withSlots (scopeOf t₀ r₀) (scopeOf t′ r′ .slots)
-      whole-now = slot-view measured-now at-k ∙ ap (λ (s : Set Held). withSlots s (set (scopeOf t r .slots) k (mergeGiven ranged p k (slotOf t r k) (slotOf g l k) .value))) (m .whole) ∙ ap (withSlots (scopeOf t₀ r₀)) (sym slots-now)
-
       -- what it changed is of an index that the given scope owns
       frame-now : ScopeFrame (ownedBy g) (numbersOf t₀) t₀ r₀ t′ r′
       frame-now =
-          keeps-then (m .frame) (subst (λ (n : Numbers). ScopeFrame (ownedBy g) n t r t′ r′) same-numbers
+          keeps-then (m .frame) (subst (λ (n : Numbers). ScopeFrame (ownedBy g) n t r t′ r′) (numbers-stay keeps)
           (keeps-more (λ j n. (subst (λ (z : ℕ). z < getD g texturesAt 0) (sym (n .0)) h, n .1)) (λ j z o. o) (y .frame)))
 
-      walking-now : x ≡ Nowhere → Walking (step p g l) (scopeOf t₀ r₀ .slots) (k + 1) (scopeOf t′ r′ .slots)
-      walking-now e =
-          by-lt k (getD t texturesAt 0)
-          (λ b. walk-turn (step p g l) (m .walking) (emptySlot (single 0)) (rw (slots-long t r) b) (scopeOf t′ r′ .slots) (rw (here b) slots-now) (rw (here b) (sym (y .conflict) ∙ ap (metAt k) e)))
-          (λ b. let past : length (scopeOf t r .slots) ≤ k = rw (slots-long t r) b in
-          subst (Walking (step p g l) (scopeOf t₀ r₀ .slots) (k + 1)) (sym (slots-now ∙ set-out (scopeOf t r .slots) k _ past)) (walk-past (step p g l) (m .walking) past))
+      -- the other textures read as before it
+      others : (j : ℕ) → j < getD t₀ texturesAt 0 → (j ≡ k → ⊥) → slotOf t′ r′ j ≡ slotOf t r j
+      others j b ne =
+          slot-other (measured-stays keeps (m .frame .ranges .long) (q .into .measured)) (slot-only (λ i n. n .0) y) j
+          (rw (keeps .words texturesAt (omega arith)) b) ne
+
+      -- this one as it was merged
+      this : mergeGiven ranged p k (slotOf t r k) (slotOf g l k) ≡ record { value = slotOf t′ r′ k; conflict = metAt k x }
+      this =
+          let n : numbersOf t′ ≡ numbersOf t = numbers-stay (scope-keeps (y .frame)) in
+          let s : slotOf t′ r′ k ≡ mergeGiven ranged p k (slotOf t r k) (slotOf g l k) .value =
+          ap (λ (d : Numbers). slotWith (heldOf d startHalf t′ r′) t′ k) n ∙ y .slot in
+          sym (λ i. record { value = s i; conflict = y .conflict i })
 
       -- it met no conflict
       pub turn : x ≡ Nowhere → Merging p t₀ r₀ g l (k + 1) t′ r′
-      turn e = record {
-        within = omega arith;
-        walking = walking-now e;
-        whole = whole-now;
-        left = λ j a b. slot-other measured-now at-k j (rw (word 0 (omega arith)) b) (λ z. omega arith) ∙ m .left j (omega arith) b;
-        frame = frame-now;
-      }
+      turn e = record { within = omega arith; slots = walked-next _ _ _ (m .slots) others (λ b. rw e at this); frame = frame-now }
 
       -- it met one: the given scope owns the texture
       is-owned : (b : Bool) → ownedOf g k ≡ b → {c : InvalidUse} → x ≡ At c → ownedOf g k ≡ true
@@ -155,12 +115,10 @@ module _ {p : UsageFlags} {t₀ r₀ g l : List ℕ} {k : ℕ} {t r : List ℕ} 
           let n : metAt k x ≡ none = y .conflict ∙ rw e in let s : metAt k x ≡ some (indexed k c) = ap (metAt k) z in
           absurd (let w : _≡_ {A = ℕ} 0 1 = cc in omega arith)
 
-      pub stop : {c : InvalidUse} → x ≡ At c → SlotsMerged (ownedBy g) (mergedSlots p t₀ r₀ g l) t₀ r₀ (outcome.Conflict (record { index = trackerIndex k; found = c })) t′ r′
+      pub stop : {c : InvalidUse} → x ≡ At c
+          → SlotsMerged (ownedBy g) (mergedSlots p t₀ r₀ g l) t₀ r₀ (outcome.Conflict (record { index = trackerIndex k; found = c })) t′ r′
+      unfolding scopeOf
       stop {c} e =
-          let b : k < getD t texturesAt 0 = slot-now (is-owned (ownedOf g k) refl e) .texture .texture in
-          let s = walk-stop (step p g l) (m .walking) (emptySlot (single 0)) (rw (slots-long t r) b) (scopeOf t′ r′ .slots) (indexed k c) (rw (here b) slots-now) (rw (here b) (sym (y .conflict) ∙ ap (metAt k) e)) in
-          subst (λ (w : Stop (Indexed InvalidUse) (List (Slot Held))). SlotsMerged (ownedBy g) w t₀ r₀ (outcome.Conflict (record { index = trackerIndex k; found = c })) t′ r′) (sym (slots-are p t₀ r₀ g l)) (record {
-            answer = ap (λ (o : Option (Indexed InvalidUse)). outcomeOf (answer o)) (s .1);
-            view = whole-now ∙ ap (withSlots (scopeOf t₀ r₀)) (s .0);
-            frame = frame-now;
-          })
+          let b = q .passed .each k h (is-owned (ownedOf g k) refl e) .texture in
+          let w = walk-stop (mergeGiven ranged p) (slotOf t₀ r₀) (slotOf t′ r′) (slotOf g l) (m .slots) b h others (rw e at this) in
+          walk-gives w frame-now

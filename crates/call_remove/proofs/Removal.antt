@@ -30,8 +30,7 @@ use Rattle.set_checks.specs.Passed.{sparse-passed}
 use Rattle.set_ready.specs.Tested.{ScopeTested, TrackerTested}
 use Rattle.model.specs.declared.Answered.{Answered}
 use Rattle.log_head.specs.Log.{headWithin, refusedWith, movedOn}
-use Rattle.texture_barrier.specs.Adds.{Adds}
-use Rattle.log_head.specs.Called.{not-enough, written}
+use Rattle.log_head.specs.Called.{Wrote, not-enough, written}
 use Rattle.call_remove.specs.Removed.{Both, setsOf, Removed, Removes, away-own, removes-removed}
 use Rattle.call_remove.specs.Logs.{mostEntries, removedEntries, entries-model}
 use Rattle.call_remove.specs.Taken.{Listing, Takes, setsAfter}
@@ -43,10 +42,9 @@ module _ {t s e g r is l : List ℕ} {h : LogHead} where
   none-removed k = record { change = not-enough refl (refl, (refl, (refl, refl))) k; gone = λ q. absurd (omega arith); frame = both-refl t s e }
 
   -- written, and the textures changed
-  pub all-removed : {top k : ℕ} {t′ s′ e′ g′ l₂ : List ℕ} → length (removedEntries t e g r is) ≤ h .free → headWithin (length l / 7) h ≡ true
-      → Adds top true l (h .written) (removedEntries t e g r is) k l₂ → Takes t s e g r is t′ s′ e′ g′
+  pub all-removed : {k : ℕ} {t′ s′ e′ g′ l₂ : List ℕ} → Wrote (removedEntries t e g r is) h l k l₂ → Takes t s e g r is t′ s′ e′ g′
       → Removes is (removedEntries t e g r is) (setsAfter t s e g r is) h t s e g r l (movedOn h k) t′ s′ e′ g′ l₂
-  all-removed le f w q = record { change = written le f w (λ j. (q .tracker j, q .scope j)); gone = λ z. q .gone; frame = q .frame }
+  all-removed w q = record { change = written w (λ j. (q .tracker j, q .scope j)); gone = λ z. q .gone; frame = q .frame }
 
 -- ---- The call
 abbrev BothResult : Type 0

@@ -1,93 +1,112 @@
--- A scope that owns less than it did: one texture less, its view, and that it still passes the test.
-use Prim.Native.Nat.{ℕ, _≤_, _<_}
+-- A scope that owns less than it did: of its table some words of ownership became 0, so all else reads as it did.
+use Prim.Native.Nat.{ℕ, zero, suc, _<_}
+use native.Mathlib.Decide.{ℕ-discrete}
 use native.Mathlib.Omega.{arith}
 use mathlib.Core.Path.{_≡_, refl, sym, ap, subst, _∙_}
-use mathlib.Core.Logic.{_⊎_, inl, inr}
-use mathlib.Core.Bool.{true, false}
-use mathlib.Core.List.{List}
-use lib.ListN.{length, getD, set}
+use mathlib.Core.Bool.{true, false, false≢true}
+use mathlib.Core.List.{List, [], _∷_}
+use lib.ListN.{length, getD, set, take, length-set}
 use lib.Seq.{getD-set-same, getD-set-other}
 use borrow.Author.Tests.{eq-eqb}
-use Rattle.model.specs.declared.UsageFlags.{UsageFlags}
-use Rattle.model.specs.declared.Extent.{Extent}
-use Rattle.model.specs.Sets.{Numbers, withSlots}
-use Rattle.set_storage.specs.Storage.{numbersOf, flagsOf, extentOf, ownedOf, startHalf, countAt, heldOf, slotWith, setWith, scopeOf, layersAt, mipsAt, ownedAt, stateAt, tableLength, texturesAt}
-use Rattle.set_storage.specs.Frames.{Measured}
+use Rattle.model.specs.Sets.{Numbers, Slot, withSlots}
+use Rattle.model.specs.Texture.{Held}
+use Rattle.set_storage.specs.Storage.{numbersOf, extentOf, ownedOf, heldOf, slotWith, setWith, scopeOf, startHalf}
+use Rattle.set_storage.specs.Storage.{tableIndices, tableLength, texturesAt, complexAt, ownedAt, mipsAt, layersAt, stateAt, countAt}
+use Rattle.set_storage.specs.Stays.{Stays, only, stays-refl, stays-then, stays-more, stays-set, head-off, ScopeFrame}
 use Rattle.set_storage.specs.Slots.{SlotFrame, set-becomes, held-ext, mip-ext}
-use Rattle.agreement.specs.Fits.{ExtentFits, HeldFits, SlotFits}
 use Rattle.set_ready.specs.Tested.{ScopeTested}
+use Rattle.set_ready.specs.Half.{HalfReady, HeadStays, numbers-stay, scope-still}
+use Rattle.call_remove.specs.Gone.{disowned}
 
--- ---- The scope without texture i: its word of ownership is 0, and the view of all else stays
-module _ (g : List ℕ) (i : ℕ) where
-  -- every other word stays
-  pub off : (x : ℕ) → (x ≡ ownedAt i → ⊥) → getD (set g (ownedAt i) 0) x 0 ≡ getD g x 0
-  off x ne = getD-set-other g (ownedAt i) x 0 0 ne
+-- ---- Every word stays but some of ownership
+-- not the one of index i
+abbrev OffOwned : ℕ → ℕ → Type 0
+OffOwned i x = x ≡ ownedAt i → ⊥
 
-  -- what is held stays
-  off-held : (r : List ℕ) (d : Numbers) → i < 64 → (j : ℕ) → heldOf d startHalf (set g (ownedAt i) 0) r j ≡ heldOf d startHalf g r j
-  off-held r d few j =
-      held-ext d startHalf g r (set g (ownedAt i) 0) r j (off 5 (λ z. omega arith)) (off (mipsAt j) (λ z. omega arith)) (off (stateAt startHalf j) (λ z. omega arith))
-      (λ k q. mip-ext d startHalf g r (set g (ownedAt i) 0) r j k (off (countAt startHalf j k) (λ z. omega arith)) refl)
+module _ {named : ℕ → Type 0} {g g₁ : List ℕ} (f : Stays OffOwned named g g₁) where
+  -- the head
+  pub owned-keeps : HeadStays g g₁
+  owned-keeps = record { words = λ x q. f .same x (λ i _ _. head-off i x q .head .owned); long = f .long }
 
-  -- it is not owned
-  pub off-not : i < 64 → length g ≡ tableLength → ownedOf (set g (ownedAt i) 0) i ≡ false
-  off-not few long = rw (eq-eqb (getD (set g (ownedAt i) 0) (ownedAt i) 0) 0 (getD-set-same g (ownedAt i) 0 0 (omega arith)))
+  -- the extents
+  pub extent-stays : (j : ℕ) → extentOf g₁ j ≡ extentOf g j
+  extent-stays j = rw (f .same (mipsAt j) (λ i h _ z. omega arith), f .same (layersAt j) (λ i h _ z. omega arith))
 
-  -- THE VIEW after it
-  pub off-view : (r : List ℕ) → i < getD g texturesAt 0 → i < 64 → length g ≡ tableLength
-      → scopeOf (set g (ownedAt i) 0) r ≡ withSlots (scopeOf g r) (set (scopeOf g r .slots) i (record { owned = false; extent = extentOf g i; held = heldOf (numbersOf g) startHalf g r i }))
-  unfolding scopeOf
-  off-view r h few long =
-      let d : numbersOf (set g (ownedAt i) 0) ≡ numbersOf g = rw (off 0 (λ z. omega arith), off 1 (λ z. omega arith), off 2 (λ z. omega arith)) in
-      let n = numbersOf g in
-      let f : SlotFrame (getD g texturesAt 0) i (heldOf n startHalf g r) (heldOf n startHalf (set g (ownedAt i) 0) r) g (set g (ownedAt i) 0) = record {
-        head = λ x q. off x (λ z. omega arith);
-        others = λ j a ne. rw (off (ownedAt j) (λ z. ne (omega arith)), off (mipsAt j) (λ z. omega arith), off (layersAt j) (λ z. omega arith), off-held r n few j);
-      } in
-      let w : slotWith (heldOf n startHalf (set g (ownedAt i) 0) r) (set g (ownedAt i) 0) i ≡ record { owned = false; extent = extentOf g i; held = heldOf n startHalf g r i } =
-      rw (getD-set-same g (ownedAt i) 0 0 (omega arith), off (mipsAt i) (λ z. omega arith), off (layersAt i) (λ z. omega arith), off-held r n few i) in
-      ap (λ (y : Numbers). setWith (heldOf y startHalf (set g (ownedAt i) 0) r) (set g (ownedAt i) 0)) d ∙ set-becomes (record { owned = false; extent = extentOf g i; held = heldOf n startHalf g r i }) h f w
+  -- what is held
+  held-stays : (d : Numbers) (r : List ℕ) (j : ℕ) → heldOf d startHalf g₁ r j ≡ heldOf d startHalf g r j
+  held-stays d r j =
+      held-ext d startHalf g r g₁ r j (f .same complexAt (λ i h _ z. omega arith)) (f .same (mipsAt j) (λ i h _ z. omega arith))
+      (f .same (stateAt startHalf j) (λ i h _ z. omega arith))
+      (λ k q. mip-ext d startHalf g r g₁ r j k (f .same (countAt startHalf j k) (λ i h _ z. omega arith)) refl)
 
--- ---- The scope is as it was, but that it owns less
+  -- a slot, where it is owned as before
+  slot-stays : (d : Numbers) (r : List ℕ) (j : ℕ) → ownedOf g₁ j ≡ ownedOf g j
+      → slotWith (heldOf d startHalf g₁ r) g₁ j ≡ slotWith (heldOf d startHalf g r) g j
+  slot-stays d r j e = λ i. record { owned = e i; extent = extent-stays j i; held = held-stays d r j i }
+
+-- ---- The scope without texture i
+module _ (g : List ℕ) (i : ℕ) (few : i < tableIndices) where
+  off-one : Stays OffOwned (only i) g (set g (ownedAt i) 0)
+  off-one = stays-set g (ownedAt i) 0 few (λ x o. o)
+
+  -- another is owned as before
+  pub off-other : (j : ℕ) → (j ≡ i → ⊥) → ownedOf (set g (ownedAt i) 0) j ≡ ownedOf g j
+  off-other j ne = rw (getD-set-other g (ownedAt i) (ownedAt j) 0 0 (λ z. ne (omega arith)))
+
+  module _ (long : length g ≡ tableLength) where
+    -- it is not owned
+    off-not : ownedOf (set g (ownedAt i) 0) i ≡ false
+    off-not = rw (eq-eqb (getD (set g (ownedAt i) 0) (ownedAt i) 0) 0 (getD-set-same g (ownedAt i) 0 0 (omega arith)))
+
+    -- so what is owned still is another, and was owned
+    pub off-still : (j : ℕ) → ownedOf (set g (ownedAt i) 0) j ≡ true → (j ≡ i → ⊥) × (ownedOf g j ≡ true)
+    off-still j o = go (ℕ-discrete j i)
+      where
+        go : Dec (j ≡ i) → (j ≡ i → ⊥) × (ownedOf g j ≡ true)
+        go (yes e) = absurd (false≢true (sym off-not ∙ rw e at o))
+        go (no ne) = (ne, sym (off-other j ne) ∙ o)
+
+    -- its slot then
+    abbrev offSlot : List ℕ → Slot Held
+    offSlot r = record { owned = false; extent = extentOf g i; held = heldOf (numbersOf g) startHalf g r i }
+
+    -- THE VIEW
+    pub off-view : (r : List ℕ) → i < getD g texturesAt 0
+        → scopeOf (set g (ownedAt i) 0) r ≡ withSlots (scopeOf g r) (set (scopeOf g r .slots) i (offSlot r))
+    unfolding scopeOf
+    off-view r h =
+        let n = numbersOf g in let g₁ = set g (ownedAt i) 0 in let f = off-one in
+        let q : SlotFrame (getD g texturesAt 0) i (heldOf n startHalf g r) (heldOf n startHalf g₁ r) g g₁ =
+        record { head = owned-keeps f .words; others = λ j a ne. slot-stays f n r j (off-other j ne) } in
+        ap (λ (y : Numbers). setWith (heldOf y startHalf g₁ r) g₁) (numbers-stay (owned-keeps f))
+        ∙ set-becomes (offSlot r) h q (λ k. record { owned = off-not k; extent = extent-stays f i k; held = held-stays f n r i k })
+
+-- ---- The scope without some of its textures
 pub record Fewer (g g₁ : List ℕ) : Type 0 where
-  pub words : (x : ℕ) → (x < 8) ⊎ (72 ≤ x) → getD g₁ x 0 ≡ getD g x 0
+  pub words : Stays OffOwned (λ i. i < tableIndices) g g₁
   pub less : (j : ℕ) → ownedOf g₁ j ≡ true → ownedOf g j ≡ true
-  pub long : length g₁ ≡ length g
 
-module _ {g g₁ : List ℕ} (v : Fewer g g₁) where
-  -- N, M, W, the flags, the extents and what is held stay
-  numbers-same : numbersOf g₁ ≡ numbersOf g
-  numbers-same = rw (v .words 0 (inl (omega arith)), v .words 1 (inl (omega arith)), v .words 2 (inl (omega arith)))
+-- without the first k that are listed
+pub fewer : (is g : List ℕ) (k : ℕ) → ((j : ℕ) → j < length is → getD is j 0 < tableIndices) → length g ≡ tableLength
+    → Fewer g (disowned (take k is) g)
+unfolding disowned
+fewer is g zero b long = record { words = stays-refl g; less = λ j o. o }
+fewer [] g (suc k) b long = record { words = stays-refl g; less = λ j o. o }
+fewer (i ∷ is) g (suc k) b long =
+    let few : i < tableIndices = b 0 (omega arith) in
+    let q = fewer is (set g (ownedAt i) 0) k (λ j h. b (suc j) (omega arith)) (length-set g (ownedAt i) 0 ∙ long) in record {
+      words = stays-then (stays-more (λ j e. omega arith) (λ j x o. o) (off-one g i few)) (q .words);
+      less = λ j o. off-still g i few long j (q .less j o) .1;
+    }
 
-  pub flags-same : flagsOf g₁ ≡ flagsOf g
-  flags-same = rw (v .words 3 (inl (omega arith)), v .words 4 (inl (omega arith)), v .words 5 (inl (omega arith)), v .words 6 (inl (omega arith)))
-
-  pub extent-same : (j : ℕ) → extentOf g₁ j ≡ extentOf g j
-  extent-same j = rw (v .words (mipsAt j) (inr (omega arith)), v .words (layersAt j) (inr (omega arith)))
-
-  module _ {r : List ℕ} (q : ScopeTested g r) where
-    held-same : (j : ℕ) → heldOf (numbersOf g) startHalf g₁ r j ≡ heldOf (numbersOf g) startHalf g r j
-    held-same j =
-        held-ext (numbersOf g) startHalf g r g₁ r j (v .words 5 (inl (omega arith))) (v .words (mipsAt j) (inr (omega arith))) (v .words (stateAt startHalf j) (inr (omega arith)))
-        (λ k z. mip-ext (numbersOf g) startHalf g r g₁ r j k (v .words (countAt startHalf j k) (inr (omega arith))) refl)
-
-    -- a slot that it still owns fits
-    slot-fits : (j : ℕ) → j < getD g texturesAt 0 → SlotFits HeldFits (numbersOf g) (flagsOf g) (slotWith (heldOf (numbersOf g) startHalf g₁ r) g₁ j)
-    slot-fits j h =
-        let f = q .slots j h in
-        record {
-          extent = λ o. subst (ExtentFits (numbersOf g)) (sym (extent-same j)) (f .extent (v .less j o));
-          held = λ o. subst (λ (y : Extent). HeldFits (flagsOf g) y (heldOf (numbersOf g) startHalf g₁ r j)) (sym (extent-same j)) (subst (HeldFits (flagsOf g) (extentOf g j)) (sym (held-same j)) (f .held (v .less j o)));
-        }
-
-    -- so it passes the test
-    pub still-tested : ScopeTested g₁ r
-    still-tested =
-        let m = q .measured in
-        record {
-          measured = subst (λ (n : Numbers). Measured n startHalf g₁ r) (sym numbers-same) (record { dims = numbers-same; textures = m .textures; mips = m .mips; some = m .some; layers = m .layers; fits = m .fits; half = m .half; table = v .long ∙ m .table });
-          flags = rw flags-same (q .flags);
-          slots = λ j h.
-              subst (λ (n : Numbers). SlotFits HeldFits n (flagsOf g₁) (slotWith (heldOf n startHalf g₁ r) g₁ j)) (sym numbers-same)
-              (subst (λ (p : UsageFlags). SlotFits HeldFits (numbersOf g) p (slotWith (heldOf (numbersOf g) startHalf g₁ r) g₁ j)) (sym flags-same) (slot-fits j (rw (v .words 0 (inl (omega arith))) at h)));
-        }
+-- a texture that it owns still is ready
+pub still-ready : {g g₁ r : List ℕ} {j : ℕ} → Fewer g g₁ → ScopeTested g r → j < getD g texturesAt 0 → ownedOf g₁ j ≡ true
+    → HalfReady startHalf g₁ r j (extentOf g₁ j)
+still-ready {g} {g₁} {r} {j} v q h o =
+    let f = v .words in let y = q .slots j h .extent (v .less j o) in
+    let same = ap (λ (d : Numbers). slotWith (heldOf d startHalf g₁ r) g₁ j) (numbers-stay (owned-keeps f))
+    ∙ slot-stays f (numbersOf g) r j (o ∙ sym (v .less j o)) in
+    let frame : ScopeFrame (λ i. i < tableIndices) (numbersOf g) g r g₁ r =
+    record { words = stays-more (λ i n. n) (λ i x z. z .head .owned) f; ranges = stays-refl r } in
+    subst (HalfReady startHalf g₁ r j) (sym (extent-stays f j))
+    (scope-still q (record { texture = h; mip = y .mip; top = y .mips; some = y .layer; low = y .layers; own = λ z. refl }) frame same)

@@ -2,7 +2,7 @@
 use Prim.Native.Nat.{ℕ, zero, suc, _<_}
 use mathlib.Core.Path.{_≡_, refl, ap}
 use mathlib.Core.Bool.{true}
-use mathlib.Core.List.{List, [], _∷_}
+use mathlib.Core.List.{List, [], _∷_, _++_}
 use lib.ListN.{length, getD, set}
 use Rattle.set_storage.specs.Storage.{ownedAt, ownedOf}
 
@@ -17,6 +17,12 @@ pub record Listed (is g : List ℕ) (j : ℕ) : Type 0 where
 unfoldable pub disowned : List ℕ → List ℕ → List ℕ
 disowned [] g = g
 disowned (i ∷ is) g = disowned is (set g (ownedAt i) 0)
+
+-- one more at the end of the list
+pub disowned-last : (is : List ℕ) (i : ℕ) (g : List ℕ) → disowned (is ++ (i ∷ [])) g ≡ set (disowned is g) (ownedAt i) 0
+unfolding disowned
+disowned-last [] i g = refl
+disowned-last (x ∷ is) i g = disowned-last is i (set g (ownedAt x) 0)
 
 -- a word that is 0 may be made 0
 pub set-zero : (l : List ℕ) (k : ℕ) → getD l k 0 ≡ 0 → set l k 0 ≡ l

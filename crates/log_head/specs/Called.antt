@@ -77,20 +77,11 @@ module _ {X : Type 0} {before after : X} {same : Type 0} {fits : Bool} {m : Call
 
 -- ---- Counted, and written where they fit
 -- what fits in what is free fits where it is written
-pub room-for : (h : LogHead) (l : List ℕ) (new : List PendingTransition) → headWithin (length l / 7) h ≡ true → length new ≤ h .free → 7 * (h .written + length new) ≤ length l
+pub room-for : (h : LogHead) (l : List ℕ) (new : List PendingTransition) → headWithin (length l / 7) h ≡ true → length new ≤ h .free
+    → 7 * (h .written + length new) ≤ length l
 room-for h l new f k = omega (arith, head-le (length l / 7) h f)
 
-module _ {X : Type 0} {before after : X} {same : Type 0} {new : List PendingTransition} {become : X} {h : LogHead} {l : List ℕ} where
-  -- they do not fit
-  pub not-enough : after ≡ before → same → h .free < length new → Changed before after same new become h l (refusedWith NoFreeEntry h) l
-  not-enough e s k = record { few = λ q. (refl, (e, (s, refl))); enough = λ q. absurd (omega arith) }
-
-  -- they are written, and the sets change
-  pub written : {top k : ℕ} {l′ : List ℕ} → length new ≤ h .free → headWithin (length l / 7) h ≡ true → Adds top true l (h .written) new k l′ → after ≡ become
-      → Changed before after same new become h l (movedOn h k) l′
-  written le f w q = record { few = λ z. absurd (omega arith); enough = λ z. (ap (movedOn h) (w .count), (adds-added (room-for h l new f le) w, q)) }
-
--- ---- Whether they fit: they are counted, unless there is a free entry for every subresource
+-- they fit: they are counted, unless there is a free entry for every subresource
 pub record Fitting (new : List PendingTransition) (free : ℕ) (l l₁ : List ℕ) : Type 0 where
   pub fits : length new ≤ free
   pub same : l₁ ≡ l
@@ -101,3 +92,29 @@ module _ {new : List PendingTransition} {free : ℕ} {l l₁ : List ℕ} where
 
   pub all-fit : {top k : ℕ} → length new ≤ top → k ≡ top → k ≤ free → l₁ ≡ l → Fitting new free l l₁
   all-fit a e le s = record { fits = omega arith; same = s }
+
+-- they fit and are written: k tells how many, and so far the head can move on
+pub record Wrote (new : List PendingTransition) (h : LogHead) (l : List ℕ) (k : ℕ) (l′ : List ℕ) : Type 0 where
+  pub fits : length new ≤ h .free
+  pub count : k ≡ length new
+  pub into : Added l (h .written) new l′
+  pub moves : (k ≤ h .free) × (h .written + h .free < 18446744073709551616)
+
+pub wrote : {new : List PendingTransition} {h : LogHead} {l : List ℕ} {top k : ℕ} {l′ : List ℕ}
+    → (headWithin (length l / 7) h ≡ true) × (length l < 18446744073709551616) → length new ≤ h .free
+    → Adds top true l (h .written) new k l′ → Wrote new h l k l′
+wrote {new} {h} {l} f le w = record {
+  fits = le;
+  count = w .count;
+  into = adds-added (room-for h l new (f .0) le) w;
+  moves = (omega (arith, w .count), omega (arith, head-le (length l / 7) h (f .0), f .1));
+}
+
+module _ {X : Type 0} {before after : X} {same : Type 0} {new : List PendingTransition} {become : X} {h : LogHead} {l : List ℕ} where
+  -- they do not fit
+  pub not-enough : after ≡ before → same → h .free < length new → Changed before after same new become h l (refusedWith NoFreeEntry h) l
+  not-enough e s k = record { few = λ q. (refl, (e, (s, refl))); enough = λ q. absurd (omega arith) }
+
+  -- they are written, and the sets change
+  pub written : {k : ℕ} {l′ : List ℕ} → Wrote new h l k l′ → after ≡ become → Changed before after same new become h l (movedOn h k) l′
+  written w q = record { few = λ z. absurd (omega (arith, w .fits)); enough = λ z. (ap (movedOn h) (w .count), (w .into, q)) }

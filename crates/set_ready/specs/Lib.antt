@@ -5,3 +5,5 @@ pub mod Updates
 pub mod Half
 pub mod Answers
 pub mod Named
+pub mod Walked
+pub mod TrackerWalk

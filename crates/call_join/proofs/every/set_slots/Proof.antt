@@ -18,16 +18,24 @@ loop-holds : tie.Need-loop-holds Inv-loop μ-loop
 loop-holds c = (omega arith, setting-start _ _ _ _)
 
 set-at-requires : tie.Need-set-at-requires Inv-loop μ-loop
-set-at-requires c κs = let p = c .before .before .before .before .before .before .before .before .before .pre in setting-ready (p .0) ((c .before .before .before .before .loop .inv) .1) (rw (p .1 .0) at (c .before .before .before .loop-test .taken)) (p .1 .1)
+set-at-requires c κs =
+    let l = c .before .before .before in let p = l .before .before .before .before .before .before .pre in
+    setting-ready (p .0) (l .before .loop .inv .1) (rw (p .1 .0) at (l .loop-test .taken)) (p .1 .1)
 
 add-k : tie.Need-add-k Inv-loop μ-loop
-add-k c = let p = c .before .before .before .before .before .before .before .before .before .before .before .before .before .before .pre in omega (arith, p .0 .given .start .textures, (c .before .before .before .before .before .before .before .before .loop-test .taken), p .1 .0)
+add-k c =
+    let l = c .before .before .before .before .before .before .before .before in
+    let p = l .before .before .before .before .before .before .pre in
+    omega (arith, p .0 .given .start .textures, l .loop-test .taken, p .1 .0)
 
 loop-less : tie.Need-loop-less Inv-loop μ-loop
-loop-less c = omega (arith, (c .before .before .before .before .before .before .before .before .loop-test .taken))
+loop-less c = omega (arith, c .before .before .before .before .before .before .before .before .loop-test .taken)
 
 loop-again : tie.Need-loop-again Inv-loop μ-loop
-loop-again c = (omega (arith, (c .before .before .before .before .before .before .before .before .loop-test .taken)), let p = c .before .before .before .before .before .before .before .before .before .before .before .before .before .before .pre in setting-next (p .0) (rw (p .1 .0) at (c .before .before .before .before .before .before .before .before .loop-test .taken)) ((c .before .before .before .before .before .before .before .before .before .loop .inv) .1) (c .before .before .before .before .set-at .ensures))
+loop-again c =
+    let s = c .before .before .before .before in let l = s .before .before .before .before in
+    let p = l .before .before .before .before .before .before .pre in let h = l .loop-test .taken in
+    (omega (arith, h), setting-next (p .0) (l .before .loop .inv .1) (rw (p .1 .0) at h) (s .set-at .ensures))
 
 same-length : tie.Need-same-length Inv-loop μ-loop
 same-length c = (c .before .loop .inv) .1 .frame .starts .long

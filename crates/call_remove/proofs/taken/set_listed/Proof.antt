@@ -32,10 +32,10 @@ loop-again : tie.Need-loop-again Inv-loop μ-loop
 loop-again c = taking-turn ((c .before .before .before .before .before .before .before .before .before .before .before .before .before .before .before .before .before .pre) .0) (c .before .before .before .before .before .before .before .before .before .before .before .before .loop .inv) (c .before .before .before .before .before .before .before .before .before .before .before .loop-test .taken) ((c .before .before .before .before .before .before .before .before .before .before .before .before .before .before .before .before .before .pre) .1) (rw ((c .before .before .before .before .before .before .before .before .before .wide .ensures) .0) at (c .before .before .before .before .take-at .ensures))
 
 same-length : tie.Need-same-length Inv-loop μ-loop
-same-length c = (c .before .loop .inv) .frame .starts .long
+same-length c = (c .before .loop .inv) .walked .frame .starts .long
 
 same-length-2 : tie.Need-same-length-2 Inv-loop μ-loop
-same-length-2 c = (c .before .loop .inv) .frame .ends .long
+same-length-2 c = (c .before .loop .inv) .walked .frame .ends .long
 
 returns : tie.Need-returns Inv-loop μ-loop
 returns c = taking-end (c .before .loop .inv) (c .loop-test .left)
