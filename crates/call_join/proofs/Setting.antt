@@ -16,9 +16,9 @@ use Rattle.set_storage.specs.Slots.{tracker-head, tracker-other}
 use Rattle.set_storage.specs.Frames.{Measured}
 use Rattle.set_checks.specs.Passed.{TexturePassed}
 use Rattle.set_ready.specs.Named.{within}
-use Rattle.set_ready.specs.Tested.{TrackerTested}
+use Rattle.set_ready.specs.Tested.{trackerSlot, TrackerTested}
 use Rattle.set_ready.specs.Half.{BothReady, tracker-keeps, numbers-stay, flags-stay, tracker-still}
-use Rattle.texture_track.specs.Slot.{slotOf, SlotSet}
+use Rattle.texture_track.specs.Slot.{SlotSet}
 use Rattle.texture_track.specs.GivenSlot.{SetsAt, pairOf, passStart, passEnd, slotAfter}
 use Rattle.call_join.specs.Lists.{over-list}
 use Rattle.call_join.specs.Join.{Joins, SetsAll, slotsAfter, start-given, end-given}
@@ -26,8 +26,8 @@ use Rattle.model.specs.BoolLaws.{by-lt}
 
 -- as the loop has it: the slots below k are what f makes of them, the others as they were
 pub record Setting (named : ℕ → Type 0) (t s e : List ℕ) (f : ℕ → Slot (Ends Held) → Slot (Ends Held)) (k : ℕ) (t₁ s₁ e₁ : List ℕ) : Type 0 where
-  pub done : (j : ℕ) → j < k → j < getD t texturesAt 0 → slotWith (endsOf (numbersOf t) t₁ s₁ e₁) t₁ j ≡ f j (slotOf t s e j)
-  pub left : (j : ℕ) → k ≤ j → j < getD t texturesAt 0 → slotWith (endsOf (numbersOf t) t₁ s₁ e₁) t₁ j ≡ slotOf t s e j
+  pub done : (j : ℕ) → j < k → j < getD t texturesAt 0 → slotWith (endsOf (numbersOf t) t₁ s₁ e₁) t₁ j ≡ f j (trackerSlot t s e j)
+  pub left : (j : ℕ) → k ≤ j → j < getD t texturesAt 0 → slotWith (endsOf (numbersOf t) t₁ s₁ e₁) t₁ j ≡ trackerSlot t s e j
   pub frame : TrackerFrame named (numbersOf t) t s e t₁ s₁ e₁
 
 -- at the start
@@ -42,7 +42,7 @@ module _ {named : ℕ → Type 0} {t s e : List ℕ} {f : ℕ → Slot (Ends Hel
   flags-are = flags-stay (tracker-keeps (q .frame))
 
   -- a turn
-  pub setting-turn : {turned : ℕ → Type 0} {t₂ s₂ e₂ : List ℕ} → Measured (numbersOf t) startHalf t s → ((j : ℕ) → turned j → (j ≡ k) × named j) → SlotSet turned t₁ s₁ e₁ k (f k (slotOf t₁ s₁ e₁ k)) t₂ s₂ e₂ → Setting named t s e f (k + 1) t₂ s₂ e₂
+  pub setting-turn : {turned : ℕ → Type 0} {t₂ s₂ e₂ : List ℕ} → Measured (numbersOf t) startHalf t s → ((j : ℕ) → turned j → (j ≡ k) × named j) → SlotSet turned t₁ s₁ e₁ k (f k (trackerSlot t₁ s₁ e₁ k)) t₂ s₂ e₂ → Setting named t s e f (k + 1) t₂ s₂ e₂
   setting-turn {turned} {t₂} {s₂} {e₂} m n z =
       let step : TrackerFrame turned (numbersOf t) t₁ s₁ e₁ t₂ s₂ e₂ = subst (λ (d : Numbers). TrackerFrame turned d t₁ s₁ e₁ t₂ s₂ e₂) numbers-are (z .frame) in
       let here : slotWith (endsOf (numbersOf t) t₂ s₂ e₂) t₂ k ≡ f k (slotWith (endsOf (numbersOf t) t₁ s₁ e₁) t₁ k) =
@@ -73,7 +73,7 @@ module _ {t s e : List ℕ} {from to : ℕ} {g a b : List ℕ} (w : Joins t s e 
 
 -- a turn of the loop over the given set
 pub setting-next : {t s e : List ℕ} {from to : ℕ} {g a b : List ℕ} {f : ℕ → Slot (Ends Held) → Slot (Ends Held)} {k : ℕ} {t₁ s₁ e₁ t₂ s₂ e₂ : List ℕ} → Joins t s e from to g a b → k < getD g texturesAt 0 → Setting (within t (ownedBy g)) t s e f k t₁ s₁ e₁
-    → SlotSet (onlyOwned g k) t₁ s₁ e₁ k (f k (slotOf t₁ s₁ e₁ k)) t₂ s₂ e₂ → Setting (within t (ownedBy g)) t s e f (k + 1) t₂ s₂ e₂
+    → SlotSet (onlyOwned g k) t₁ s₁ e₁ k (f k (trackerSlot t₁ s₁ e₁ k)) t₂ s₂ e₂ → Setting (within t (ownedBy g)) t s e f (k + 1) t₂ s₂ e₂
 setting-next {t = t} {g = g} {k = k} w h q z =
     setting-turn q (w .tracker .starts) (λ j n. let l : j < getD g texturesAt 0 = subst (λ (y : ℕ). y < getD g texturesAt 0) (sym (n .0)) h in (n .0, (w .passed .each j l (n .1) .texture, (l, n .1)))) z
 
@@ -83,7 +83,7 @@ unfolding trackerOf
 all-set {t} {s} {e} {from} {to} {g} {a} {b} {t′} {s′} {e′} q =
     let n = numbers-are q in
     let slots : listFrom (slotWith (endsOf (numbersOf t) t′ s′ e′) t′) 0 (getD t texturesAt 0) ≡ slotsAfter t s e from to g a b =
-    over-list (setGiven ranged passStart passEnd (flagsOf t)) (slotOf t s e) (slotWith (endsOf (numbersOf t) t′ s′ e′) t′) (slotWith (pairOf from to g a b) g) 0 (getD t texturesAt 0) (getD g texturesAt 0)
+    over-list (setGiven ranged passStart passEnd (flagsOf t)) (trackerSlot t s e) (slotWith (endsOf (numbersOf t) t′ s′ e′) t′) (slotWith (pairOf from to g a b) g) 0 (getD t texturesAt 0) (getD g texturesAt 0)
     (λ x p h k. q .done x (omega arith) (omega arith)) (λ x p h. q .left x (omega arith) (omega arith)) in
     record {
       view = rw (

@@ -26,13 +26,13 @@ use Rattle.texture_merge.specs.declared.Stopped.the-variants.{Nowhere, At}
 use Rattle.set_checks.specs.Head.{selectorOf, useRefusal, scope-head, UseTold}
 use Rattle.model.specs.declared.Verdict.the-variants as verdict
 use Rattle.set_checks.specs.Passed.{StatePassed, use-passed, texture-passed, state-passed}
-use Rattle.set_ready.specs.Tested.{ScopeTested}
+use Rattle.set_ready.specs.Tested.{scopeSlot, ScopeTested}
 use Rattle.set_ready.specs.Half.{HalfReady, scope-texture}
 use Rattle.set_ready.specs.Answers.{toldOf}
 use Rattle.call_merge.specs.declared.single.Use.{Use}
 use Rattle.call_merge.specs.Merged.{Merged}
 use Rattle.set_ready.specs.Merges.{TakenUse}
-use Rattle.call_merge.specs.Slot.{slotOf, SlotMerged, slot-view}
+use Rattle.call_merge.specs.Slot.{SlotMerged, scope-view}
 use Rattle.call_merge.specs.Single.{UseIs}
 
 -- ---- The test of the sets comes first
@@ -79,15 +79,15 @@ module _ (t r : List ℕ) (i : ℕ) (sh : Extent) (s : Selection) (st : ℕ) whe
       ap (λ (h : Head). unless (singleRefusal h i sh (selectorOf s) st) (scopeOf t r) (changed (mergeSlot ranged (scopeOf t r .flags) sh (fromUse sh (selectorOf s) st) i (slotAt (single 0) (scopeOf t r) i)))) (scope-head t r)
       ∙ ap (λ (q : Option Refusal). unless q (scopeOf t r) (changed (mergeSlot ranged (scopeOf t r .flags) sh (fromUse sh (selectorOf s) st) i (slotAt (single 0) (scopeOf t r) i)))) e
 
-  slot-here : i < getD t texturesAt 0 → slotAt (single 0) (scopeOf t r) i ≡ slotOf t r i
+  slot-here : i < getD t texturesAt 0 → slotAt (single 0) (scopeOf t r) i ≡ scopeSlot t r i
   unfolding scopeOf
-  slot-here h = list-at (slotOf t r) (getD t texturesAt 0) i (emptySlot (single 0)) h
+  slot-here h = list-at (scopeSlot t r) (getD t texturesAt 0) i (emptySlot (single 0)) h
 
   flags-here : scopeOf t r .flags ≡ flagsOf t
   unfolding scopeOf
   flags-here = refl
 
-  changed-is : i < getD t texturesAt 0 → UseTold t i sh s st verdict.Accepted → mergeSingle ranged (scopeOf t r) i sh (selectorOf s) st ≡ changed (mergeSlot ranged (flagsOf t) sh (fromUse sh (selectorOf s) st) i (slotOf t r i))
+  changed-is : i < getD t texturesAt 0 → UseTold t i sh s st verdict.Accepted → mergeSingle ranged (scopeOf t r) i sh (selectorOf s) st ≡ changed (mergeSlot ranged (flagsOf t) sh (fromUse sh (selectorOf s) st) i (scopeSlot t r i))
   changed-is h z =
       call-is none (z .is)
       ∙ ap (λ (p : UsageFlags). changed (mergeSlot ranged p sh (fromUse sh (selectorOf s) st) i (slotAt (single 0) (scopeOf t r) i))) flags-here
@@ -97,15 +97,15 @@ module _ {t r : List ℕ} {i : ℕ} {sh : Extent} {s : Selection} {st : ℕ} {fi
   pub single-away : {x : Refusal} → UseTold t i sh s st (verdict.Refused x) → Merged (only i) fits (mergeSingle ranged (scopeOf t r) i sh (selectorOf s) st) t r (outcome.Refused x) t r
   single-away {x} z = away x e (call-is t r i sh s st (some x) (z .is))
 
-  pub single-done : {x : Stopped} {t′ r′ : List ℕ} → ScopeTested t r → UseTold t i sh s st verdict.Accepted → SlotMerged (only i) t r i (mergeSlot ranged (flagsOf t) sh (fromUse sh (selectorOf s) st) i (slotOf t r i)) x t′ r′
+  pub single-done : {x : Stopped} {t′ r′ : List ℕ} → ScopeTested t r → UseTold t i sh s st verdict.Accepted → SlotMerged (only i) t r i (mergeSlot ranged (flagsOf t) sh (fromUse sh (selectorOf s) st) i (scopeSlot t r i)) x t′ r′
       → Merged (only i) fits (mergeSingle ranged (scopeOf t r) i sh (selectorOf s) st) t r (toldOf i x) t′ r′
   single-done {x} {t′} {r′} k₀ z q =
       let h : i < getD t texturesAt 0 = texture-passed t i sh (use-passed t i sh s st (z .is) .0) .texture in
-      let c : merging fits (scopeOf t r) (mergeSingle ranged (scopeOf t r) i sh (selectorOf s) st) ≡ changed t r i sh s st (mergeSlot ranged (flagsOf t) sh (fromUse sh (selectorOf s) st) i (slotOf t r i)) =
+      let c : merging fits (scopeOf t r) (mergeSingle ranged (scopeOf t r) i sh (selectorOf s) st) ≡ changed t r i sh s st (mergeSlot ranged (flagsOf t) sh (fromUse sh (selectorOf s) st) i (scopeSlot t r i)) =
       rw e (fit (scopeOf t r) (mergeSingle ranged (scopeOf t r) i sh (selectorOf s) st) ∙ changed-is t r i sh s st h z) in
       record {
         answer = ap (λ (o : Option (Indexed InvalidUse)). outcomeOf (answer o)) (q .conflict) ∙ ap (λ (y : ScopeResult). outcomeOf (y .answer)) (sym c);
-        view = slot-view (k₀ .measured) q ∙ ap (λ (y : ScopeResult). y .after) (sym c);
+        view = scope-view (k₀ .measured) q ∙ ap (λ (y : ScopeResult). y .after) (sym c);
         kept = λ k. absurd (told-on i x k);
         stays = keeps-more (λ j n. (subst (λ (k : ℕ). k < getD t texturesAt 0) (sym n) h, n)) (λ j y o. o) (q .frame);
       }

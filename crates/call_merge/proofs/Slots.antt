@@ -26,23 +26,24 @@ use Rattle.set_storage.specs.Slots.{scope-head}
 use Rattle.texture_merge.specs.declared.Stopped.{Stopped}
 use Rattle.texture_merge.specs.declared.Stopped.the-variants.{Nowhere, At}
 use Rattle.texture_merge.specs.Walking.{Walking, walk-start, walk-turn, walk-stop, walk-rest, walk-end}
-use Rattle.set_ready.specs.Tested.{half-fits}
 use Rattle.set_ready.specs.Half.{HalfReady, scope-keeps, numbers-stay, flags-stay, measured-stays, scope-still}
 use Rattle.set_ready.specs.Answers.{indexed, metAt}
-use Rattle.call_merge.specs.Slot.{slotOf, TakenTexture, OwnedReady, SlotMerged, slot-only, slot-view, slot-other}
+use Rattle.set_ready.specs.Given.{HalfGiven, owned-given}
+use Rattle.set_ready.specs.Tested.{scopeSlot}
+use Rattle.call_merge.specs.Slot.{OwnedReady, SlotMerged, scope-named, scope-view, scope-rest}
 use Rattle.call_merge.specs.Scope.{mergedSlots, SlotsReady, SlotsMerged}
 use Rattle.call_merge.proofs.Beside.{beside, walk-beside, walk-past}
 
 -- what the given scope makes of texture j
 abbrev step : UsageFlags → List ℕ → List ℕ → ℕ → Slot Held → Stop (Indexed InvalidUse) (Slot Held)
-step p g l = beside (mergeGiven ranged p) (slotOf g l) (getD g texturesAt 0)
+step p g l = beside (mergeGiven ranged p) (scopeSlot g l) (getD g texturesAt 0)
 
 -- ---- THE INVARIANT: the textures below k are done, and the others read as at entry
 pub record Merging (p : UsageFlags) (t₀ r₀ g l : List ℕ) (k : ℕ) (t r : List ℕ) : Type 0 where
   pub within : k ≤ getD g texturesAt 0
   pub walking : Walking (step p g l) (scopeOf t₀ r₀ .slots) k (scopeOf t r .slots)
   pub whole : scopeOf t r ≡ withSlots (scopeOf t₀ r₀) (scopeOf t r .slots)
-  pub left : (j : ℕ) → k ≤ j → j < getD t₀ texturesAt 0 → slotOf t r j ≡ slotOf t₀ r₀ j
+  pub left : (j : ℕ) → k ≤ j → j < getD t₀ texturesAt 0 → scopeSlot t r j ≡ scopeSlot t₀ r₀ j
   pub frame : ScopeFrame (ownedBy g) (numbersOf t₀) t₀ r₀ t r
 
 pub start : (p : UsageFlags) (t r g l : List ℕ) → Merging p t r g l 0 t r
@@ -57,15 +58,15 @@ start p t r g l = record {
 -- the walk of both, as the invariant has it
 slots-are : (p : UsageFlags) (t r g l : List ℕ) → mergedSlots p t r g l ≡ walk (step p g l) 0 (scopeOf t r .slots)
 unfolding scopeOf
-slots-are p t r g l = walk-beside (mergeGiven ranged p) (slotOf g l) (getD g texturesAt 0) 0 (getD g texturesAt 0) (scopeOf t r .slots) (omega arith)
+slots-are p t r g l = walk-beside (mergeGiven ranged p) (scopeSlot g l) (getD g texturesAt 0) 0 (getD g texturesAt 0) (scopeOf t r .slots) (omega arith)
 
-slot-at : (t r : List ℕ) (k : ℕ) → k < getD t texturesAt 0 → getD (scopeOf t r .slots) k (emptySlot (single 0)) ≡ slotOf t r k
+slot-at : (t r : List ℕ) (k : ℕ) → k < getD t texturesAt 0 → getD (scopeOf t r .slots) k (emptySlot (single 0)) ≡ scopeSlot t r k
 unfolding scopeOf
-slot-at t r k h = list-at (slotOf t r) (getD t texturesAt 0) k (emptySlot (single 0)) h
+slot-at t r k h = list-at (scopeSlot t r) (getD t texturesAt 0) k (emptySlot (single 0)) h
 
 slots-long : (t r : List ℕ) → length (scopeOf t r .slots) ≡ getD t texturesAt 0
 unfolding scopeOf
-slots-long t r = list-long (slotOf t r) 0 (getD t texturesAt 0)
+slots-long t r = list-long (scopeSlot t r) 0 (getD t texturesAt 0)
 
 module _ {p : UsageFlags} {t₀ r₀ g l : List ℕ} {k : ℕ} {t r : List ℕ} (m : Merging p t₀ r₀ g l k t r) where
   word : (y : ℕ) → y < 8 → getD t y 0 ≡ getD t₀ y 0
@@ -95,35 +96,28 @@ module _ {p : UsageFlags} {t₀ r₀ g l : List ℕ} {k : ℕ} {t r : List ℕ} 
       slot-now : HalfReady startHalf t r k (extentOf g k)
       slot-now = let x = q .passed .each k h o in scope-still (q .into) x (m .frame) (m .left k (omega arith) (x .texture))
 
-      taken-now : TakenTexture t k (extentOf g k) g l p
-      taken-now =
-          let f = q .given .slots k h in record {
-            flags = q .flags ∙ sym same-flags;
-            same = q .passed .flags ∙ sym same-flags;
-            extent = refl;
-            measured = q .given .measured;
-            texture = h;
-            fits = f .extent o;
-            held = half-fits startHalf g l k (f .extent o .mips) (f .held o);
-          }
+      given-now : HalfGiven t k (extentOf g k) startHalf g l
+      given-now = owned-given (q .given) (q .passed .flags ∙ sym same-flags) h o
 
     -- what a lap asks for
-    pub lap-ready : OwnedReady t r k g l p
-    lap-ready = record { index = omega (arith, q .given .measured .textures); slot = slot-now; given = taken-now }
+    pub lap-ready : OwnedReady t r k g l × (p ≡ flagsOf t)
+    lap-ready =
+        let few = q .given .measured .textures in
+        (record { index = omega (arith, few); ready = slot-now; given = given-now }, q .flags ∙ sym same-flags)
 
     -- ---- After a lap
-    module _ {x : Stopped} {t′ r′ : List ℕ} (y : SlotMerged (onlyOwned g k) t r k (mergeGiven ranged p k (slotOf t r k) (slotOf g l k)) x t′ r′) where
-      at-k : SlotMerged (only k) t r k (mergeGiven ranged p k (slotOf t r k) (slotOf g l k)) x t′ r′
-      at-k = slot-only (λ j n. n .0) y
+    module _ {x : Stopped} {t′ r′ : List ℕ} (y : SlotMerged (onlyOwned g k) t r k (mergeGiven ranged p k (scopeSlot t r k) (scopeSlot g l k)) x t′ r′) where
+      at-k : SlotMerged (only k) t r k (mergeGiven ranged p k (scopeSlot t r k) (scopeSlot g l k)) x t′ r′
+      at-k = scope-named (λ j n. n .0) y
 
-      here : k < getD t texturesAt 0 → step p g l k (getD (scopeOf t r .slots) k (emptySlot (single 0))) ≡ mergeGiven ranged p k (slotOf t r k) (slotOf g l k)
+      here : k < getD t texturesAt 0 → step p g l k (getD (scopeOf t r .slots) k (emptySlot (single 0))) ≡ mergeGiven ranged p k (scopeSlot t r k) (scopeSlot g l k)
       here b = rw (slot-at t r k b, lt-ltb k (getD g texturesAt 0) h)
 
-      slots-now : scopeOf t′ r′ .slots ≡ set (scopeOf t r .slots) k (mergeGiven ranged p k (slotOf t r k) (slotOf g l k) .value)
-      slots-now = ap (λ (s : Set Held). s .slots) (slot-view measured-now at-k)
+      slots-now : scopeOf t′ r′ .slots ≡ set (scopeOf t r .slots) k (mergeGiven ranged p k (scopeSlot t r k) (scopeSlot g l k) .value)
+      slots-now = ap (λ (s : Set Held). s .slots) (scope-view measured-now at-k)
 
       whole-now : scopeOf t′ r′ ≡ withSlots (scopeOf t₀ r₀) (scopeOf t′ r′ .slots)
-      whole-now = slot-view measured-now at-k ∙ ap (λ (s : Set Held). withSlots s (set (scopeOf t r .slots) k (mergeGiven ranged p k (slotOf t r k) (slotOf g l k) .value))) (m .whole) ∙ ap (withSlots (scopeOf t₀ r₀)) (sym slots-now)
+      whole-now = scope-view measured-now at-k ∙ ap (λ (s : Set Held). withSlots s (set (scopeOf t r .slots) k (mergeGiven ranged p k (scopeSlot t r k) (scopeSlot g l k) .value))) (m .whole) ∙ ap (withSlots (scopeOf t₀ r₀)) (sym slots-now)
 
       -- what it changed is of an index that the given scope owns
       frame-now : ScopeFrame (ownedBy g) (numbersOf t₀) t₀ r₀ t′ r′
@@ -144,7 +138,7 @@ module _ {p : UsageFlags} {t₀ r₀ g l : List ℕ} {k : ℕ} {t r : List ℕ} 
         within = omega arith;
         walking = walking-now e;
         whole = whole-now;
-        left = λ j a b. slot-other measured-now at-k j (rw (word 0 (omega arith)) b) (λ z. omega arith) ∙ m .left j (omega arith) b;
+        left = λ j a b. scope-rest measured-now at-k j (rw (word 0 (omega arith)) b) (λ z. omega arith) ∙ m .left j (omega arith) b;
         frame = frame-now;
       }
 

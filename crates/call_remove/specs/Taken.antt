@@ -23,9 +23,9 @@ use Rattle.set_storage.specs.Slots.{tracker-other}
 use Rattle.set_storage.specs.Storage.{numbersOf, flagsOf, extentOf, ownedOf, ownedAt, startHalf, endsOf, slotWith, scopeOf, trackerOf, tableLength, texturesAt}
 use Rattle.set_checks.specs.Passed.{SparsePassed}
 use Rattle.set_ready.specs.Named.{within}
-use Rattle.set_ready.specs.Tested.{half-fits, ScopeTested, TrackerTested}
-use Rattle.texture_track.specs.Slot.{slotOf, SlotSet, slot-only, slot-view}
-use Rattle.texture_track.specs.Given.{givenAt, HalfGiven}
+use Rattle.set_ready.specs.Tested.{trackerSlot, half-fits, ScopeTested, TrackerTested}
+use Rattle.set_ready.specs.Given.{givenAt, HalfGiven}
+use Rattle.texture_track.specs.Slot.{SlotSet, tracker-named, tracker-view}
 use Rattle.texture_track.specs.GivenSlot.{SetsAt, slotAfter}
 use Rattle.call_remove.specs.Gone.{Listed, disowned, set-zero}
 use Rattle.call_remove.specs.Removed.{Both, setsOf}
@@ -37,7 +37,7 @@ use Rattle.set_ready.specs.Half.{HeadStays, BothReady, tracker-keeps, numbers-s
 -- THE CONTRACT of one texture: nothing where the scope does not own it, otherwise the tracker takes it and the scope has it no more
 pub record TakenAt (t s e g r : List ℕ) (i : ℕ) (p : UsageFlags) (t′ s′ e′ g′ : List ℕ) : Type 0 where
   pub free : ownedOf g i ≡ false → (t′ ≡ t) × ((s′ ≡ s) × ((e′ ≡ e) × (g′ ≡ g)))
-  pub own : ownedOf g i ≡ true → SlotSet (only i) t s e i (setSlot ranged p (extentOf g i) (givenAt startHalf g r i) (givenAt startHalf g r i) (slotOf t s e i)) t′ s′ e′ × (g′ ≡ set g (ownedAt i) 0)
+  pub own : ownedOf g i ≡ true → SlotSet (only i) t s e i (setSlot ranged p (extentOf g i) (givenAt startHalf g r i) (givenAt startHalf g r i) (trackerSlot t s e i)) t′ s′ e′ × (g′ ≡ set g (ownedAt i) 0)
   pub frame : TrackerFrame (onlyOwned g i) (numbersOf t) t s e t′ s′ e′
 
 -- the test and the checks passed
@@ -67,10 +67,10 @@ taken-not {t} {s} {e} {g = g} {i = i} z = record {
 }
 
 -- it does, and its word of ownership becomes 0
-pub taken-own : {t s e g r : List ℕ} {i : ℕ} {p : UsageFlags} {t′ s′ e′ : List ℕ} → (getD g (ownedAt i) 0 ≡ 0 → ⊥) → SlotSet (onlyOwned g i) t s e i (slotAfter p startHalf startHalf g r r i (slotOf t s e i)) t′ s′ e′ → TakenAt t s e g r i p t′ s′ e′ (set g (ownedAt i) 0)
+pub taken-own : {t s e g r : List ℕ} {i : ℕ} {p : UsageFlags} {t′ s′ e′ : List ℕ} → (getD g (ownedAt i) 0 ≡ 0 → ⊥) → SlotSet (onlyOwned g i) t s e i (slotAfter p startHalf startHalf g r r i (trackerSlot t s e i)) t′ s′ e′ → TakenAt t s e g r i p t′ s′ e′ (set g (ownedAt i) 0)
 taken-own {g = g} {i = i} z q = let o : ownedOf g i ≡ true = rw (ne-eqb (getD g (ownedAt i) 0) 0 z) in record {
   free = λ w. absurd (false≢true (sym w ∙ o));
-  own = λ w. (rw o at (slot-only (λ j n. n .0) q), refl);
+  own = λ w. (rw o at (tracker-named (λ j n. n .0) q), refl);
   frame = q .frame;
 }
 
@@ -84,8 +84,8 @@ module _ {t s e g r : List ℕ} {i : ℕ} {p : UsageFlags} {t′ s′ e′ g′ 
       (λ o.
       let own : ownedOf g i ≡ true = sym (ap (λ (y : Slot Held). y .owned) z) ∙ o in
       let w = q .own own in
-      let ss = subst (λ (y : UsageFlags). SlotSet (only i) t s e i (setSlot ranged y (extentOf g i) (givenAt startHalf g r i) (givenAt startHalf g r i) (slotOf t s e i)) t′ s′ e′) f (w .0) in
-      rw (z, into-is t s e g r i (inside own)) (λ j. (slot-view m (inside own) ss j, (ap (λ (y : List ℕ). scopeOf y r) (w .1) ∙ off-view g i r h few long) j)))
+      let ss = subst (λ (y : UsageFlags). SlotSet (only i) t s e i (setSlot ranged y (extentOf g i) (givenAt startHalf g r i) (givenAt startHalf g r i) (trackerSlot t s e i)) t′ s′ e′) f (w .0) in
+      rw (z, into-is t s e g r i (inside own)) (λ j. (tracker-view m ss j, (ap (λ (y : List ℕ). scopeOf y r) (w .1) ∙ off-view g i r h few long) j)))
       (λ o. let w = q .free (sym (ap (λ (y : Slot Held). y .owned) z) ∙ o) in rw (w .0, w .1 .0, w .1 .1 .0, w .1 .1 .1))
 
 -- ---- All that is listed, turn by turn: what is left of the list makes of the sets what all of it makes at entry, and a texture that the scope still owns is as it was
@@ -94,7 +94,7 @@ pub record Taking (t s e g r is : List ℕ) (k : ℕ) (t₁ s₁ e₁ g₁ : Lis
   pub after : setsAfter t₁ s₁ e₁ g₁ r (drop k is) ≡ setsAfter t s e g r is
   pub gone : disowned (drop k is) g₁ ≡ disowned is g
   pub scope : Fewer g g₁
-  pub left : (j : ℕ) → j < getD t texturesAt 0 → ownedOf g₁ j ≡ true → slotWith (endsOf (numbersOf t) t₁ s₁ e₁) t₁ j ≡ slotOf t s e j
+  pub left : (j : ℕ) → j < getD t texturesAt 0 → ownedOf g₁ j ≡ true → slotWith (endsOf (numbersOf t) t₁ s₁ e₁) t₁ j ≡ trackerSlot t s e j
   pub frame : TrackerFrame (within t (Listed is g)) (numbersOf t) t s e t₁ s₁ e₁
 
 -- nothing is taken yet
