@@ -28,11 +28,11 @@ use Rattle.model.specs.declared.Verdict.the-variants as verdict
 use Rattle.set_checks.specs.Passed.{StatePassed, use-passed, texture-passed, state-passed}
 use Rattle.set_ready.specs.Tested.{scopeSlot, ScopeTested}
 use Rattle.set_ready.specs.Half.{HalfReady, scope-texture}
-use Rattle.set_ready.specs.Answers.{toldOf}
+use Rattle.call_merge.specs.Met.{toldOf}
 use Rattle.set_ready.specs.Named.{within}
 use Rattle.call_merge.specs.declared.single.Use.{Use}
 use Rattle.call_merge.specs.Merged.{Merged}
-use Rattle.set_ready.specs.Merges.{TakenUse}
+use Rattle.set_ready.specs.Checked.{TakenUse}
 use Rattle.call_merge.specs.Slot.{SlotMerged, scope-view}
 use Rattle.call_merge.specs.Single.{UseIs}
 use Rattle.call_merge.specs.Scope.{SlotsMerged}

@@ -27,7 +27,7 @@ use Rattle.texture_merge.specs.declared.Stopped.{Stopped}
 use Rattle.texture_merge.specs.declared.Stopped.the-variants.{Nowhere, At}
 use Rattle.texture_merge.specs.Walking.{Walking, walk-start, walk-turn, walk-stop, walk-rest, walk-end}
 use Rattle.set_ready.specs.Half.{HalfReady, scope-keeps, numbers-stay, flags-stay, measured-stays, scope-still}
-use Rattle.set_ready.specs.Answers.{indexed, metAt}
+use Rattle.call_merge.specs.Met.{indexed, metAt}
 use Rattle.set_ready.specs.Given.{HalfGiven, owned-given}
 use Rattle.set_ready.specs.Tested.{scopeSlot}
 use Rattle.call_merge.specs.Slot.{OwnedReady, SlotMerged, scope-named, scope-view, scope-rest}

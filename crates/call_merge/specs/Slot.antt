@@ -23,7 +23,7 @@ use Rattle.set_ready.specs.Half.{HalfReady, half-held}
 use Rattle.set_ready.specs.Given.{HalfGiven, WhereOwned}
 use Rattle.set_ready.specs.Tested.{scopeSlot}
 use Rattle.set_ready.specs.Owned.{own-numbers, own-textured, now-owned, owned-reads, slot-becomes, slot-other}
-use Rattle.set_ready.specs.Answers.{indexed, metAt}
+use Rattle.call_merge.specs.Met.{indexed, metAt}
 
 -- what is asked for at index i, where the given scope may own a texture
 abbrev pub OwnedReady : List ℕ → List ℕ → ℕ → List ℕ → List ℕ → Type 0

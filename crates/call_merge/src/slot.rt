@@ -20,7 +20,7 @@ ghost use Rattle.model.specs.Texture.{ranged};
 ghost use Rattle.set_storage.specs.Storage.{flagsOf, startHalf};
 ghost use Rattle.set_storage.specs.Stays.{only, onlyOwned};
 ghost use Rattle.texture_merge.specs.Uses.{useOf};
-ghost use Rattle.set_ready.specs.Merges.{TakenUse};
+ghost use Rattle.set_ready.specs.Checked.{TakenUse};
 ghost use Rattle.set_ready.specs.Half.{HalfReady};
 ghost use Rattle.set_ready.specs.Given.{givenAt, HalfGiven};
 ghost use Rattle.set_ready.specs.Tested.{scopeSlot};

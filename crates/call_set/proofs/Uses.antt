@@ -32,11 +32,10 @@ use Rattle.model.specs.declared.Verdict.the-variants as verdict
 use Rattle.set_checks.specs.Passed.{use-passed, texture-passed, selector-passed, state-passed}
 use Rattle.set_ready.specs.Tested.{trackerSlot, TrackerTested}
 use Rattle.set_ready.specs.Half.{BothReady, tracker-texture}
-use Rattle.set_ready.specs.Selectors.{full-is}
+use Rattle.set_ready.specs.Checked.{TakenUse, full-is}
 use Rattle.model.specs.declared.Answered.{Answered}
 use Rattle.texture_track.specs.Tracked.{Same, Tracked, Changes, away-own, changes-tracked}
 use Rattle.texture_track.specs.Slot.{slotEntries, SlotSet, tracker-view, slot-pending}
-use Rattle.set_ready.specs.Merges.{TakenUse}
 use Rattle.call_set.specs.Used.{usedEntries, usedTracker}
 use Rattle.log_head.specs.Log.{headWithin, refusedWith}
 use Rattle.log_head.specs.Called.{Changed, room-for}

@@ -16,7 +16,7 @@ use Rattle.texture_merge.specs.FromSet.{GivenReady, SetReady, MergeReady}
 use Rattle.texture_update.specs.FromSet.{UpdateFromReady}
 use Rattle.agreement.specs.Fits.{ExtentFits}
 use Rattle.set_ready.specs.Tested.{HalfFits, half-fits, union-not-bit, ScopeTested}
-use Rattle.set_ready.specs.Merges.{word-owned, texture-held}
+use Rattle.set_ready.specs.Checked.{word-owned, texture-held}
 
 -- what the half h of a set hands in at index i
 abbrev pub givenAt : ℕ → List ℕ → List ℕ → ℕ → Given

@@ -17,7 +17,7 @@ use Rattle.set_storage.specs.Texture.{TextureHeld}
 use Rattle.set_checks.specs.Passed.{TexturePassed}
 use Rattle.agreement.specs.Fits.{HeldFits, EndsFit, SlotFits}
 use Rattle.set_ready.specs.Tested.{scopeSlot, trackerSlot, HalfFits, half-fits, ScopeTested, TrackerTested}
-use Rattle.set_ready.specs.Merges.{word-owned, texture-held}
+use Rattle.set_ready.specs.Checked.{word-owned, texture-held}
 
 -- texture i in the half h: it passed the checks, and where it is owned, what it holds fits
 pub record HalfReady (h : ℕ) (t r : List ℕ) (i : ℕ) (sh : Extent) : Type 0 where

@@ -13,7 +13,7 @@ use Rattle.set_storage.specs.Storage.{numbersOf, endHalf, heldOf, ownedAt}
 use Rattle.set_storage.specs.Texture.{TextureHeld, SelectorWithin}
 use Rattle.texture_merge.specs.Uses.{useOf}
 use Rattle.texture_barrier.specs.Textures.{piece}
-use Rattle.set_ready.specs.Merges.{TakenUse, selector-within}
+use Rattle.set_ready.specs.Checked.{TakenUse, selector-within}
 use Rattle.set_ready.specs.Half.{BothReady, half-held}
 use Rattle.set_ready.specs.Tested.{trackerSlot}
 use Rattle.texture_track.specs.Slot.{slotEntries}

@@ -20,7 +20,7 @@ ghost use Rattle.texture_merge.specs.Uses.{useOf};
 ghost use Rattle.texture_barrier.specs.Steps.{logTop};
 ghost use Rattle.texture_barrier.specs.Logged.{Room, Logged};
 ghost use Rattle.texture_track.specs.Slot.{slotEntries, SlotSet};
-ghost use Rattle.set_ready.specs.Merges.{TakenUse};
+ghost use Rattle.set_ready.specs.Checked.{TakenUse};
 ghost use Rattle.set_ready.specs.Half.{BothReady};
 ghost use Rattle.set_ready.specs.Tested.{trackerSlot};
 

@@ -1,7 +1,7 @@
 -- `merge_use_at`: an unowned texture is owned and inserted, an owned one merged.
 use mathlib.Core.Path.{refl}
 use Rattle.texture_merge.proofs.UseCases.{single-ready, single-merged}
-use Rattle.set_ready.specs.Merges.{use-ready, held-ready}
+use Rattle.set_ready.specs.Checked.{use-ready, held-ready}
 use Rattle.set_ready.specs.Half.{half-held}
 use Rattle.set_ready.specs.Owned.{own-flags, own-ready}
 use Rattle.call_merge.specs.Slot.{scope-new, scope-old}

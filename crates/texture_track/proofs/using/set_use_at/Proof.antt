@@ -1,5 +1,5 @@
 -- `set_use_at`: an unowned texture is inserted in both halves, an owned one is updated.
-use Rattle.set_ready.specs.Merges.{use-ready, update-ready, selecting}
+use Rattle.set_ready.specs.Checked.{use-ready, update-ready, selecting}
 use Rattle.set_ready.specs.Half.{half-held}
 use Rattle.set_ready.specs.Owned.{own-flags, own-ready, end-flags, end-textured}
 use Rattle.texture_track.specs.Using.{use-all, use-part}

@@ -1,7 +1,7 @@
--- A texture of a set, owned or about to be: ready for a use of it.
+-- A use and a texture that passed the checks: the texture, owned or about to be, is ready for the use.
 use Prim.Native.Nat.{ℕ, _+_}
 use mathlib.Core.Path.{_≡_, sym, ap, subst, _∙_}
-use mathlib.Core.Bool.{Bool, true, false}
+use mathlib.Core.Bool.{Bool, true, false, and-eq-true-iff}
 use mathlib.Core.List.{List}
 use lib.Bits.{bitAnd, bitOr}
 use lib.ListN.{getD}
@@ -11,7 +11,7 @@ use Rattle.model.specs.declared.Extent.{Extent}
 use Rattle.model.specs.declared.Selector.{Selector}
 use Rattle.model.specs.Flags.{meets}
 use Rattle.model.specs.Sets.{Numbers}
-use Rattle.model.specs.Representation.{full}
+use Rattle.model.specs.Representation.{isFull, full}
 use Rattle.model.specs.RangedStates.{Tiles}
 use Rattle.set_storage.specs.Storage.{numbersOf, flagsOf, extentOf, ownedOf, startHalf, endHalf, mipOf, ownedAt}
 use Rattle.set_storage.specs.Frames.{Measured}
@@ -36,6 +36,13 @@ module _ {p : UsageFlags} {st : ℕ} (k : StatePassed p st) where
   state-union x = union-not-bit x st (p .complex) (k .nonzero) (apart st (p .complex) (k .plain))
 
 -- ---- A use that passed the checks
+-- a selector that names all of a texture is the full one
+pub full-is : (sh : Extent) (q : Selector) → isFull sh q ≡ true → q ≡ full sh
+full-is sh q e =
+    let a = and-eq-true-iff _ _ .0 e in let b = and-eq-true-iff _ _ .0 (a .0) in let c = and-eq-true-iff _ _ .0 (b .0) in
+    let z₀ = eqb-true _ _ (c .0) in let z₁ = eqb-true _ _ (c .1) in let z₂ = eqb-true _ _ (b .1) in let z₃ = eqb-true _ _ (a .1) in
+    λ i. record { mips = record { start = record { 0 = z₀ i }; end = record { 0 = z₁ i } }; layers = record { start = record { 0 = z₂ i }; end = record { 0 = z₃ i } } }
+
 pub record TakenUse (t : List ℕ) (sh : Extent) (all : Bool) (q : Selector) (p : UsageFlags) (new : ℕ) : Type 0 where
   pub flags : p ≡ flagsOf t
   pub selector : SelectorPassed sh q
