@@ -12,11 +12,11 @@ use Rattle.model.specs.Texture.{ranged}
 use Rattle.set_storage.specs.Storage.{flagsOf, extentOf, ownedOf, slotWith, trackerOf, maskAt, texturesAt}
 use Rattle.texture_barrier.specs.Adds.{entriesAt}
 use Rattle.set_ready.specs.Half.{tracker-texture}
-use Rattle.texture_track.specs.Slot.{slotOf, slot-pending}
-use Rattle.texture_track.specs.Given.{givenAt}
+use Rattle.texture_track.specs.Slot.{trackerSlot, slot-pending}
 use Rattle.call_join.specs.Join.{Joins, LogsSet, givenOf, joinedEntries, start-given}
 use Rattle.call_join.specs.Lists.{each-list}
 use Rattle.texture_track.specs.GivenSlot.{pairOf, passStart, passEnd, endEntries, givenEntries}
+use Rattle.set_ready.specs.Given.{givenAt}
 
 -- ---- What the loop asks for: every index is ready
 module _ {t s e : List ℕ} {from to : ℕ} {g a b : List ℕ} (w : Joins t s e from to g a b) where
@@ -45,9 +45,9 @@ pub entries-model : {t s e : List ℕ} {from to : ℕ} {g a b : List ℕ} → Jo
     → pending (eachAt₂ (logGiven ranged passStart passEnd (flagsOf t) (getD t maskAt 0)) 0 (trackerOf t s e .set .slots) (givenOf from to g a b .slots)) ≡ joinedEntries t e from g a
 unfolding trackerOf
 entries-model {t} {s} {e} {from} {to} {g} {a} {b} w =
-    each-list pendingOf (logGiven ranged passStart passEnd (flagsOf t) (getD t maskAt 0)) (slotOf t s e) (slotWith (pairOf from to g a b) g) (λ (i : ℕ). entriesAt i (givenEntries (flagsOf t) (getD t maskAt 0) t e from g a i)) (getD t texturesAt 0) (getD g texturesAt 0)
+    each-list pendingOf (logGiven ranged passStart passEnd (flagsOf t) (getD t maskAt 0)) (trackerSlot t s e) (slotWith (pairOf from to g a b) g) (λ (i : ℕ). entriesAt i (givenEntries (flagsOf t) (getD t maskAt 0) t e from g a i)) (getD t texturesAt 0) (getD g texturesAt 0)
     (λ x h k. go x (ownedOf g x)) (λ x h k. rw (not-past w x k h))
   where
-    go : (x : ℕ) (o : Bool) → pending (if o then logSlot ranged (flagsOf t) (getD t maskAt 0) (extentOf g x) (givenAt from g a x) x (slotOf t s e x) else []) ≡ entriesAt x (if o then endEntries (flagsOf t) (getD t maskAt 0) (extentOf g x) (givenAt from g a x) t e x else [])
-    go x true = slot-pending (flagsOf t) (getD t maskAt 0) (extentOf g x) (givenAt from g a x) x (slotOf t s e x)
+    go : (x : ℕ) (o : Bool) → pending (if o then logSlot ranged (flagsOf t) (getD t maskAt 0) (extentOf g x) (givenAt from g a x) x (trackerSlot t s e x) else []) ≡ entriesAt x (if o then endEntries (flagsOf t) (getD t maskAt 0) (extentOf g x) (givenAt from g a x) t e x else [])
+    go x true = slot-pending (flagsOf t) (getD t maskAt 0) (extentOf g x) (givenAt from g a x) x (trackerSlot t s e x)
     go x false = refl

@@ -9,13 +9,13 @@ use Rattle.model.specs.Representation.{Ends}
 use Rattle.model.specs.Sets.{Numbers, Slot, withTracker}
 use Rattle.model.specs.Calls.{setGiven}
 use Rattle.model.specs.Texture.{Held, ranged}
-use Rattle.set_storage.specs.Storage.{numbersOf, flagsOf, endsOf, slotWith, trackerOf, texturesAt}
+use Rattle.set_storage.specs.Storage.{flagsOf, endsOf, slotWith, trackerOf, texturesAt}
 use Rattle.set_storage.specs.Stays.{onlyOwned, ownedBy}
 use Rattle.set_ready.specs.Named.{within}
 use Rattle.set_ready.specs.Half.{HeadStays, tracker-keeps, numbers-stay, flags-stay}
 use Rattle.set_ready.specs.Walked.{walked-next, over-end}
-use Rattle.set_ready.specs.TrackerWalk.{slotsBy, TrackerWalked, tracker-start, left-ready, tracker-turn, tracker-view}
-use Rattle.texture_track.specs.Slot.{slotOf, SlotSet}
+use Rattle.set_ready.specs.TrackerWalk.{slotsBy, TrackerWalked, tracker-start, left-ready, tracker-turn, walked-view}
+use Rattle.texture_track.specs.Slot.{trackerSlot, SlotSet}
 use Rattle.texture_track.specs.GivenSlot.{SetsAt, pairOf, passStart, passEnd, slotAfter}
 use Rattle.call_join.specs.Join.{Joins, SetsAll, start-given, end-given}
 
@@ -46,7 +46,7 @@ module _ {t s e : List ℕ} {from to : ℕ} {g a b : List ℕ} (w : Joins t s e 
       }
 
   -- the turn
-  pub setting-next : {t₂ s₂ e₂ : List ℕ} → SlotSet (onlyOwned g k) t₁ s₁ e₁ k (f k (slotOf t₁ s₁ e₁ k)) t₂ s₂ e₂
+  pub setting-next : {t₂ s₂ e₂ : List ℕ} → SlotSet (onlyOwned g k) t₁ s₁ e₁ k (f k (trackerSlot t₁ s₁ e₁ k)) t₂ s₂ e₂
       → Setting (within t (ownedBy g)) t s e f (k + 1) t₂ s₂ e₂
   setting-next {t₂} {s₂} {e₂} z =
       let here : slotsBy t t₂ s₂ e₂ k ≡ f k (slotsBy t t₁ s₁ e₁ k) =
@@ -67,5 +67,5 @@ setting-end {t} {s} {e} {from} {to} {g} {a} {b} {t′} {s′} {e′} p k f n q =
     let y : P (flagsOf t) (getD g texturesAt 0) = subst (P (flagsOf t)) n (subst (λ (x : UsageFlags). P x k) f q) in
     let G = slotWith (pairOf from to g a b) g in
     let F = setGiven ranged passStart passEnd (flagsOf t) in
-    let slots = over-end F (slotOf t s e) (slotsBy t t′ s′ e′) G _ (getD g texturesAt 0) (y .slots) in
-    record { view = tracker-view (q .frame) ∙ ap (withTracker (trackerOf t s e)) slots; frame = q .frame }
+    let slots = over-end F (trackerSlot t s e) (slotsBy t t′ s′ e′) G _ (getD g texturesAt 0) (y .slots) in
+    record { view = walked-view (q .frame) ∙ ap (withTracker (trackerOf t s e)) slots; frame = q .frame }

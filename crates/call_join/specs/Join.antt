@@ -20,7 +20,7 @@ use Rattle.set_checks.specs.Passed.{SetPassed}
 use Rattle.agreement.specs.Fits.{ExtentFits}
 use Rattle.set_ready.specs.Named.{within}
 use Rattle.set_ready.specs.Tested.{HalfFits, half-fits, ScopeTested, TrackerTested}
-use Rattle.texture_track.specs.Given.{HalfGiven}
+use Rattle.set_ready.specs.Given.{HalfGiven}
 use Rattle.texture_track.specs.GivenSlot.{LogsAt, pairOf, passStart, passEnd, givenEntries}
 use Rattle.log_head.specs.UpTo.{upTo}
 

@@ -1,20 +1,17 @@
 -- `merge_usage_scope`: from what the code found to the contract.
 use Prim.Native.Nat.{ℕ}
-use mathlib.Core.Path.{_≡_, sym, ap, subst, _∙_}
-use mathlib.Core.Bool.{Bool, true, false, false≢true}
+use mathlib.Core.Path.{_≡_, ap, _∙_}
+use mathlib.Core.Bool.{Bool, true}
 use mathlib.Core.List.{List}
 use mathlib.Core.Option.{Option, none, some}
 use Rattle.model.specs.declared.UsageFlags.{UsageFlags}
-use Rattle.model.specs.declared.InvalidUse.{InvalidUse}
 use Rattle.model.specs.declared.Refusal.{Refusal}
 use Rattle.model.specs.declared.Outcome.{Outcome}
 use Rattle.model.specs.declared.Outcome.the-variants as outcome
-use Rattle.model.specs.Base.{Stop}
-use Rattle.model.specs.Sets.{Slot, Head, withSlots, headOf}
+use Rattle.model.specs.Sets.{Head, headOf}
 use Rattle.model.specs.Refusals.{setRefusal}
-use Rattle.model.specs.Calls.{Indexed, answer, unless, mergeUsageScope}
-use Rattle.model.specs.Log.{isRefused, outcomeOf, merging}
-use Rattle.model.specs.Texture.{Held, ranged}
+use Rattle.model.specs.Calls.{unless, mergeUsageScope}
+use Rattle.model.specs.Texture.{ranged}
 use Rattle.set_storage.specs.Storage.{flagsOf, scopeOf}
 use Rattle.set_storage.specs.Stays.{ownedBy, keeps-more}
 use Rattle.set_checks.specs.Head.{headIn, scope-head}
@@ -24,44 +21,37 @@ use Rattle.set_checks.specs.Passed.{set-passed}
 use Rattle.set_ready.specs.Tested.{ScopeTested}
 use Rattle.call_merge.specs.Merged.{Merged}
 use Rattle.call_merge.specs.Scope.{mergedSlots, SlotsReady, SlotsMerged}
-use Rattle.call_merge.proofs.OneUse.{ScopeResult, fit, away}
+use Rattle.call_merge.proofs.OneUse.{walked, went, away}
 
 -- ---- The model's call
 module _ (t r g l : List ℕ) where
-  -- what the model's call gives where no check fails
-  abbrev merged : Stop (Indexed InvalidUse) (List (Slot Held)) → ScopeResult
-  merged w = record { answer = answer (w .conflict); log = mathlib.Core.List.[]; after = withSlots (scopeOf t r) (w .value) }
-
-  merge-is : (o : Option Refusal) → setRefusal (headIn t) (headIn g) ≡ o → mergeUsageScope ranged (scopeOf t r) (scopeOf g l) ≡ unless o (scopeOf t r) (merged (mergedSlots (scopeOf t r .flags) t r g l))
+  merge-is : (o : Option Refusal) → setRefusal (headIn t) (headIn g) ≡ o
+      → mergeUsageScope ranged (scopeOf t r) (scopeOf g l) ≡ unless o (scopeOf t r) (walked t r (mergedSlots (scopeOf t r .flags) t r g l))
   merge-is o e =
-      ap (λ (h : Head). unless (setRefusal h (headOf (scopeOf g l))) (scopeOf t r) (merged (mergedSlots (scopeOf t r .flags) t r g l))) (scope-head t r)
-      ∙ ap (λ (h : Head). unless (setRefusal (headIn t) h) (scopeOf t r) (merged (mergedSlots (scopeOf t r .flags) t r g l))) (scope-head g l)
-      ∙ ap (λ (q : Option Refusal). unless q (scopeOf t r) (merged (mergedSlots (scopeOf t r .flags) t r g l))) e
+      let done = walked t r (mergedSlots (scopeOf t r .flags) t r g l) in
+      ap (λ (h : Head). unless (setRefusal h (headOf (scopeOf g l))) (scopeOf t r) done) (scope-head t r)
+      ∙ ap (λ (h : Head). unless (setRefusal (headIn t) h) (scopeOf t r) done) (scope-head g l)
+      ∙ ap (λ (q : Option Refusal). unless q (scopeOf t r) done) e
 
-  merged-is : SetTold t g verdict.Accepted → mergeUsageScope ranged (scopeOf t r) (scopeOf g l) ≡ merged (mergedSlots (flagsOf t) t r g l)
+  merged-is : SetTold t g verdict.Accepted
+      → mergeUsageScope ranged (scopeOf t r) (scopeOf g l) ≡ walked t r (mergedSlots (flagsOf t) t r g l)
   unfolding scopeOf
   merged-is z = merge-is none (z .is)
 
--- an answer of a walk is no refusal
-walk-on : (o : Option (Indexed InvalidUse)) → isRefused (outcomeOf (answer o)) ≡ true → ⊥
-walk-on none e = false≢true e
-walk-on (some c) e = false≢true e
-
 -- ---- The answers
 module _ {t r g : List ℕ} (l : List ℕ) {fits : Bool} (e : fits ≡ true) where
-  pub scope-away : {x : Refusal} → SetTold t g (verdict.Refused x) → Merged (ownedBy g) fits (mergeUsageScope ranged (scopeOf t r) (scopeOf g l)) t r (outcome.Refused x) t r
+  pub scope-away : {x : Refusal} → SetTold t g (verdict.Refused x)
+      → Merged (ownedBy g) fits (mergeUsageScope ranged (scopeOf t r) (scopeOf g l)) t r (outcome.Refused x) t r
   scope-away {x} z = away x e (merge-is t r g l (some x) (z .is))
 
-  pub scope-done : {x : Outcome} {t′ r′ : List ℕ} → SetTold t g verdict.Accepted → SlotsMerged (ownedBy g) (mergedSlots (flagsOf t) t r g l) t r x t′ r′ → Merged (ownedBy g) fits (mergeUsageScope ranged (scopeOf t r) (scopeOf g l)) t r x t′ r′
-  scope-done {x} {t′} {r′} z q =
-      let c : merging fits (scopeOf t r) (mergeUsageScope ranged (scopeOf t r) (scopeOf g l)) ≡ merged t r g l (mergedSlots (flagsOf t) t r g l) =
-      rw e (fit (scopeOf t r) (mergeUsageScope ranged (scopeOf t r) (scopeOf g l)) ∙ merged-is t r g l z) in
-      record {
-        answer = q .answer ∙ ap (λ (y : ScopeResult). outcomeOf (y .answer)) (sym c);
-        view = q .view ∙ ap (λ (y : ScopeResult). y .after) (sym c);
-        kept = λ k. absurd (walk-on (mergedSlots (flagsOf t) t r g l .conflict) (subst (λ (y : Outcome). isRefused y ≡ true) (q .answer) k));
-        stays = keeps-more (λ j n. (set-passed t g (z .is) .each j (n .0) (n .1) .texture, n)) (λ j y o. o) (q .frame);
-      }
+  pub scope-done : {x : Outcome} {t′ r′ : List ℕ} → SetTold t g verdict.Accepted
+      → SlotsMerged (ownedBy g) (mergedSlots (flagsOf t) t r g l) t r x t′ r′
+      → Merged (ownedBy g) fits (mergeUsageScope ranged (scopeOf t r) (scopeOf g l)) t r x t′ r′
+  scope-done z q = went (mergedSlots (flagsOf t) t r g l) e (merged-is t r g l z) (record {
+    answer = q .answer;
+    view = q .view;
+    frame = keeps-more (λ j n. (set-passed t g (z .is) .each j (n .0) (n .1) .texture, n)) (λ j y o. o) (q .frame);
+  })
 
 -- what the walk over the textures asks for
 pub scope-ready : {t r g l : List ℕ} {p : UsageFlags} → ScopeTested t r → ScopeTested g l → SetTold t g verdict.Accepted → p ≡ flagsOf t → SlotsReady t r g l p

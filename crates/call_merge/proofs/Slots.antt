@@ -19,22 +19,23 @@ use Rattle.set_storage.specs.Storage.{numbersOf, extentOf, ownedOf, startHalf, 
 use Rattle.set_storage.specs.Stays.{onlyOwned, ownedBy, keeps-refl, keeps-then, keeps-more, ScopeFrame}
 use Rattle.texture_merge.specs.declared.Stopped.{Stopped}
 use Rattle.texture_merge.specs.declared.Stopped.the-variants.{Nowhere, At}
-use Rattle.set_ready.specs.Tested.{half-fits}
+use Rattle.set_ready.specs.Tested.{scopeSlot}
+use Rattle.set_ready.specs.Given.{HalfGiven, owned-given}
 use Rattle.set_ready.specs.Half.{HalfReady, HeadStays, scope-keeps, numbers-stay, flags-stay, measured-stays, scope-still}
-use Rattle.set_ready.specs.Answers.{indexed, metAt}
+use Rattle.call_merge.specs.Met.{indexed, metAt}
 use Rattle.set_ready.specs.Walked.{Walked, walked-start, walked-next, walk-end, walk-stop}
 use Rattle.set_ready.specs.TrackerWalk.{set-view}
-use Rattle.call_merge.specs.Slot.{slotOf, TakenTexture, OwnedReady, SlotMerged, slot-only, slot-other}
+use Rattle.call_merge.specs.Slot.{OwnedReady, SlotMerged, scope-named, scope-rest}
 use Rattle.call_merge.specs.Scope.{mergedSlots, SlotsReady, SlotsMerged}
 
 -- what the given scope makes of texture j, where it met no conflict
 abbrev Became : UsageFlags → List ℕ → List ℕ → ℕ → Slot Held → Slot Held → Type 0
-Became p g l j x y = mergeGiven ranged p j x (slotOf g l j) ≡ fine y
+Became p g l j x y = mergeGiven ranged p j x (scopeSlot g l j) ≡ fine y
 
 -- ---- THE INVARIANT: the textures below k are done, and the others read as at entry
 pub record Merging (p : UsageFlags) (t₀ r₀ g l : List ℕ) (k : ℕ) (t r : List ℕ) : Type 0 where
   pub within : k ≤ getD g texturesAt 0
-  pub slots : Walked (getD t₀ texturesAt 0) (Became p g l) (slotOf t₀ r₀) (λ j. k ≤ j) (slotOf t r)
+  pub slots : Walked (getD t₀ texturesAt 0) (Became p g l) (scopeSlot t₀ r₀) (λ j. k ≤ j) (scopeSlot t r)
   pub frame : ScopeFrame (ownedBy g) (numbersOf t₀) t₀ r₀ t r
 
 pub start : (p : UsageFlags) (t r g l : List ℕ) → Merging p t r g l 0 t r
@@ -42,7 +43,7 @@ start p t r g l = record { within = omega arith; slots = walked-start _ _ _ (λ 
 
 -- what a walk gives that leaves these textures, and the view then
 walk-gives : {named : ℕ → Type 0} {w : Stop (Indexed InvalidUse) (List (Slot Held))} {o : Option (Indexed InvalidUse)} {t₀ r₀ t r : List ℕ}
-    → w ≡ record { value = listFrom (slotOf t r) 0 (getD t₀ texturesAt 0); conflict = o } → ScopeFrame named (numbersOf t₀) t₀ r₀ t r
+    → w ≡ record { value = listFrom (scopeSlot t r) 0 (getD t₀ texturesAt 0); conflict = o } → ScopeFrame named (numbersOf t₀) t₀ r₀ t r
     → SlotsMerged named w t₀ r₀ (outcomeOf (answer o)) t r
 unfolding scopeOf
 walk-gives {named} {o = o} {t₀} {r₀} {t} {r} e f =
@@ -55,8 +56,8 @@ module _ {p : UsageFlags} {t₀ r₀ g l : List ℕ} {k : ℕ} {t r : List ℕ} 
   unfolding scopeOf
   finish h =
       let n = getD t₀ texturesAt 0 in let z : k ≡ getD g texturesAt 0 = omega (arith, m .within) in
-      let y = subst (λ (i : ℕ). Walked n (Became p g l) (slotOf t₀ r₀) (λ j. i ≤ j) (slotOf t r)) z (m .slots) in
-      walk-gives (walk-end (mergeGiven ranged p) (slotOf t₀ r₀) (slotOf t r) (slotOf g l) n (getD g texturesAt 0) y) (m .frame)
+      let y = subst (λ (i : ℕ). Walked n (Became p g l) (scopeSlot t₀ r₀) (λ j. i ≤ j) (scopeSlot t r)) z (m .slots) in
+      walk-gives (walk-end (mergeGiven ranged p) (scopeSlot t₀ r₀) (scopeSlot t r) (scopeSlot g l) n (getD g texturesAt 0) y) (m .frame)
 
   module _ (q : SlotsReady t₀ r₀ g l p) (h : k < getD g texturesAt 0) where
     keeps : HeadStays t₀ t
@@ -66,24 +67,17 @@ module _ {p : UsageFlags} {t₀ r₀ g l : List ℕ} {k : ℕ} {t r : List ℕ} 
       slot-now : HalfReady startHalf t r k (extentOf g k)
       slot-now = let x = q .passed .each k h o in scope-still (q .into) x (m .frame) (m .slots .same k (x .texture) (omega arith))
 
-      taken-now : TakenTexture t k (extentOf g k) g l p
-      taken-now =
-          let f = q .given .slots k h in let same = flags-stay keeps in record {
-            flags = q .flags ∙ sym same;
-            same = q .passed .flags ∙ sym same;
-            extent = refl;
-            measured = q .given .measured;
-            texture = h;
-            fits = f .extent o;
-            held = half-fits startHalf g l k (f .extent o .mips) (f .held o);
-          }
+      given-now : HalfGiven t k (extentOf g k) startHalf g l
+      given-now = owned-given (q .given) (q .passed .flags ∙ sym (flags-stay keeps)) h o
 
     -- what a lap asks for
-    pub lap-ready : OwnedReady t r k g l p
-    lap-ready = record { index = omega (arith, q .given .measured .textures); slot = slot-now; given = taken-now }
+    pub lap-ready : OwnedReady t r k g l × (p ≡ flagsOf t)
+    lap-ready =
+        let few = q .given .measured .textures in
+        (record { index = omega (arith, few); ready = slot-now; given = given-now }, q .flags ∙ sym (flags-stay keeps))
 
     -- ---- After a lap
-    module _ {x : Stopped} {t′ r′ : List ℕ} (y : SlotMerged (onlyOwned g k) t r k (mergeGiven ranged p k (slotOf t r k) (slotOf g l k)) x t′ r′) where
+    module _ {x : Stopped} {t′ r′ : List ℕ} (y : SlotMerged (onlyOwned g k) t r k (mergeGiven ranged p k (scopeSlot t r k) (scopeSlot g l k)) x t′ r′) where
       -- what it changed is of an index that the given scope owns
       frame-now : ScopeFrame (ownedBy g) (numbersOf t₀) t₀ r₀ t′ r′
       frame-now =
@@ -91,16 +85,16 @@ module _ {p : UsageFlags} {t₀ r₀ g l : List ℕ} {k : ℕ} {t r : List ℕ} 
           (keeps-more (λ j n. (subst (λ (z : ℕ). z < getD g texturesAt 0) (sym (n .0)) h, n .1)) (λ j z o. o) (y .frame)))
 
       -- the other textures read as before it
-      others : (j : ℕ) → j < getD t₀ texturesAt 0 → (j ≡ k → ⊥) → slotOf t′ r′ j ≡ slotOf t r j
+      others : (j : ℕ) → j < getD t₀ texturesAt 0 → (j ≡ k → ⊥) → scopeSlot t′ r′ j ≡ scopeSlot t r j
       others j b ne =
-          slot-other (measured-stays keeps (m .frame .ranges .long) (q .into .measured)) (slot-only (λ i n. n .0) y) j
+          scope-rest (measured-stays keeps (m .frame .ranges .long) (q .into .measured)) (scope-named (λ i n. n .0) y) j
           (rw (keeps .words texturesAt (omega arith)) b) ne
 
       -- this one as it was merged
-      this : mergeGiven ranged p k (slotOf t r k) (slotOf g l k) ≡ record { value = slotOf t′ r′ k; conflict = metAt k x }
+      this : mergeGiven ranged p k (scopeSlot t r k) (scopeSlot g l k) ≡ record { value = scopeSlot t′ r′ k; conflict = metAt k x }
       this =
           let n : numbersOf t′ ≡ numbersOf t = numbers-stay (scope-keeps (y .frame)) in
-          let s : slotOf t′ r′ k ≡ mergeGiven ranged p k (slotOf t r k) (slotOf g l k) .value =
+          let s : scopeSlot t′ r′ k ≡ mergeGiven ranged p k (scopeSlot t r k) (scopeSlot g l k) .value =
           ap (λ (d : Numbers). slotWith (heldOf d startHalf t′ r′) t′ k) n ∙ y .slot in
           sym (λ i. record { value = s i; conflict = y .conflict i })
 
@@ -120,5 +114,5 @@ module _ {p : UsageFlags} {t₀ r₀ g l : List ℕ} {k : ℕ} {t r : List ℕ} 
       unfolding scopeOf
       stop {c} e =
           let b = q .passed .each k h (is-owned (ownedOf g k) refl e) .texture in
-          let w = walk-stop (mergeGiven ranged p) (slotOf t₀ r₀) (slotOf t′ r′) (slotOf g l) (m .slots) b h others (rw e at this) in
+          let w = walk-stop (mergeGiven ranged p) (scopeSlot t₀ r₀) (scopeSlot t′ r′) (scopeSlot g l) (m .slots) b h others (rw e at this) in
           walk-gives w frame-now

@@ -13,7 +13,7 @@ use Rattle.model.specs.Texture.{fromUse}
 use Rattle.texture_merge.specs.Uses.{useOf}
 use Rattle.set_checks.specs.Head.{selectorOf, selectorRefusal}
 use Rattle.set_checks.specs.Passed.{SelectorPassed, selector-passed}
-use Rattle.set_ready.specs.Selectors.{full-is}
+use Rattle.set_ready.specs.Checked.{full-is}
 use Rattle.call_merge.specs.declared.single.Use.{Use}
 
 -- what a selection names

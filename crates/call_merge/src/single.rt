@@ -18,7 +18,7 @@ use texture_merge::Stopped;
 use texture_merge::from_set::full;
 ghost use mathlib.Core.Path.{_≡_};
 ghost use Rattle.set_storage.specs.Lent.{LentScope};
-ghost use Rattle.set_ready.specs.Answers.{toldOf};
+ghost use Rattle.call_merge.specs.Met.{toldOf};
 ghost use Rattle.call_merge.specs.Single.{UseIs};
 ghost use Rattle.call_merge.specs.Contract.{MergeSingle};
 

@@ -14,14 +14,17 @@ use texture_merge::using::insert_use;
 use texture_merge::using::merge_single_use;
 use texture_merge::using::merge_use;
 use texture_merge::using::own;
+ghost use mathlib.Core.Path.{_≡_};
 ghost use Rattle.model.specs.Calls.{mergeSlot, mergeGiven};
-ghost use Rattle.model.specs.Texture.{fromHeld, ranged};
-ghost use Rattle.set_storage.specs.Storage.{numbersOf, startHalf, heldOf};
+ghost use Rattle.model.specs.Texture.{ranged};
+ghost use Rattle.set_storage.specs.Storage.{flagsOf, startHalf};
 ghost use Rattle.set_storage.specs.Stays.{only, onlyOwned};
 ghost use Rattle.texture_merge.specs.Uses.{useOf};
-ghost use Rattle.set_ready.specs.Merges.{TakenUse};
+ghost use Rattle.set_ready.specs.Checked.{TakenUse};
 ghost use Rattle.set_ready.specs.Half.{HalfReady};
-ghost use Rattle.call_merge.specs.Slot.{slotOf, TakenTexture, OwnedReady, SlotMerged};
+ghost use Rattle.set_ready.specs.Given.{givenAt, HalfGiven};
+ghost use Rattle.set_ready.specs.Tested.{scopeSlot};
+ghost use Rattle.call_merge.specs.Slot.{OwnedReady, SlotMerged};
 
 // A use of the texture.
 pub fn merge_use_at(
@@ -37,7 +40,7 @@ pub fn merge_use_at(
     requires { ⌜ HalfReady startHalf (now table) (now ranges) i extent ⌝ }
     requires { ⌜ TakenUse (now table) extent all q p new ⌝ }
     ensures { λ x. let t = now (table .entry) in let r = now (ranges .entry) in
-        ⌜ SlotMerged (only i) t r i (mergeSlot ranged p extent (useOf all q new) i (slotOf t r i)) x (now (table .exit))
+        ⌜ SlotMerged (only i) t r i (mergeSlot ranged p extent (useOf all q new) i (scopeSlot t r i)) x (now (table .exit))
         (now (ranges .exit)) ⌝ }
 {
     if table[OWNED + i] == 0 {
@@ -66,10 +69,11 @@ pub fn merge_given_at(
     p: UsageFlags,
 ) -> Stopped
     requires { ⌜ HalfReady startHalf (now table) (now ranges) i extent ⌝ }
-    requires { ⌜ TakenTexture (now table) i extent (now given) (now lent) p ⌝ }
+    requires { ⌜ HalfGiven (now table) i extent startHalf (now given) (now lent) ⌝ }
+    requires { ⌜ p ≡ flagsOf (now table) ⌝ }
     ensures { λ x. let t = now (table .entry) in let r = now (ranges .entry) in let g = now (given .entry) in let l = now (lent .entry) in
-        ⌜ SlotMerged (only i) t r i (mergeSlot ranged p extent (fromHeld (heldOf (numbersOf g) startHalf g l i)) i (slotOf t r i)) x
-        (now (table .exit)) (now (ranges .exit)) ⌝ }
+        ⌜ SlotMerged (only i) t r i (mergeSlot ranged p extent (givenAt startHalf g l i) i (scopeSlot t r i)) x (now (table .exit))
+        (now (ranges .exit)) ⌝ }
 {
     if table[OWNED + i] == 0 {
         own(table, i, extent);
@@ -88,9 +92,10 @@ pub fn merge_owned_at(
     lent: &[u32],
     p: UsageFlags,
 ) -> Stopped
-    requires { ⌜ OwnedReady (now table) (now ranges) i (now given) (now lent) p ⌝ }
+    requires { ⌜ OwnedReady (now table) (now ranges) i (now given) (now lent) ⌝ }
+    requires { ⌜ p ≡ flagsOf (now table) ⌝ }
     ensures { λ x. let t = now (table .entry) in let r = now (ranges .entry) in let g = now (given .entry) in let l = now (lent .entry) in
-        ⌜ SlotMerged (onlyOwned g i) t r i (mergeGiven ranged p i (slotOf t r i) (slotOf g l i)) x (now (table .exit))
+        ⌜ SlotMerged (onlyOwned g i) t r i (mergeGiven ranged p i (scopeSlot t r i) (scopeSlot g l i)) x (now (table .exit))
         (now (ranges .exit)) ⌝ }
 {
     if given[OWNED + i] == 0 {

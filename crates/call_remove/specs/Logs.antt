@@ -18,10 +18,10 @@ use Rattle.set_storage.specs.Lists.{list-at}
 use Rattle.texture_barrier.specs.Adds.{entriesAt}
 use Rattle.agreement.specs.LogBound.{listed}
 use Rattle.set_checks.specs.Passed.{SparsePassed}
-use Rattle.set_ready.specs.Tested.{half-fits, ScopeTested, TrackerTested}
+use Rattle.set_ready.specs.Tested.{trackerSlot, half-fits, ScopeTested, TrackerTested}
 use Rattle.set_ready.specs.Half.{tracker-texture}
-use Rattle.texture_track.specs.Slot.{slotOf, slot-pending}
-use Rattle.texture_track.specs.Given.{givenAt}
+use Rattle.set_ready.specs.Given.{givenAt}
+use Rattle.texture_track.specs.Slot.{slot-pending}
 use Rattle.texture_track.specs.GivenSlot.{LogsAt, endEntries, givenEntries}
 use Rattle.log_head.specs.UpTo.{upTo}
 use Rattle.call_remove.specs.Once.{onceAt, once-up, once-each, up-ext}
@@ -59,9 +59,9 @@ unfolding scopeOf
 given-is t s e g r i h = list-at (slotWith (heldOf (numbersOf g) startHalf g r) g) (getD g texturesAt 0) i (emptySlot (ranged .fresh 0)) h
 
 -- the tracker's, within its N
-pub into-is : (t s e g r : List ℕ) (i : ℕ) → i < getD t texturesAt 0 → into (setsOf t s e g r) i ≡ slotOf t s e i
+pub into-is : (t s e g r : List ℕ) (i : ℕ) → i < getD t texturesAt 0 → into (setsOf t s e g r) i ≡ trackerSlot t s e i
 unfolding trackerOf
-into-is t s e g r i h = list-at (slotOf t s e) (getD t texturesAt 0) i (emptySlot (noEnds ranged)) h
+into-is t s e g r i h = list-at (trackerSlot t s e) (getD t texturesAt 0) i (emptySlot (noEnds ranged)) h
 
 -- ---- Once the test and the checks passed
 module _ {t s e g r is : List ℕ} (tested : TrackerTested t s e) (scope : ScopeTested g r) (passed : SparsePassed t g is) where
@@ -89,7 +89,7 @@ module _ {t s e g r is : List ℕ} (tested : TrackerTested t s e) (scope : Scope
           ≡ entriesAt (getD is k 0) (if o then endEntries (flagsOf t) (getD t maskAt 0) (extentOf g (getD is k 0)) (givenAt startHalf g r (getD is k 0)) t e (getD is k 0) else [])
       go true o =
           ap (λ (x : Slot (Ends Held)). pending (logSlot ranged (flagsOf t) (getD t maskAt 0) (extentOf g (getD is k 0)) (givenAt startHalf g r (getD is k 0)) (getD is k 0) x)) (into-is t s e g r (getD is k 0) (passed .each k h o .texture))
-          ∙ slot-pending (flagsOf t) (getD t maskAt 0) (extentOf g (getD is k 0)) (givenAt startHalf g r (getD is k 0)) (getD is k 0) (slotOf t s e (getD is k 0))
+          ∙ slot-pending (flagsOf t) (getD t maskAt 0) (extentOf g (getD is k 0)) (givenAt startHalf g r (getD is k 0)) (getD is k 0) (trackerSlot t s e (getD is k 0))
       go false o = refl
 
   -- THE ENTRIES are the model's

@@ -20,13 +20,13 @@ use Rattle.set_storage.specs.Storage.{numbersOf, flagsOf, extentOf, ownedOf, st
 use Rattle.set_storage.specs.Storage.{ownedAt, texturesAt, tableIndices, tableLength}
 use Rattle.set_checks.specs.Passed.{TexturePassed, SparsePassed}
 use Rattle.set_ready.specs.Named.{within}
-use Rattle.set_ready.specs.Tested.{ScopeTested, TrackerTested}
+use Rattle.set_ready.specs.Tested.{trackerSlot, ScopeTested, TrackerTested}
 use Rattle.set_ready.specs.Half.{HeadStays, BothReady, tracker-keeps, flags-stay, measured-stays}
 use Rattle.set_ready.specs.Walked.{walked-turn}
 use Rattle.set_ready.specs.TrackerWalk.{TrackerWalked, tracker-start, left-ready, tracker-turn}
-use Rattle.texture_track.specs.Slot.{slotOf, SlotSet, slot-only, slot-view}
-use Rattle.texture_track.specs.Given.{givenAt, HalfGiven}
-use Rattle.texture_track.specs.GivenSlot.{SetsAt, slotAfter, set-same}
+use Rattle.texture_track.specs.Slot.{SlotSet, tracker-kept, tracker-named, tracker-view}
+use Rattle.set_ready.specs.Given.{givenAt, HalfGiven}
+use Rattle.texture_track.specs.GivenSlot.{SetsAt, slotAfter}
 use Rattle.call_remove.specs.Gone.{Listed, disowned, set-zero, disowned-last}
 use Rattle.call_remove.specs.Removed.{Both, setsOf}
 use Rattle.call_remove.specs.Sparse.{given}
@@ -35,7 +35,7 @@ use Rattle.call_remove.specs.Fewer.{owned-keeps, extent-stays, off-other
 
 -- THE CONTRACT of one texture: the tracker takes it where the scope owns it, otherwise nothing changes; and the scope has it no more
 pub record TakenAt (t s e g r : List ℕ) (i : ℕ) (p : UsageFlags) (t′ s′ e′ g′ : List ℕ) : Type 0 where
-  pub into : SlotSet (onlyOwned g i) t s e i (slotAfter p startHalf startHalf g r r i (slotOf t s e i)) t′ s′ e′
+  pub into : SlotSet (onlyOwned g i) t s e i (slotAfter p startHalf startHalf g r r i (trackerSlot t s e i)) t′ s′ e′
   pub free : ownedOf g i ≡ false → (t′ ≡ t) × ((s′ ≡ s) × (e′ ≡ e))
   pub gone : g′ ≡ set g (ownedAt i) 0
 
@@ -60,14 +60,14 @@ pub record Takes (t s e g r is t′ s′ e′ g′ : List ℕ) : Type 0 where
 -- the scope does not own it
 pub taken-not : {t s e g r : List ℕ} {i : ℕ} {p : UsageFlags} → getD g (ownedAt i) 0 ≡ 0 → TakenAt t s e g r i p t s e g
 taken-not {t} {s} {e} {g = g} {i = i} z = record {
-  into = rw (eq-eqb (getD g (ownedAt i) 0) 0 z) (set-same t s e i);
+  into = rw (eq-eqb (getD g (ownedAt i) 0) 0 z) (tracker-kept t s e i);
   free = λ o. (refl, (refl, refl));
   gone = sym (set-zero g (ownedAt i) z);
 }
 
 -- it does, and its word of ownership becomes 0
 pub taken-own : {t s e g r : List ℕ} {i : ℕ} {p : UsageFlags} {t′ s′ e′ : List ℕ} → (getD g (ownedAt i) 0 ≡ 0 → ⊥)
-    → SlotSet (onlyOwned g i) t s e i (slotAfter p startHalf startHalf g r r i (slotOf t s e i)) t′ s′ e′
+    → SlotSet (onlyOwned g i) t s e i (slotAfter p startHalf startHalf g r r i (trackerSlot t s e i)) t′ s′ e′
     → TakenAt t s e g r i p t′ s′ e′ (set g (ownedAt i) 0)
 taken-own {g = g} {i = i} z q =
     record { into = q; free = λ o. absurd (false≢true (sym o ∙ rw (ne-eqb (getD g (ownedAt i) 0) 0 z))); gone = refl }
@@ -84,10 +84,10 @@ module _ {t s e g r : List ℕ} {i : ℕ} {p : UsageFlags} {t′ s′ e′ g′ 
       (given (setsOf t s e g r) i .owned)
       (λ o.
       let b = inside (own ∙ o) in let x = givenAt startHalf g r i in
-      let y = subst (λ (y : UsageFlags). SlotSet (only i) t s e i (setSlot ranged y (extentOf g i) x x (slotOf t s e i)) t′ s′ e′) f
-      (rw (own ∙ o) at (slot-only (λ j n. n .0) (q .into))) in
+      let y = subst (λ (y : UsageFlags). SlotSet (only i) t s e i (setSlot ranged y (extentOf g i) x x (trackerSlot t s e i)) t′ s′ e′) f
+      (rw (own ∙ o) at (tracker-named (λ j n. n .0) (q .into))) in
       let w = ap (λ (y : List ℕ). scopeOf y r) (q .gone) ∙ off-view g i few long r h in
-      rw (z, into-is t s e g r i b) (λ j. (slot-view m b y j, w j)))
+      rw (z, into-is t s e g r i b) (λ j. (tracker-view m y j, w j)))
       (λ o.
       let w = q .free (own ∙ o) in
       rw (w .0, w .1 .0, w .1 .1, q .gone, set-zero g (ownedAt i) (eqb-true _ _ (not-false _ (own ∙ o)))))

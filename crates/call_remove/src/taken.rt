@@ -13,7 +13,8 @@ ghost use Rattle.set_storage.specs.Storage.{flagsOf, startHalf, ownedAt};
 ghost use Rattle.set_storage.specs.Stays.{onlyOwned};
 ghost use Prim.Native.Nat.{_+_};
 ghost use lib.ListN.{getD};
-ghost use Rattle.texture_track.specs.Slot.{slotOf, SlotSet};
+ghost use Rattle.set_ready.specs.Tested.{trackerSlot};
+ghost use Rattle.texture_track.specs.Slot.{SlotSet};
 ghost use Rattle.texture_track.specs.GivenSlot.{SetsAt, slotAfter};
 ghost use Rattle.call_remove.specs.Taken.{Listing, TakenAt, Takes};
 
@@ -32,7 +33,7 @@ fn set_taken(
     ensures { λ _.
         let t = now (table .entry) in let s = now (starts .entry) in let e = now (ends .entry) in let g = now (given .entry) in
         let r = now (lent .entry) in
-        ⌜ SlotSet (onlyOwned g i) t s e i (slotAfter p startHalf startHalf g r r i (slotOf t s e i)) (now (table .exit))
+        ⌜ SlotSet (onlyOwned g i) t s e i (slotAfter p startHalf startHalf g r r i (trackerSlot t s e i)) (now (table .exit))
         (now (starts .exit)) (now (ends .exit)) ⌝ }
 {
     if table[OWNED + i] == 0 {

@@ -30,13 +30,12 @@ use Rattle.texture_merge.specs.Uses.{useOf}
 use Rattle.set_checks.specs.Head.{useRefusal, tracker-head, UseTold}
 use Rattle.model.specs.declared.Verdict.the-variants as verdict
 use Rattle.set_checks.specs.Passed.{use-passed, texture-passed, selector-passed, state-passed}
-use Rattle.set_ready.specs.Tested.{TrackerTested}
+use Rattle.set_ready.specs.Tested.{trackerSlot, TrackerTested}
 use Rattle.set_ready.specs.Half.{BothReady, tracker-texture}
-use Rattle.set_ready.specs.Selectors.{full-is}
+use Rattle.set_ready.specs.Checked.{TakenUse, full-is}
 use Rattle.model.specs.declared.Answered.{Answered}
 use Rattle.texture_track.specs.Tracked.{Same, Tracked, Changes, away-own, changes-tracked}
-use Rattle.texture_track.specs.Slot.{slotOf, SlotSet, slot-view, slot-pending}
-use Rattle.set_ready.specs.Merges.{TakenUse}
+use Rattle.texture_track.specs.Slot.{SlotSet, tracker-view, slot-pending}
 use Rattle.call_set.specs.Used.{usedEntries, usedTracker}
 use Rattle.log_head.specs.Log.{headWithin, refusedWith}
 use Rattle.log_head.specs.Called.{Changed}
@@ -44,11 +43,11 @@ use Rattle.log_head.specs.Called.{Changed}
 -- ---- `set_checked`
 module _ (t s e : List ℕ) (i : ℕ) (sh : Extent) (g : Given) where
   -- the texture changed
-  pub used : {h : LogHead} {l l′ : List ℕ} {x : Answered} {t′ s′ e′ : List ℕ} → BothReady t s e i sh → SlotSet (only i) t s e i (setSlot ranged (flagsOf t) sh g g (slotOf t s e i)) t′ s′ e′
+  pub used : {h : LogHead} {l l′ : List ℕ} {x : Answered} {t′ s′ e′ : List ℕ} → BothReady t s e i sh → SlotSet (only i) t s e i (setSlot ranged (flagsOf t) sh g g (trackerSlot t s e i)) t′ s′ e′
       → (trackerOf t′ s′ e′ ≡ usedTracker t s e i sh g → Changed (trackerOf t s e) (trackerOf t′ s′ e′) (Same t s e t′ s′ e′) (usedEntries t s e i sh g) (usedTracker t s e i sh g) h l x l′)
       → Changes (only i) (usedEntries t s e i sh g) (usedTracker t s e i sh g) h t s e l x t′ s′ e′ l′
   used x q c = record {
-    change = c (slot-view (x .start .measured) (x .start .texture .texture) q);
+    change = c (tracker-view (x .start .measured) q);
     frame = both-more (λ j n. (subst (λ (y : ℕ). y < getD t texturesAt 0) (sym n) (x .start .texture .texture), n)) (λ j y o. o) (q .frame);
   }
 
@@ -72,9 +71,9 @@ module _ (t s e : List ℕ) (i : ℕ) (sh : Extent) (q : Selector) (st : ℕ) wh
       ap (λ (h : Head). unless (singleRefusal h i sh (some q) st) (trackerOf t s e) (passing (trackerOf t s e .set .flags) (trackerOf t s e .mask) (slotAt (noEnds ranged) (trackerOf t s e .set) i))) (tracker-head t s e)
       ∙ ap (λ (y : Option Refusal). unless y (trackerOf t s e) (passing (trackerOf t s e .set .flags) (trackerOf t s e .mask) (slotAt (noEnds ranged) (trackerOf t s e .set) i))) z
 
-  read-here : i < getD t texturesAt 0 → passing (trackerOf t s e .set .flags) (trackerOf t s e .mask) (slotAt (noEnds ranged) (trackerOf t s e .set) i) ≡ passing (flagsOf t) (getD t maskAt 0) (slotOf t s e i)
+  read-here : i < getD t texturesAt 0 → passing (trackerOf t s e .set .flags) (trackerOf t s e .mask) (slotAt (noEnds ranged) (trackerOf t s e .set) i) ≡ passing (flagsOf t) (getD t maskAt 0) (trackerSlot t s e i)
   unfolding trackerOf
-  read-here h = ap (passing (flagsOf t) (getD t maskAt 0)) (list-at (slotOf t s e) (getD t texturesAt 0) i (emptySlot (noEnds ranged)) h)
+  read-here h = ap (passing (flagsOf t) (getD t maskAt 0)) (list-at (trackerSlot t s e) (getD t texturesAt 0) i (emptySlot (noEnds ranged)) h)
 
 module _ {t s e : List ℕ} {i : ℕ} {sh : Extent} {q : Selector} {st : ℕ} {fits : Bool} {h : LogHead} {l : List ℕ} (f : fits ≡ true) (k : headWithin (length l / 7) h ≡ true) where
   pub single-away : {r : Refusal} → UseTold t i sh (Part q) st (verdict.Refused r) → Tracked (only i) fits (setSingle ranged (trackerOf t s e) i sh q st) h t s e l (refusedWith r h) t s e l
@@ -84,11 +83,11 @@ module _ {t s e : List ℕ} {i : ℕ} {sh : Extent} {q : Selector} {st : ℕ} {f
       → Tracked (only i) fits (setSingle ranged (trackerOf t s e) i sh q st) h t s e l x t′ s′ e′ l′
   single-done {x} {t′} {s′} {e′} {l′} g z w c =
       let n = z .is in
-      let m : setSingle ranged (trackerOf t s e) i sh q st ≡ passing t s e i sh q st (flagsOf t) (getD t maskAt 0) (slotOf t s e i) =
+      let m : setSingle ranged (trackerOf t s e) i sh q st ≡ passing t s e i sh q st (flagsOf t) (getD t maskAt 0) (trackerSlot t s e i) =
       call-is t s e i sh q st none n ∙ read-here t s e i sh q st (texture-passed t i sh (use-passed t i sh (Part q) st n .0) .texture) in
       let d : Changes (only i) (usedEntries t s e i sh (fromUse sh (some q) st)) (usedTracker t s e i sh (fromUse sh (some q) st)) h t s e l x t′ s′ e′ l′ = rw w c in
       subst (λ (y : CallResult InvalidUse (List Entry) (Tracker Held)). Tracked (only i) fits y h t s e l x t′ s′ e′ l′) (sym m)
-      (changes-tracked f k refl (rw (slot-pending (flagsOf t) (getD t maskAt 0) sh (fromUse sh (some q) st) i (slotOf t s e i)) d))
+      (changes-tracked f k refl (rw (slot-pending (flagsOf t) (getD t maskAt 0) sh (fromUse sh (some q) st) i (trackerSlot t s e i)) d))
 
 -- no more entries than the tracker has subresources
 pub single-few : (t s e : List ℕ) {i : ℕ} {sh : Extent} {q : Selector} {st : ℕ} (room : ℕ) (room₂ : ℕ) → wellFormedTracker room room₂ (trackerOf t s e) ≡ true → st < 65536 → UseTold t i sh (Part q) st verdict.Accepted → (g : Given) → fromUse sh (some q) st ≡ g
@@ -96,11 +95,11 @@ pub single-few : (t s e : List ℕ) {i : ℕ} {sh : Extent} {q : Selector} {st :
 unfolding trackerOf
 single-few t s e {i} {sh} {q} {st} room room₂ f b z g w =
     let n = z .is in
-    let m : setSingle ranged (trackerOf t s e) i sh q st ≡ passing t s e i sh q st (flagsOf t) (getD t maskAt 0) (slotOf t s e i) =
+    let m : setSingle ranged (trackerOf t s e) i sh q st ≡ passing t s e i sh q st (flagsOf t) (getD t maskAt 0) (trackerSlot t s e i) =
     call-is t s e i sh q st none n ∙ read-here t s e i sh q st (texture-passed t i sh (use-passed t i sh (Part q) st n .0) .texture) in
     let d = set-single-room (trackerOf t s e) (and-left (trackerFits (trackerOf t s e)) _ (and-left _ _ f)) i sh q st b in
     let k : length (pending (setSingle ranged (trackerOf t s e) i sh q st .log)) ≤ capacity (numbersOf t) = rw (entries-written (setSingle ranged (trackerOf t s e) i sh q st .log)) d in
-    rw (m, slot-pending (flagsOf t) (getD t maskAt 0) sh (fromUse sh (some q) st) i (slotOf t s e i), w) at k
+    rw (m, slot-pending (flagsOf t) (getD t maskAt 0) sh (fromUse sh (some q) st) i (trackerSlot t s e i), w) at k
 
 -- ---- What one texture asks for
 module _ {t : List ℕ} {i : ℕ} {sh : Extent} {q : Selector} {st : ℕ} (z : UseTold t i sh (Part q) st verdict.Accepted) where

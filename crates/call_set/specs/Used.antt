@@ -9,10 +9,10 @@ use Rattle.model.specs.Calls.{setSlot}
 use Rattle.model.specs.Texture.{Held, Given, ranged}
 use Rattle.set_storage.specs.Storage.{flagsOf, trackerOf, maskAt}
 use Rattle.texture_barrier.specs.Adds.{entriesAt}
-use Rattle.texture_track.specs.Slot.{slotOf, slotEntries}
+use Rattle.texture_track.specs.Slot.{trackerSlot, slotEntries}
 
 abbrev pub usedEntries : List ℕ → List ℕ → List ℕ → ℕ → Extent → Given → List PendingTransition
-usedEntries t s e i sh g = entriesAt i (slotEntries (flagsOf t) (getD t maskAt 0) sh g (slotOf t s e i))
+usedEntries t s e i sh g = entriesAt i (slotEntries (flagsOf t) (getD t maskAt 0) sh g (trackerSlot t s e i))
 
 abbrev pub usedTracker : List ℕ → List ℕ → List ℕ → ℕ → Extent → Given → Tracker Held
-usedTracker t s e i sh g = withTracker (trackerOf t s e) (set (trackerOf t s e .set .slots) i (setSlot ranged (flagsOf t) sh g g (slotOf t s e i)))
+usedTracker t s e i sh g = withTracker (trackerOf t s e) (set (trackerOf t s e .set .slots) i (setSlot ranged (flagsOf t) sh g g (trackerSlot t s e i)))

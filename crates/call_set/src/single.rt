@@ -30,7 +30,7 @@ ghost use Rattle.set_storage.specs.Storage.{numbersOf, flagsOf};
 ghost use Rattle.set_storage.specs.Lent.{LentTracker};
 ghost use Rattle.set_storage.specs.Stays.{only};
 ghost use Rattle.texture_merge.specs.Uses.{useOf};
-ghost use Rattle.set_ready.specs.Merges.{TakenUse};
+ghost use Rattle.set_ready.specs.Checked.{TakenUse};
 ghost use Rattle.log_head.specs.Log.{headWithin};
 ghost use Rattle.set_ready.specs.Half.{BothReady};
 ghost use Rattle.texture_track.specs.Tracked.{Changes};

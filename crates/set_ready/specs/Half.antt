@@ -1,7 +1,8 @@
--- One half of a texture that passed the checks, in a set that passed the test: ready for the functions over it, and ready still while others change.
+-- One half of a texture that passed the checks, in a set that passed the test: ready for the functions over it, and ready still while
+-- others change.
 use Prim.Native.Nat.{ℕ, _<_}
 use native.Mathlib.Omega.{arith}
-use mathlib.Core.Path.{_≡_, sym, ap, subst, _∙_}
+use mathlib.Core.Path.{_≡_, refl, sym, ap, subst, _∙_}
 use mathlib.Core.Bool.{true}
 use mathlib.Core.List.{List}
 use lib.ListN.{length, getD}
@@ -9,15 +10,16 @@ use Rattle.model.specs.declared.UsageFlags.{UsageFlags}
 use Rattle.model.specs.declared.Extent.{Extent}
 use Rattle.model.specs.Sets.{Numbers, Slot}
 use Rattle.set_storage.specs.Storage.{numbersOf, flagsOf, ownedOf, startHalf, endHalf, heldOf, endsOf, slotWith, ownedAt}
-use Rattle.set_storage.specs.Stays.{ScopeFrame, TrackerFrame}
+use Rattle.set_storage.specs.Stays.{only, keeps-refl, both-refl, ScopeFrame, TrackerFrame}
 use Rattle.set_storage.specs.Frames.{Measured}
 use Rattle.set_storage.specs.Slots.{scope-head, tracker-head}
 use Rattle.set_storage.specs.Texture.{TextureHeld}
 use Rattle.set_checks.specs.Passed.{TexturePassed}
 use Rattle.agreement.specs.Fits.{HeldFits, EndsFit, SlotFits}
-use Rattle.set_ready.specs.Tested.{HalfFits, half-fits, ScopeTested, TrackerTested}
-use Rattle.set_ready.specs.Merges.{word-owned, texture-held}
+use Rattle.set_ready.specs.Tested.{scopeSlot, trackerSlot, HalfFits, half-fits, ScopeTested, TrackerTested}
+use Rattle.set_ready.specs.Checked.{word-owned, texture-held}
 
+-- texture i in the half h: it passed the checks, and where it is owned, what it holds fits
 pub record HalfReady (h : ℕ) (t r : List ℕ) (i : ℕ) (sh : Extent) : Type 0 where
   pub measured : Measured (numbersOf t) h t r
   pub texture : TexturePassed t i sh
@@ -27,22 +29,10 @@ pub record HalfReady (h : ℕ) (t r : List ℕ) (i : ℕ) (sh : Extent) : Type 0
 pub half-held : {h : ℕ} {t r : List ℕ} {i : ℕ} {sh : Extent} → HalfReady h t r i sh → (getD t (ownedAt i) 0 ≡ 0 → ⊥) → TextureHeld (numbersOf t) h t r i sh
 half-held {h} {t} {r} {i} s own = let o = word-owned t i own in texture-held (s .measured) (s .texture) (s .texture .own o) (s .held o)
 
--- ---- A set that passed the test
-pub scope-texture : {t r : List ℕ} {i : ℕ} {sh : Extent} → ScopeTested t r → TexturePassed t i sh → HalfReady startHalf t r i sh
-scope-texture {t} {r} {i} k x = let f = k .slots i (x .texture) in record { measured = k .measured; texture = x; held = λ o. half-fits startHalf t r i (f .extent o .mips) (f .held o) }
-
 -- both halves of a tracker's texture
 pub record BothReady (t s e : List ℕ) (i : ℕ) (sh : Extent) : Type 0 where
   pub start : HalfReady startHalf t s i sh
   pub end : HalfReady endHalf t e i sh
-
-pub tracker-texture : {t s e : List ℕ} {i : ℕ} {sh : Extent} → TrackerTested t s e → TexturePassed t i sh → BothReady t s e i sh
-tracker-texture {t} {s} {e} {i} k x =
-    let f = k .slots i (x .texture) in
-    record {
-      start = record { measured = k .starts; texture = x; held = λ o. half-fits startHalf t s i (f .extent o .mips) (f .held o .start) };
-      end = record { measured = k .ends; texture = x; held = λ o. half-fits endHalf t e i (f .extent o .mips) (f .held o .end) };
-    }
 
 -- ---- While other textures change: the head and the table's length stay
 pub record HeadStays (t t₁ : List ℕ) : Type 0 where
@@ -63,19 +53,22 @@ module _ {t t₁ : List ℕ} (q : HeadStays t t₁) where
   pub flags-stay : flagsOf t₁ ≡ flagsOf t
   flags-stay = rw (q .words 3 (omega arith), q .words 4 (omega arith), q .words 5 (omega arith), q .words 6 (omega arith))
 
-  -- what is measured
-  pub measured-stays : {h : ℕ} {r r₁ : List ℕ} → length r₁ ≡ length r → Measured (numbersOf t) h t r → Measured (numbersOf t₁) h t₁ r₁
-  measured-stays {h} {r} {r₁} long m =
-      subst (λ (n : Numbers). Measured n h t₁ r₁) (sym numbers-stay) (record {
-        dims = numbers-stay;
-        textures = m .textures;
-        mips = m .mips;
-        some = m .some;
-        layers = m .layers;
-        fits = rw long (m .fits);
-        half = m .half;
-        table = q .long ∙ m .table;
-      })
+  -- what is measured, by N, M and W as they were and as they are
+  module _ {h : ℕ} {r r₁ : List ℕ} (long : length r₁ ≡ length r) (m : Measured (numbersOf t) h t r) where
+    pub measured-kept : Measured (numbersOf t) h t₁ r₁
+    measured-kept = record {
+      dims = numbers-stay;
+      textures = m .textures;
+      mips = m .mips;
+      some = m .some;
+      layers = m .layers;
+      fits = rw long (m .fits);
+      half = m .half;
+      table = q .long ∙ m .table;
+    }
+
+    pub measured-stays : Measured (numbersOf t₁) h t₁ r₁
+    measured-stays = subst (λ (n : Numbers). Measured n h t₁ r₁) (sym numbers-stay) measured-kept
 
   -- texture i of any set, where it reads as before: the checks pass, and what it holds fits
   module _ {H : Type 0} (held held₁ : ℕ → H) (i : ℕ) (slot : slotWith held₁ t₁ i ≡ slotWith held t i) where
@@ -95,8 +88,8 @@ module _ {t t₁ : List ℕ} (q : HeadStays t t₁) where
         (subst (λ (p : UsageFlags). SlotFits P (numbersOf t) p (slotWith held₁ t₁ i)) (sym flags-stay) (subst (SlotFits P (numbersOf t) (flagsOf t)) (sym slot) f))
 
 -- so it is ready still: of a scope
-pub scope-still : {named : ℕ → Type 0} {d : Numbers} {t r t₁ r₁ : List ℕ} {i : ℕ} {sh : Extent} → ScopeTested t r → TexturePassed t i sh → ScopeFrame named d t r t₁ r₁
-    → slotWith (heldOf (numbersOf t₁) startHalf t₁ r₁) t₁ i ≡ slotWith (heldOf (numbersOf t) startHalf t r) t i → HalfReady startHalf t₁ r₁ i sh
+pub scope-still : {named : ℕ → Type 0} {d : Numbers} {t r t₁ r₁ : List ℕ} {i : ℕ} {sh : Extent} → ScopeTested t r → TexturePassed t i sh
+    → ScopeFrame named d t r t₁ r₁ → scopeSlot t₁ r₁ i ≡ scopeSlot t r i → HalfReady startHalf t₁ r₁ i sh
 scope-still {t = t} {r} {t₁} {r₁} {i} k x frame slot =
     let q = scope-keeps frame in
     let held = heldOf (numbersOf t) startHalf t r in let held₁ = heldOf (numbersOf t₁) startHalf t₁ r₁ in
@@ -108,15 +101,24 @@ scope-still {t = t} {r} {t₁} {r₁} {i} k x frame slot =
     }
 
 -- and of a tracker; what it holds is read by N, M and W as they were
-pub tracker-still : {named : ℕ → Type 0} {d : Numbers} {t s e t₁ s₁ e₁ : List ℕ} {i : ℕ} {sh : Extent} → TrackerTested t s e → TexturePassed t i sh → TrackerFrame named d t s e t₁ s₁ e₁
-    → slotWith (endsOf (numbersOf t) t₁ s₁ e₁) t₁ i ≡ slotWith (endsOf (numbersOf t) t s e) t i → BothReady t₁ s₁ e₁ i sh
+pub tracker-still : {named : ℕ → Type 0} {d : Numbers} {t s e t₁ s₁ e₁ : List ℕ} {i : ℕ} {sh : Extent} → TrackerTested t s e
+    → TexturePassed t i sh → TrackerFrame named d t s e t₁ s₁ e₁ → slotWith (endsOf (numbersOf t) t₁ s₁ e₁) t₁ i ≡ trackerSlot t s e i
+    → BothReady t₁ s₁ e₁ i sh
 tracker-still {t = t} {s} {e} {t₁} {s₁} {e₁} {i} k x frame slot =
     let q = tracker-keeps frame in
     let held = endsOf (numbersOf t) t s e in let held₁ = endsOf (numbersOf t₁) t₁ s₁ e₁ in
-    let now : slotWith held₁ t₁ i ≡ slotWith held t i = subst (λ (n : Numbers). slotWith (endsOf n t₁ s₁ e₁) t₁ i ≡ slotWith held t i) (sym (numbers-stay q)) slot in
+    let now : trackerSlot t₁ s₁ e₁ i ≡ trackerSlot t s e i =
+    subst (λ (n : Numbers). slotWith (endsOf n t₁ s₁ e₁) t₁ i ≡ trackerSlot t s e i) (sym (numbers-stay q)) slot in
     let f = fits-stays q held held₁ i now EndsFit (k .slots i (x .texture)) in
     let y = passed-stays q held held₁ i now x in
     record {
       start = record { measured = measured-stays q (frame .starts .long) (k .starts); texture = y; held = λ o. half-fits startHalf t₁ s₁ i (f .extent o .mips) (f .held o .start) };
       end = record { measured = measured-stays q (frame .ends .long) (k .ends); texture = y; held = λ o. half-fits endHalf t₁ e₁ i (f .extent o .mips) (f .held o .end) };
     }
+
+-- ---- A set that passed the test, as it is
+pub scope-texture : {t r : List ℕ} {i : ℕ} {sh : Extent} → ScopeTested t r → TexturePassed t i sh → HalfReady startHalf t r i sh
+scope-texture {t} {r} {i} k x = scope-still {named = only i} {d = numbersOf t} k x (keeps-refl t r) refl
+
+pub tracker-texture : {t s e : List ℕ} {i : ℕ} {sh : Extent} → TrackerTested t s e → TexturePassed t i sh → BothReady t s e i sh
+tracker-texture {t} {s} {e} {i} k x = tracker-still {named = only i} {d = numbersOf t} k x (both-refl t s e) refl

@@ -1,9 +1,8 @@
 pub mod Tested
-pub mod Selectors
-pub mod Merges
-pub mod Updates
+pub mod Checked
 pub mod Half
-pub mod Answers
+pub mod Given
+pub mod Owned
 pub mod Named
 pub mod Walked
 pub mod TrackerWalk

@@ -2,11 +2,10 @@
 use Prim.Native.Nat.{ℕ, _≤_, _<_}
 use native.Mathlib.Omega.{arith}
 use mathlib.Core.Path.{_≡_}
-use mathlib.Core.Logic.{_⊎_, inl, inr}
 use mathlib.Core.List.{List}
 use lib.ListN.{getD}
 use Rattle.set_storage.specs.Storage.{numbersOf, startHalf, endHalf, tableIndices, ownedAt, mipsAt, layersAt, stateAt, countAt, rangesAt, texturesAt}
-use Rattle.set_storage.specs.Stays.{Stays, OffTracker, OffRanges, off-scope, past-ranges, head-off, owned-off, mips-off, layers-off, start-off, end-off, start-count-off, end-count-off, ScopeFrame, TrackerFrame}
+use Rattle.set_storage.specs.Stays.{Stays, OffTracker, OffRanges, off-scope, past-ranges, owned-off, mips-off, layers-off, start-off, end-off, start-count-off, end-count-off, ScopeFrame, TrackerFrame}
 
 -- the named indices that are below the N of the table t
 abbrev pub within : List ℕ → (ℕ → Type 0) → ℕ → Type 0
@@ -49,14 +48,6 @@ module _ {named : ℕ → Type 0} {t r t′ r′ : List ℕ} (f : ScopeFrame (wi
 
   pub scope-unnamed : (j : ℕ) → j < tableIndices → ((i : ℕ) → named i → j ≡ i → ⊥) → WordsStay j t t′
   scope-unnamed j h out = words-of j h (λ x o. f .words .same x (λ i a n. off-scope i x (o i a (out i (n .1)))))
-
-  -- the words that a scope does not read: a tracker's mask and end
-  pub scope-unread : (y : ℕ) → (y < 8) ⊎ (endHalf ≤ y) → getD t′ y 0 ≡ getD t y 0
-  scope-unread y (inl q) = f .words .same y (λ i _ _. off-scope i y (head-off i y q))
-  scope-unread y (inr q) = f .words .same y (λ i a _. record {
-    head = record { owned = λ z. omega arith; mips = λ z. omega arith; layers = λ z. omega arith };
-    start = record { state = λ z. omega arith; counts = record { off = inr (omega arith) } };
-  })
 
 -- ---- A call into a tracker
 module _ {named : ℕ → Type 0} {t s e t′ s′ e′ : List ℕ} (f : TrackerFrame (within t named) (numbersOf t) t s e t′ s′ e′) where

@@ -1,5 +1,5 @@
 -- What the test of a set has shown of its storage, index by index.
-use Prim.Native.Nat.{ℕ, zero, suc, _+_, _/_, _≤_, _<_}
+use Prim.Native.Nat.{ℕ, _+_, _/_, _≤_, _<_}
 use native.Mathlib.Omega.{arith}
 use mathlib.Core.Path.{_≡_, refl, sym, ap, subst, _∙_}
 use mathlib.Core.Bool.{true, and-eq-true-iff}
@@ -11,15 +11,26 @@ use Rattle.model.specs.declared.Extent.{Extent}
 use Rattle.model.specs.declared.Range.{Range}
 use Rattle.model.specs.Flags.{flagsFit}
 use Rattle.model.specs.RangedStates.{Tiles}
-use Rattle.model.specs.Texture.{many}
+use Rattle.model.specs.Representation.{Ends}
+use Rattle.model.specs.Sets.{Slot}
+use Rattle.model.specs.Texture.{Held, many}
 use Rattle.model.specs.WellFormed.{wellFormedScope, wellFormedTracker}
 use Rattle.usage.specs.BitLaws.{and-or, or-zero}
 use Rattle.set_storage.specs.Storage.{numbersOf, flagsOf, extentOf, startHalf, endHalf, mipOf, mipsIn, mipsOf, heldOf, endsOf, slotWith, setWith, scopeOf, trackerOf, listFrom, complexAt, layersAt, mipLimitAt, mipsAt, tableLength, texturesAt}
+use Rattle.set_storage.specs.Lists.{list-at, list-long}
 use Rattle.set_storage.specs.Frames.{Measured, mip-at, mips-long, measured-of}
 use Rattle.set_storage.specs.Slots.{held-many, held-single}
 use Rattle.agreement.specs.Fits.{SingleFits, MipFits, HeldFits, EndsFit, SlotFits, SetFits}
 use Rattle.agreement.specs.Decides.{scope-to, tracker-to}
-use Rattle.model.specs.ListLaws.{All, all-at}
+use Rattle.model.specs.ListLaws.{all-at}
+
+-- texture i of a scope, as the view has it
+abbrev pub scopeSlot : List ℕ → List ℕ → ℕ → Slot Held
+scopeSlot t r = slotWith (heldOf (numbersOf t) startHalf t r) t
+
+-- texture i of a tracker
+abbrev pub trackerSlot : List ℕ → List ℕ → List ℕ → ℕ → Slot (Ends Held)
+trackerSlot t s e = slotWith (endsOf (numbersOf t) t s e) t
 
 -- ---- What an owned texture holds in the half h: ranges that tile its layers where its word tells COMPLEX, otherwise a state that fits
 pub record HalfFits (h : ℕ) (t r : List ℕ) (i : ℕ) : Type 0 where
@@ -49,22 +60,17 @@ union-not-bit x s c n e z =
     n (or-zero (bitAnd x s) s a .1)
 
 -- ---- A set that passed the test
--- each slot of a list that was made position by position
-list-all : {A : Type 0} (P : A → Type 0) (f : ℕ → A) (k n j : ℕ) → All P (listFrom f k n) → j < n → P (f (k + j))
-unfolding listFrom
-list-all P f k zero j a h = absurd (omega arith)
-list-all P f k (suc n) zero a h = let e : k ≡ k + 0 = omega arith in subst (λ (x : ℕ). P (f x)) e (a .0)
-list-all P f k (suc n) (suc j) a h = let e : suc k + j ≡ k + suc j = omega arith in subst (λ (x : ℕ). P (f x)) e (list-all P f (suc k) n j (a .1) (omega arith))
-
-slot-of : {H : Type 0} (P : UsageFlags → Extent → H → Type 0) (held : ℕ → H) (t : List ℕ) → SetFits P (setWith held t) → (i : ℕ) → i < getD t texturesAt 0 → SlotFits P (numbersOf t) (flagsOf t) (slotWith held t i)
+-- each of its slots fits
+slot-of : {H : Type 0} (P : UsageFlags → Extent → H → Type 0) (held : ℕ → H) (t : List ℕ) → SetFits P (setWith held t)
+    → (i : ℕ) → i < getD t texturesAt 0 → SlotFits P (numbersOf t) (flagsOf t) (slotWith held t i)
 slot-of P held t f i h =
-    let z : 0 + i ≡ i = omega arith in
-    subst (λ (x : ℕ). SlotFits P (numbersOf t) (flagsOf t) (slotWith held t x)) z (list-all (SlotFits P (numbersOf t) (flagsOf t)) (slotWith held t) 0 (getD t texturesAt 0) i (f .slots) h)
+    let fits = SlotFits P (numbersOf t) (flagsOf t) in let slot = slotWith held t in let n = getD t texturesAt 0 in
+    subst fits (list-at slot n i (slot 0) h) (all-at fits (listFrom slot 0 n) i (slot 0) (f .slots) (rw (list-long slot 0 n) h))
 
 pub record ScopeTested (t r : List ℕ) : Type 0 where
   pub measured : Measured (numbersOf t) startHalf t r
   pub flags : flagsFit (flagsOf t) ≡ true
-  pub slots : (i : ℕ) → i < getD t texturesAt 0 → SlotFits HeldFits (numbersOf t) (flagsOf t) (slotWith (heldOf (numbersOf t) startHalf t r) t i)
+  pub slots : (i : ℕ) → i < getD t texturesAt 0 → SlotFits HeldFits (numbersOf t) (flagsOf t) (scopeSlot t r i)
 
 pub scope-tested : (t r : List ℕ) → length t ≡ tableLength → wellFormedScope (length r / 3) (scopeOf t r) ≡ true → ScopeTested t r
 unfolding scopeOf
@@ -76,7 +82,7 @@ pub record TrackerTested (t s e : List ℕ) : Type 0 where
   pub starts : Measured (numbersOf t) startHalf t s
   pub ends : Measured (numbersOf t) endHalf t e
   pub flags : flagsFit (flagsOf t) ≡ true
-  pub slots : (i : ℕ) → i < getD t texturesAt 0 → SlotFits EndsFit (numbersOf t) (flagsOf t) (slotWith (endsOf (numbersOf t) t s e) t i)
+  pub slots : (i : ℕ) → i < getD t texturesAt 0 → SlotFits EndsFit (numbersOf t) (flagsOf t) (trackerSlot t s e i)
 
 pub tracker-tested : (t s e : List ℕ) → length t ≡ tableLength → wellFormedTracker (length s / 3) (length e / 3) (trackerOf t s e) ≡ true → TrackerTested t s e
 unfolding trackerOf

@@ -13,7 +13,7 @@ use Rattle.set_storage.specs.Stays.{both-refl, both-then, both-more, TrackerFra
 use Rattle.set_storage.specs.Frames.{Measured}
 use Rattle.set_storage.specs.Slots.{tracker-other}
 use Rattle.set_checks.specs.Passed.{TexturePassed}
-use Rattle.set_ready.specs.Tested.{TrackerTested}
+use Rattle.set_ready.specs.Tested.{trackerSlot, TrackerTested}
 use Rattle.set_ready.specs.Half.{HeadStays, BothReady, tracker-keeps, numbers-stay, flags-stay, tracker-still}
 use Rattle.set_ready.specs.Walked.{Walked, walked-start}
 
@@ -29,12 +29,12 @@ slotsBy t t₁ s₁ e₁ = slotWith (endsOf (numbersOf t) t₁ s₁ e₁) t₁
 -- they are walked over, and what is of no named index stays
 pub record TrackerWalked (named : ℕ → Type 0) (t s e : List ℕ) (R : ℕ → Slot (Ends Held) → Slot (Ends Held) → Type 0) (left : ℕ → Type 0)
     (t₁ s₁ e₁ : List ℕ) : Type 0 where
-  pub slots : Walked (getD t texturesAt 0) R (slotsBy t t s e) left (slotsBy t t₁ s₁ e₁)
+  pub slots : Walked (getD t texturesAt 0) R (trackerSlot t s e) left (slotsBy t t₁ s₁ e₁)
   pub frame : TrackerFrame named (numbersOf t) t s e t₁ s₁ e₁
 
 module _ {named : ℕ → Type 0} {t s e : List ℕ} {R : ℕ → Slot (Ends Held) → Slot (Ends Held) → Type 0} {left : ℕ → Type 0} where
   -- nothing changed yet
-  pub tracker-start : ((j : ℕ) → (left j → ⊥) → R j (slotsBy t t s e j) (slotsBy t t s e j)) → TrackerWalked named t s e R left t s e
+  pub tracker-start : ((j : ℕ) → (left j → ⊥) → R j (trackerSlot t s e j) (trackerSlot t s e j)) → TrackerWalked named t s e R left t s e
   tracker-start d = record { slots = walked-start _ _ _ d; frame = both-refl t s e }
 
   module _ {t₁ s₁ e₁ : List ℕ} (q : TrackerWalked named t s e R left t₁ s₁ e₁) where
@@ -46,7 +46,7 @@ module _ {named : ℕ → Type 0} {t s e : List ℕ} {R : ℕ → Slot (Ends Hel
     pub tracker-turn : {turned next : ℕ → Type 0} {k : ℕ} {t₂ s₂ e₂ : List ℕ} → Measured (numbersOf t) startHalf t s
         → ((j : ℕ) → turned j → (j ≡ k) × named j) → TrackerFrame turned (numbersOf t₁) t₁ s₁ e₁ t₂ s₂ e₂
         → (((j : ℕ) → j < getD t texturesAt 0 → (j ≡ k → ⊥) → slotsBy t t₂ s₂ e₂ j ≡ slotsBy t t₁ s₁ e₁ j)
-        → Walked (getD t texturesAt 0) R (slotsBy t t s e) next (slotsBy t t₂ s₂ e₂)) → TrackerWalked named t s e R next t₂ s₂ e₂
+        → Walked (getD t texturesAt 0) R (trackerSlot t s e) next (slotsBy t t₂ s₂ e₂)) → TrackerWalked named t s e R next t₂ s₂ e₂
     tracker-turn {turned} {t₂ = t₂} {s₂} {e₂} m n z turn =
         let f = subst (λ (d : Numbers). TrackerFrame turned d t₁ s₁ e₁ t₂ s₂ e₂) (numbers-stay (tracker-keeps (q .frame))) z in record {
           slots = turn (λ j a ne. tracker-other (m .textures) (m .mips) f j a (λ y. ne (n j y .0)));
@@ -54,10 +54,10 @@ module _ {named : ℕ → Type 0} {t s e : List ℕ} {R : ℕ → Slot (Ends Hel
         }
 
 -- THE VIEW
-pub tracker-view : {named : ℕ → Type 0} {t s e t₁ s₁ e₁ : List ℕ} → TrackerFrame named (numbersOf t) t s e t₁ s₁ e₁
+pub walked-view : {named : ℕ → Type 0} {t s e t₁ s₁ e₁ : List ℕ} → TrackerFrame named (numbersOf t) t s e t₁ s₁ e₁
     → trackerOf t₁ s₁ e₁ ≡ withTracker (trackerOf t s e) (listFrom (slotsBy t t₁ s₁ e₁) 0 (getD t texturesAt 0))
 unfolding trackerOf
-tracker-view {t = t} {t₁ = t₁} {s₁} {e₁} f =
+walked-view {t = t} {t₁ = t₁} {s₁} {e₁} f =
     let q = tracker-keeps f in
     let set = ap (λ (d : Numbers). setWith (endsOf d t₁ s₁ e₁) t₁) (numbers-stay q) ∙ set-view (endsOf (numbersOf t) t₁ s₁ e₁) q in
     rw (q .words maskAt (omega arith), set)

@@ -4,13 +4,12 @@
 // `texture_update`, `texture_barrier`) below, and the public calls above, which test and check first. Laws, and one function, by which
 // every use of a texture is told to be of all of it.
 //
-//     Tested      a set that passed the test, index by index
-//     Merges      a texture that passed the checks: `TextureReady` and `TextureHeld`, made once, for a use and for another set's texture
-//     Updates     an owned texture of a tracker, for a use of it
-//     Selectors   a selector that names all of a texture
-//     Half        one half of a texture, or both, for the functions over it; ready still while other textures change
-//     Answers     what a call answers, by what its walk over textures met
-//     Named       what the frame of a call says of the numbers that no texture uses, and of a texture that it does not name
+//     Tested    a texture of a scope or of a tracker as the view has it; a set that passed the test, index by index
+//     Checked   a use and a texture that passed the checks: `TextureReady` and `TextureHeld`, made once
+//     Half      one half of a texture, or both, for the functions over it; ready still while other textures change
+//     Given     what another set holds at the same index, for the functions that take it
+//     Owned     a texture that is owned, just now or before: ready, how its slot reads after a change, and the view of the set
+//     Named     what the frame of a call says of the numbers that no texture uses, and of a texture that it does not name
 use model::Extent;
 use model::Selector;
 ghost use mathlib.Core.Path.{_≡_};

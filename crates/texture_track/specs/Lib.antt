@@ -1,5 +1,4 @@
 pub mod Tracked
 pub mod Slot
 pub mod Using
-pub mod Given
 pub mod GivenSlot

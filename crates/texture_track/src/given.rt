@@ -20,10 +20,12 @@ ghost use Rattle.model.specs.Calls.{setSlot};
 ghost use Rattle.model.specs.Texture.{ranged};
 ghost use Rattle.texture_barrier.specs.Steps.{logTop};
 ghost use Rattle.texture_barrier.specs.Adds.{RoomFor, Adds, entriesAt};
-ghost use Rattle.texture_track.specs.Slot.{slotOf, SlotSet};
+ghost use Rattle.texture_track.specs.Slot.{trackerSlot, SlotSet};
 ghost use Rattle.set_storage.specs.Stays.{only, onlyOwned};
-ghost use Rattle.texture_track.specs.Given.{givenAt, HalfGiven};
-ghost use Rattle.texture_track.specs.GivenSlot.{BothGiven, SetsAt, LogsAt, bothSingle, slotAfter, endEntries, givenEntries, singleEntry};
+ghost use Rattle.set_ready.specs.Given.{givenAt, HalfGiven};
+ghost use Rattle.set_ready.specs.Tested.{trackerSlot};
+ghost use Rattle.texture_track.specs.GivenSlot.{BothGiven, SetsAt, LogsAt, slotAfter};
+ghost use Rattle.texture_track.specs.GivenSlot.{bothSingle, endEntries, givenEntries, singleEntry};
 ghost use Rattle.set_storage.specs.Storage.{endHalf};
 ghost use Rattle.set_ready.specs.Half.{HalfReady, BothReady};
 
@@ -46,8 +48,8 @@ pub fn set_given_at(
     ensures { λ _.
         let t = now (table .entry) in let s = now (starts .entry) in let e = now (ends .entry) in let g = now (given .entry) in
         let a = now (first .entry) in let b = now (last .entry) in
-        ⌜ SlotSet (only i) t s e i (setSlot ranged p extent (givenAt from g a i) (givenAt to g b i) (slotOf t s e i)) (now (table .exit))
-        (now (starts .exit)) (now (ends .exit)) ⌝ }
+        ⌜ SlotSet (only i) t s e i (setSlot ranged p extent (givenAt from g a i) (givenAt to g b i) (trackerSlot t s e i))
+        (now (table .exit)) (now (starts .exit)) (now (ends .exit)) ⌝ }
 {
     if table[OWNED + i] == 0 {
         own(table, i, extent);
@@ -118,7 +120,7 @@ pub fn set_owned_at(
     ensures { λ _.
         let t = now (table .entry) in let s = now (starts .entry) in let e = now (ends .entry) in let g = now (given .entry) in
         let a = now (first .entry) in let b = now (last .entry) in
-        ⌜ SlotSet (onlyOwned g i) t s e i (slotAfter p from to g a b i (slotOf t s e i)) (now (table .exit)) (now (starts .exit))
+        ⌜ SlotSet (onlyOwned g i) t s e i (slotAfter p from to g a b i (trackerSlot t s e i)) (now (table .exit)) (now (starts .exit))
         (now (ends .exit)) ⌝ }
 {
     if given[OWNED + i] == 0 {
@@ -266,7 +268,7 @@ pub fn set_at(
     ensures { λ _.
         let t = now (table .entry) in let s = now (starts .entry) in let e = now (ends .entry) in let g = now (given .entry) in
         let a = now (first .entry) in let b = now (last .entry) in
-        ⌜ SlotSet (onlyOwned g i) t s e i (slotAfter p from to g a b i (slotOf t s e i)) (now (table .exit)) (now (starts .exit))
+        ⌜ SlotSet (onlyOwned g i) t s e i (slotAfter p from to g a b i (trackerSlot t s e i)) (now (table .exit)) (now (starts .exit))
         (now (ends .exit)) ⌝ }
 {
     if given[OWNED + i] == 0 {

@@ -19,9 +19,10 @@ ghost use Rattle.set_storage.specs.Stays.{only};
 ghost use Rattle.texture_merge.specs.Uses.{useOf};
 ghost use Rattle.texture_barrier.specs.Steps.{logTop};
 ghost use Rattle.texture_barrier.specs.Adds.{RoomFor, Adds, entriesAt};
-ghost use Rattle.texture_track.specs.Slot.{slotOf, slotEntries, SlotSet};
-ghost use Rattle.set_ready.specs.Merges.{TakenUse};
+ghost use Rattle.texture_track.specs.Slot.{trackerSlot, slotEntries, SlotSet};
 ghost use Rattle.set_ready.specs.Half.{BothReady};
+ghost use Rattle.set_ready.specs.Tested.{trackerSlot};
+ghost use Rattle.set_ready.specs.Checked.{TakenUse};
 
 // What the texture becomes.
 pub fn set_use_at(
@@ -38,7 +39,7 @@ pub fn set_use_at(
     requires { ⌜ BothReady (now table) (now starts) (now ends) i extent ⌝ }
     requires { ⌜ TakenUse (now table) extent all q p new ⌝ }
     ensures { λ _. let t = now (table .entry) in let s = now (starts .entry) in let e = now (ends .entry) in
-        ⌜ SlotSet (only i) t s e i (setSlot ranged p extent (useOf all q new) (useOf all q new) (slotOf t s e i)) (now (table .exit))
+        ⌜ SlotSet (only i) t s e i (setSlot ranged p extent (useOf all q new) (useOf all q new) (trackerSlot t s e i)) (now (table .exit))
         (now (starts .exit)) (now (ends .exit)) ⌝ }
 {
     if table[OWNED + i] == 0 {
@@ -73,10 +74,10 @@ pub fn log_use_at(
     requires { ⌜ BothReady (now table) (now starts) (now ends) i extent ⌝ }
     requires { ⌜ TakenUse (now table) extent all q p new ⌝ }
     requires { ⌜ at ≤ logTop ⌝ }
-    requires { let es = slotEntries p mask extent (useOf all q new) (slotOf (now table) (now starts) (now ends) i) in
+    requires { let es = slotEntries p mask extent (useOf all q new) (trackerSlot (now table) (now starts) (now ends) i) in
         ⌜ RoomFor write (now log) at (entriesAt i es) ⌝ }
     ensures { λ x. let t = now (table .entry) in let s = now (starts .entry) in let e = now (ends .entry) in
-        let es = slotEntries p mask extent (useOf all q new) (slotOf t s e i) in
+        let es = slotEntries p mask extent (useOf all q new) (trackerSlot t s e i) in
         ⌜ Adds 4096 write (now (log .entry)) at (entriesAt i es) x (now (log .exit)) ⌝ }
 {
     if table[OWNED + i] == 0 {

@@ -3,7 +3,7 @@ use borrow.Author.Tests.{eq-eqb, ne-eqb}
 use borrow.Author.Needs.{needs}
 use Rattle.texture_barrier.specs.Adds.{adds-none}
 use Rattle.set_ready.specs.Half.{half-held}
-use Rattle.texture_track.specs.Given.{given-textured}
+use Rattle.set_ready.specs.Given.{given-textured}
 use Rattle.texture_track.proofs.given.log_given_at.Statement.{statement}
 use Rattle.texture_track.proofs.given.log_given_at.Tie as tie
 

@@ -1,31 +1,56 @@
 -- `set_use_at`: an unowned texture is inserted in both halves, an owned one is updated.
-use mathlib.Core.Path.{refl}
-use Rattle.texture_track.specs.Using.{new-start, new-end, set-new, old-update, old-selecting, use-all, use-part}
-use Rattle.texture_track.specs.Slot.{slot-old}
+use Rattle.set_ready.specs.Checked.{use-ready, update-ready, selecting}
+use Rattle.set_ready.specs.Half.{half-held}
+use Rattle.set_ready.specs.Owned.{own-flags, own-ready, end-flags, end-textured}
+use Rattle.texture_track.specs.Using.{use-all, use-part}
+use Rattle.texture_track.specs.Slot.{tracker-new, tracker-old}
 use borrow.Author.Needs.{needs}
 use Rattle.texture_track.proofs.using.set_use_at.Statement.{statement}
 use Rattle.texture_track.proofs.using.set_use_at.Tie as tie
 
 insert-use-requires : tie.Need-insert-use-requires
-insert-use-requires c κs = rw ((c .before .before .own .ensures)) (new-start ((c .before .before .before .before .before .before .before .before .pre) .0) ((c .before .before .before .before .before .before .before .before .pre) .1))
+insert-use-requires c κs =
+    let p = c .before .before .before .before .before .before .before .before .pre in
+    rw (c .before .before .own .ensures) (use-ready (p .1) (own-ready (p .0 .start)) (own-flags (p .0 .start)))
 
 insert-use-requires-2 : tie.Need-insert-use-requires-2
-insert-use-requires-2 c κs = new-end ((c .before .before .before .before .before .before .before .before .before .before .before .before .before .pre) .0) ((c .before .before .before .before .before .before .before .before .before .before .before .before .before .pre) .1) (rw ((c .before .before .before .before .before .before .before .own .ensures)) at (c .before .before .before .before .insert-use .ensures))
+insert-use-requires-2 c κs =
+    let at-own = c .before .before .before .before .before .before .before in
+    let p = at-own .before .before .before .before .before .before .pre in
+    let f = rw (at-own .own .ensures) at (c .before .before .before .before .insert-use .ensures .frame) in
+    use-ready (p .1) (end-textured (p .0) f) (end-flags (p .0) f)
 
 returns : tie.Need-returns
-returns c = set-new ((c .before .before .before .before .before .before .before .before .before .before .before .before .before .before .before .before .pre) .0) ((c .before .before .before .before .before .before .before .before .before .before .before .before .before .before .before .before .pre) .1) (rw ((c .before .before .before .before .before .before .before .before .before .before .own .ensures)) at (c .before .before .before .before .before .before .before .insert-use .ensures)) _ _ (c .before .before .before .before .before .before .before .before .before .before .before .before .if1 .taken) refl (c .before .before .insert-use2 .ensures)
+returns c =
+    let at-insert = c .before .before .before .before .before .before .before in let at-own = at-insert .before .before .before in
+    let p = at-own .before .before .before .before .before .before .pre in
+    tracker-new (p .0) _ _ _ (at-own .before .before .if1 .taken) (rw (at-own .own .ensures) at (at-insert .insert-use .ensures))
+    (c .before .before .insert-use2 .ensures)
 
 update-state-requires : tie.Need-update-state-requires
-update-state-requires c κs = old-update ((c .before .before .before .before .before .before .before .before .pre) .0) ((c .before .before .before .before .before .before .before .before .pre) .1) (c .before .before .before .before .if1 .left)
+update-state-requires c κs =
+    let at-if1 = c .before .before .before .before in let p = at-if1 .before .before .before .before .pre in
+    let own = at-if1 .if1 .left in
+    update-ready (p .1) (half-held (p .0 .start) own) (half-held (p .0 .end) own)
 
 returns-2 : tie.Need-returns-2
-returns-2 c = rw (use-all _ _ _ (c .before .before .before .before .before .before .if2 .taken)) (slot-old ((c .before .before .before .before .before .before .before .before .before .before .before .pre) .0) _ _ _ (c .before .before .before .before .before .before .before .if1 .left) (c .before .before .update-state .ensures))
+returns-2 c =
+    let at-if2 = c .before .before .before .before .before .before in let p = at-if2 .before .before .before .before .before .pre in
+    rw (use-all _ _ _ (at-if2 .if2 .taken))
+    (tracker-old (p .0) _ _ _ (at-if2 .before .if1 .left) (c .before .before .update-state .ensures))
 
 update-use-requires : tie.Need-update-use-requires
-update-use-requires c κs = (old-update ((c .before .before .before .before .before .before .before .before .pre) .0) ((c .before .before .before .before .before .before .before .before .pre) .1) (c .before .before .before .before .if1 .left), old-selecting ((c .before .before .before .before .before .before .before .before .pre) .0) ((c .before .before .before .before .before .before .before .before .pre) .1) (c .before .before .before .before .if1 .left))
+update-use-requires c κs =
+    let at-if1 = c .before .before .before .before in let p = at-if1 .before .before .before .before .pre in
+    let own = at-if1 .if1 .left in
+    (update-ready (p .1) (half-held (p .0 .start) own) (half-held (p .0 .end) own), selecting (p .1))
 
 returns-3 : tie.Need-returns-3
-returns-3 c = rw (use-part _ _ _ (c .before .before .before .before .before .before .before .before .if2 .left)) (slot-old ((c .before .before .before .before .before .before .before .before .before .before .before .before .before .pre) .0) _ _ _ (c .before .before .before .before .before .before .before .before .before .if1 .left) (c .before .before .before .before .update-use .ensures))
+returns-3 c =
+    let at-if2 = c .before .before .before .before .before .before .before .before in
+    let p = at-if2 .before .before .before .before .before .pre in
+    rw (use-part _ _ _ (at-if2 .if2 .left))
+    (tracker-old (p .0) _ _ _ (at-if2 .before .if1 .left) (c .before .before .before .before .update-use .ensures))
 
 pub set-use-at-spec : {M : Type 1} → statement M
 set-use-at-spec = tie.close (tie.spec (λ c. search needs) (λ c. search needs) (λ c. search needs) (λ c κs. search needs)

@@ -1,4 +1,4 @@
--- What a call answers, by what its walk over textures met.
+-- What a merge answers, by what its walk over textures met.
 use mathlib.Core.Option.{Option, Option·map}
 use Prim.Native.Nat.{ℕ}
 use Rattle.model.specs.declared.InvalidUse.{InvalidUse}
