@@ -15,7 +15,7 @@ use Rattle.model.specs.Sets.{Numbers, Slot}
 use Rattle.model.specs.Calls.{Indexed, answer, mergeGiven}
 use Rattle.model.specs.Log.{outcomeOf}
 use Rattle.model.specs.Texture.{Held, ranged}
-use Rattle.set_storage.specs.Storage.{numbersOf, extentOf, ownedOf, startHalf, heldOf, slotWith, scopeOf, listFrom, texturesAt}
+use Rattle.set_storage.specs.Storage.{numbersOf, flagsOf, extentOf, ownedOf, startHalf, heldOf, slotWith, scopeOf, listFrom, texturesAt}
 use Rattle.set_storage.specs.Stays.{onlyOwned, ownedBy, keeps-refl, keeps-then, keeps-more, ScopeFrame}
 use Rattle.texture_merge.specs.declared.Stopped.{Stopped}
 use Rattle.texture_merge.specs.declared.Stopped.the-variants.{Nowhere, At}

@@ -20,7 +20,7 @@ ghost use Rattle.model.specs.Calls.{setSlot};
 ghost use Rattle.model.specs.Texture.{ranged};
 ghost use Rattle.texture_barrier.specs.Steps.{logTop};
 ghost use Rattle.texture_barrier.specs.Adds.{RoomFor, Adds, entriesAt};
-ghost use Rattle.texture_track.specs.Slot.{trackerSlot, SlotSet};
+ghost use Rattle.texture_track.specs.Slot.{SlotSet};
 ghost use Rattle.set_storage.specs.Stays.{only, onlyOwned};
 ghost use Rattle.set_ready.specs.Given.{givenAt, HalfGiven};
 ghost use Rattle.set_ready.specs.Tested.{trackerSlot};
