@@ -1,15 +1,15 @@
 // Texture barrier: the transitions from a tracker's end of one texture to a given start (`barrier` of texture.rs), counted, or written to a
 // borrowed log.
 //
-// Place in the picture: over `usage` (which transition is skipped), `range_states` (the ranges of a mip) and `set_storage` (where a texture's ranges
-// lie), under the tracker's calls. A call counts first, on unchanged storage, so that it can refuse where the log has too few free
-// entries, and writes later. Both are these functions, with `write` false and true, so what is counted is what is written.
+// Place in the picture: over `usage` (which transition is skipped), `range_states` (the ranges of a mip) and `set_storage` (where a
+// texture's ranges lie), under the tracker's calls. A call counts first, on unchanged storage, so that it can refuse where the log has too
+// few free entries, and writes later. Both are these functions, with `write` false and true, so what is counted is what is written.
 //
 //     entries      a log, seven numbers an entry
 //     transition   one transition
 //     mip          the ranges of one mip, each by the same step
 //     many         a texture that is held, or given, as Many: mip by mip
-//     sources      one texture, to a state, to a state of what a selector names, to what another set holds
+//     sources      one texture, to a state of all of it or of what a selector names, to what another set holds
 //
 // What holds of every function: with es the model's entries, it tells how many es are. With `write` they stand after the first `at`
 // entries of the log and every other number of it is as it was, and without it no number changes; room is required only where they are
@@ -25,7 +25,6 @@ pub mod transition;
 pub use entries::entry_count;
 pub use entries::get_entry;
 pub use entries::put_entry;
-pub use sources::barrier_selector;
 pub use sources::barrier_single;
-pub use sources::barrier_state;
 pub use sources::barrier_texture;
+pub use sources::barrier_use;

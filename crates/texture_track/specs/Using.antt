@@ -4,14 +4,13 @@ use mathlib.Core.Path.{_≡_, subst, _∙_}
 use mathlib.Core.Bool.{Bool, true, false}
 use mathlib.Core.List.{List, [], _∷_}
 use lib.ListN.{getD}
-use borrow.Author.Tests.{ne-eqb, eq-eqb}
 use Rattle.model.specs.declared.UsageFlags.{UsageFlags}
 use Rattle.model.specs.declared.Extent.{Extent}
 use Rattle.model.specs.declared.Selector.{Selector}
 use Rattle.model.specs.Sets.{Numbers}
 use Rattle.model.specs.Calls.{setSlot}
-use Rattle.model.specs.Texture.{Held, Given, givenSingle, givenMany, insert, barrier, ranged}
-use Rattle.set_storage.specs.Storage.{numbersOf, startHalf, endHalf, heldOf, ownedAt}
+use Rattle.model.specs.Texture.{Held, Given, givenSingle, givenMany, insert, ranged}
+use Rattle.set_storage.specs.Storage.{numbersOf, startHalf, endHalf, ownedAt}
 use Rattle.set_storage.specs.Stays.{only}
 use Rattle.set_storage.specs.Slots.{HalfBecomes, ownWords, half-low}
 use Rattle.set_storage.specs.Texture.{TextureHeld, SelectorWithin, numbers-low, flags-low, texture-dims, texture-away}
@@ -21,7 +20,7 @@ use Rattle.texture_barrier.specs.Textures.{piece}
 use Rattle.set_ready.specs.Merges.{TakenUse, own-flags, own-passed, own-measured, own-ready, selector-within, use-ready}
 use Rattle.set_ready.specs.Updates.{update-ready, selecting}
 use Rattle.set_ready.specs.Half.{BothReady, half-held}
-use Rattle.texture_track.specs.Slot.{slotOf, slotEntries, SlotSet, slot-new}
+use Rattle.texture_track.specs.Slot.{slotOf, SlotSet, slot-new}
 
 module _ {t s e : List ℕ} {i : ℕ} {sh : Extent} {all : Bool} {q : Selector} {p : UsageFlags} {new : ℕ} (r : BothReady t s e i sh) (u : TakenUse t sh all q p new) where
   -- ---- a texture that has just become owned: its start, and then its end
@@ -58,18 +57,9 @@ module _ {t s e : List ℕ} {i : ℕ} {sh : Extent} {all : Bool} {q : Selector} 
     pub old-selects : SelectorWithin sh q
     old-selects = selector-within (u .selector)
 
--- ---- What the use hands in, and the transitions to it
+-- ---- What the use hands in
 pub use-all : (all : Bool) (q : Selector) (new : ℕ) → all ≡ true → useOf all q new ≡ givenSingle new
 use-all all q new e = rw e
 
 pub use-part : (all : Bool) (q : Selector) (new : ℕ) → all ≡ false → useOf all q new ≡ givenMany (piece q new ∷ [])
 use-part all q new e = rw e
-
-module _ (p : UsageFlags) (mask : ℕ) (sh : Extent) (t s e : List ℕ) (i : ℕ) where
-  -- none where it is not owned
-  pub entries-none : (g : Given) → getD t (ownedAt i) 0 ≡ 0 → slotEntries p mask sh g (slotOf t s e i) ≡ []
-  entries-none g free = rw (eq-eqb (getD t (ownedAt i) 0) 0 free)
-
-  -- otherwise `barrier`
-  pub entries-are : (g k : Given) → g ≡ k → (getD t (ownedAt i) 0 ≡ 0 → ⊥) → slotEntries p mask sh g (slotOf t s e i) ≡ barrier p mask sh (heldOf (numbersOf t) endHalf t e i) k
-  entries-are g k z own = rw (ne-eqb (getD t (ownedAt i) 0) 0 own, z)
