@@ -23,7 +23,8 @@ ghost use Rattle.texture_barrier.specs.Adds.{RoomFor, Adds, entriesAt};
 ghost use Rattle.texture_track.specs.Slot.{slotOf, SlotSet};
 ghost use Rattle.set_storage.specs.Stays.{only, onlyOwned};
 ghost use Rattle.texture_track.specs.Given.{givenAt, HalfGiven};
-ghost use Rattle.texture_track.specs.GivenSlot.{BothGiven, SetsAt, LogsAt, bothSingle, slotAfter, endEntries, givenEntries, singleEntry};
+ghost use Rattle.texture_track.specs.GivenSlot.{BothGiven, SetsAt, LogsAt, bothSingle, slotAfter};
+ghost use Rattle.texture_track.specs.GivenSlot.{endEntries, givenEntries, singleEntry};
 ghost use Rattle.set_storage.specs.Storage.{endHalf};
 ghost use Rattle.set_ready.specs.Half.{HalfReady, BothReady};
 
