@@ -65,10 +65,11 @@ pub fn log_listed(
     write: bool,
 ) -> usize
     requires { ⌜ LogsListed (now table) (now ends) (now given) (now lent) (now indices) ⌝ }
-    requires { ⌜ length (entriesTo p mask (now table) (now ends) (now given) (now lent) (now indices) (length (now indices))) ≤ mostEntries ⌝ }
+    requires { let is = now indices in
+        ⌜ length (entriesTo p mask (now table) (now ends) (now given) (now lent) is (length is)) ≤ mostEntries ⌝ }
     requires { ⌜ at + mostEntries ≤ logTop ⌝ }
-    requires { ⌜ RoomFor write (now log) at (entriesTo p mask (now table) (now ends) (now given) (now lent) (now indices) (length (now indices)))
-        ⌝ }
+    requires { let is = now indices in
+        ⌜ RoomFor write (now log) at (entriesTo p mask (now table) (now ends) (now given) (now lent) is (length is)) ⌝ }
     ensures { λ x.
         let t = now (table .entry) in let e = now (ends .entry) in let g = now (given .entry) in let is = now (indices .entry) in
         let r = now (lent .entry) in

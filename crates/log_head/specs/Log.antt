@@ -18,7 +18,7 @@ use Rattle.model.specs.Calls.{done, CallResult}
 use Rattle.model.specs.Calls as calls
 use Rattle.model.specs.Log.{Log, Logged, added, pending, outcomeOf, logging, emptying}
 use Rattle.model.specs.Texture.{Entry}
-use Rattle.texture_barrier.specs.Entries.{entriesOf, unused, entries-long, Added, added-model}
+use Rattle.texture_barrier.specs.Entries.{entriesOf, unused, entries-long, Added}
 use Rattle.model.specs.declared.Answered.{Answered}
 
 -- a borrowed log, with the head that its caller tells
@@ -96,7 +96,7 @@ pub log-moves : {X : Type 0} {c : Logged X} {l : List ℕ} (h : LogHead) {l′ :
 log-moves {X} {c} {l} h {l′} {n} after new e z a = record {
   answer = ap (λ (y : Logged X). outcomeOf (y .answer)) (sym e);
   head = rw z (ap (λ (y : Logged X). y .log .head) (sym e));
-  entries = added-model l h new l′ a ∙ ap (λ (y : Logged X). y .log .entries) (sym e);
+  entries = a .entries ∙ ap (λ (y : Logged X). y .log .entries) (sym e);
   unused = a .rest;
   long = a .long;
 }

@@ -24,8 +24,7 @@ module _ (q : Selector) (unknown mask old new : ℕ) (i : ℕ) (write : Bool) (l
 
   module _ (made : isMade (moveOf unknown mask old new) ≡ true) where
     pub move-counted : write ≡ false → Adds 1 write l n moved 1 l
-    move-counted w =
-        rw (w, entry-yes q unknown mask old new made) record { count = refl; few = omega arith; content = refl; long = refl }
+    move-counted w = rw (w, entry-yes q unknown mask old new made) record { count = refl; few = omega arith; content = refl; long = refl }
 
     pub move-room : write ≡ true → RoomFor write l n moved → 7 * n + 7 ≤ length l
     move-room w room =

@@ -7,8 +7,6 @@ use mathlib.Core.List.{List, [], _∷_, _++_, append-assoc}
 use lib.ListN.{length, getD, take, drop, set, length-drop, take-append-drop, List·getD-append}
 use lib.Seq.{take-add, drop-at, drop-drop, getD-drop, length-take-le, set-split, sets, sets-eq}
 use Rattle.model.specs.declared.PendingTransition.{PendingTransition}
-use Rattle.model.specs.declared.LogHead.{LogHead}
-use Rattle.model.specs.Log.{added}
 use Rattle.model.specs.Representation.{select, mipStart, mipEnd, layerStart, layerEnd}
 use Rattle.model.specs.Refusals.{trackerIndex}
 use Rattle.texture_barrier.specs.Over.{over, over-long, over-past}
@@ -172,11 +170,6 @@ module _ (l : List ℕ) (n : ℕ) (new : List PendingTransition) (room : 7 * (n 
 
   pub added-is : Added l n new after
   added-is = record { entries = after-entries; rest = after-unused; long = after-long }
-
--- ---- Laws of `Added`
--- the model's `added` of a log with these entries
-pub added-model : (l : List ℕ) (h : LogHead) (new : List PendingTransition) (l′ : List ℕ) → Added l (h .written) new l′ → entriesOf l′ ≡ (added new (record { entries = entriesOf l; head = h })) .entries
-added-model l h new l′ a = a .entries
 
 -- ---- `put_entry` and `get_entry`
 -- seven stores

@@ -22,6 +22,7 @@ use Rattle.set_storage.specs.Storage.{numbersOf, endHalf, heldOf, listFrom}
 use Rattle.texture_barrier.specs.declared.transition.Task.{Task}
 use Rattle.texture_barrier.specs.Adds.{entriesAt}
 use Rattle.texture_barrier.specs.Steps.{stepEntries, toRanges, toStateIn, within-is}
+use Rattle.texture_barrier.specs.declared.mip.Step.{Step}
 use Rattle.texture_barrier.specs.declared.mip.Step.the-variants.{To, Within, From}
 use Rattle.texture_barrier.specs.Mips.{mips-same, mips-only, mips-one}
 
@@ -36,6 +37,10 @@ barrierAt p mask sh t e i g = entriesAt i (barrier p mask sh (heldOf (numbersOf 
 -- what stays the same while the transitions of texture i are logged
 abbrev pub taskOf : ℕ → UsageFlags → ℕ → Bool → Task
 taskOf i p mask write = record { index = trackerIndex i; unknown = p .unknown; mask = mask; write = write }
+
+-- what is done with each range of the mips of q
+abbrev pub stepOf : Bool → Selector → ℕ → Step
+stepOf all q new = if all then To new else Within (range (layerStart q) (layerEnd q) new)
 
 -- a range of mip k, handed on
 abbrev rangePiece : ℕ → Range → Piece

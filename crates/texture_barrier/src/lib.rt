@@ -9,7 +9,7 @@
 //     transition   one transition
 //     mip          the ranges of one mip, each by the same step
 //     many         a texture that is held, or given, as Many: mip by mip
-//     sources      one texture, to a state, to a state of what a selector names, to what another set holds
+//     sources      one texture, to a state of all of it or of what a selector names, to what another set holds
 //
 // What holds of every function: with es the model's entries, it tells how many es are. With `write` they stand after the first `at`
 // entries of the log and every other number of it is as it was, and without it no number changes; room is required only where they are
@@ -25,7 +25,6 @@ pub mod transition;
 pub use entries::entry_count;
 pub use entries::get_entry;
 pub use entries::put_entry;
-pub use sources::barrier_selector;
 pub use sources::barrier_single;
-pub use sources::barrier_state;
 pub use sources::barrier_texture;
+pub use sources::barrier_use;

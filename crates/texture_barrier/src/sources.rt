@@ -20,8 +20,10 @@ use set_storage::END;
 use set_storage::Table;
 use set_storage::flags_of;
 ghost use mathlib.Core.Path.{_≡_};
+ghost use mathlib.Core.Bool.{true};
 ghost use mathlib.Core.List.{[], _∷_};
 ghost use Prim.Native.Nat.{_≤_, _<_};
+ghost use Rattle.model.specs.Base.{if_then_else_};
 ghost use Rattle.model.specs.Representation.{full as fullOf};
 ghost use Rattle.model.specs.StateRules.{moveOf};
 ghost use Rattle.model.specs.Texture.{givenSingle, givenMany, fromHeld, entry};
@@ -29,7 +31,7 @@ ghost use Rattle.set_storage.specs.Storage.{numbersOf, endHalf, heldOf};
 ghost use Rattle.texture_barrier.specs.Adds.{RoomFor, Adds, entriesAt};
 ghost use Rattle.set_storage.specs.Texture.{TextureHeld, SelectorWithin};
 ghost use Rattle.texture_barrier.specs.Steps.{logTop};
-ghost use Rattle.texture_barrier.specs.Textures.{piece, taskOf, barrierAt};
+ghost use Rattle.texture_barrier.specs.Textures.{piece, taskOf, stepOf, barrierAt};
 
 // The selector of all of a texture.
 fn full(extent: Extent) -> Selector
@@ -60,6 +62,20 @@ fn task_of(i: usize, p: UsageFlags, mask: u32, write: bool) -> Task
     }
 }
 
+// What is done with each range of the mips of q: all of it goes to the state, or what of it lies within the layers of q.
+fn step_of(all: bool, q: Selector, new: u32) -> Step
+    ensures { λ s. ⌜ s ≡ stepOf all q new ⌝ }
+{
+    if all {
+        return Step::To(new);
+    }
+    Step::Within(Range {
+        start: q.layers.start.0,
+        end: q.layers.end.0,
+        state: new,
+    })
+}
+
 // The transition of all of a texture that is held as one state to another.
 pub fn barrier_single(
     i: usize,
@@ -82,70 +98,41 @@ pub fn barrier_single(
     log_move(q, cur, new, t, log, at)
 }
 
-// The transitions to one state.
-pub fn barrier_state(
+// The transitions to one state, of all of the texture or of what a selector names. A Single texture makes one entry over all the mips of
+// the selector.
+pub fn barrier_use(
     table: &Table,
     ends: &[u32],
     i: usize,
     extent: Extent,
-    p: UsageFlags,
-    mask: u32,
-    new: u32,
-    log: &mut [u32],
-    at: usize,
-    write: bool,
-) -> usize
-    requires { ⌜ TextureHeld (numbersOf (now table)) endHalf (now table) (now ends) i extent ⌝ }
-    requires { ⌜ at ≤ logTop ⌝ }
-    requires { ⌜ RoomFor write (now log) at (barrierAt p mask extent (now table) (now ends) i (givenSingle new)) ⌝ }
-    ensures { λ x. let t = now (table .entry) in let e = now (ends .entry) in
-        ⌜ Adds 4096 write (now (log .entry)) at (barrierAt p mask extent t e i (givenSingle new)) x (now (log .exit)) ⌝ }
-{
-    let t = task_of(i, p, mask, write);
-    let flags = flags_of(table);
-    let cur = table[END + i];
-    if cur == flags.complex {
-        let top = extent.mips;
-        return log_mips(table, ends, END, i, 0, top, Step::To(new), t, log, at);
-    }
-    barrier_single(i, extent, p, mask, cur, new, log, at, write)
-}
-
-// The transitions of what a selector names to one state. A Single texture makes one entry over all the mips of the selector.
-pub fn barrier_selector(
-    table: &Table,
-    ends: &[u32],
-    i: usize,
-    extent: Extent,
-    p: UsageFlags,
-    mask: u32,
+    all: bool,
     q: Selector,
+    p: UsageFlags,
+    mask: u32,
     new: u32,
     log: &mut [u32],
     at: usize,
     write: bool,
 ) -> usize
     requires { ⌜ TextureHeld (numbersOf (now table)) endHalf (now table) (now ends) i extent ⌝ }
-    requires { ⌜ SelectorWithin extent q ⌝ }
+    requires { ⌜ SelectorWithin extent q × (all ≡ true → q ≡ fullOf extent) ⌝ }
     requires { ⌜ at ≤ logTop ⌝ }
-    requires { ⌜ RoomFor write (now log) at (barrierAt p mask extent (now table) (now ends) i (givenMany (piece q new ∷ []))) ⌝ }
+    requires { let g = if all then givenSingle new else givenMany (piece q new ∷ []) in
+        ⌜ RoomFor write (now log) at (barrierAt p mask extent (now table) (now ends) i g) ⌝ }
     ensures { λ x. let t = now (table .entry) in let e = now (ends .entry) in
-        ⌜ Adds 4096 write (now (log .entry)) at (barrierAt p mask extent t e i (givenMany (piece q new ∷ []))) x (now (log .exit)) ⌝ }
+        let g = if all then givenSingle new else givenMany (piece q new ∷ []) in
+        ⌜ Adds 4096 write (now (log .entry)) at (barrierAt p mask extent t e i g) x (now (log .exit)) ⌝ }
 {
     let t = task_of(i, p, mask, write);
     let flags = flags_of(table);
     let cur = table[END + i];
-    if cur == flags.complex {
-        let low = q.mips.start.0;
-        let high = q.mips.end.0;
-        let step = Step::Within(Range {
-            start: q.layers.start.0,
-            end: q.layers.end.0,
-            state: new,
-        });
-        return log_mips(table, ends, END, i, low, high, step, t, log, at);
+    if cur != flags.complex {
+        return log_move(q, cur, new, t, log, at);
     }
-    log_move(q, cur, new, t, log, at)
+    let low = q.mips.start.0;
+    let high = q.mips.end.0;
+    let step = step_of(all, q, new);
+    log_mips(table, ends, END, i, low, high, step, t, log, at)
 }
 
 // The transitions to what texture i of another set holds, in the half of `given` that begins at `side`, with its ranges in `pieces`.
@@ -175,7 +162,20 @@ pub fn barrier_texture(
     let flags = flags_of(given);
     let new = given[side + i];
     if new != flags.complex {
-        return barrier_state(table, ends, i, extent, p, mask, new, log, at, write);
+        return barrier_use(
+            table,
+            ends,
+            i,
+            extent,
+            true,
+            full(extent),
+            p,
+            mask,
+            new,
+            log,
+            at,
+            write,
+        );
     }
     let t = task_of(i, p, mask, write);
     let own = flags_of(table);

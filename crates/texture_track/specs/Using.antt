@@ -4,7 +4,6 @@ use mathlib.Core.Path.{_≡_}
 use mathlib.Core.Bool.{Bool, true, false}
 use mathlib.Core.List.{List, [], _∷_}
 use lib.ListN.{getD}
-use borrow.Author.Tests.{ne-eqb, eq-eqb}
 use Rattle.model.specs.declared.UsageFlags.{UsageFlags}
 use Rattle.model.specs.declared.Extent.{Extent}
 use Rattle.model.specs.declared.Selector.{Selector}
@@ -27,18 +26,9 @@ module _ {t s e : List ℕ} {i : ℕ} {sh : Extent} {all : Bool} {q : Selector} 
   pub old-selects : SelectorWithin sh q
   old-selects = selector-within (u .selector)
 
--- ---- What the use hands in, and the transitions to it
+-- ---- What the use hands in
 pub use-all : (all : Bool) (q : Selector) (new : ℕ) → all ≡ true → useOf all q new ≡ givenSingle new
 use-all all q new e = rw e
 
 pub use-part : (all : Bool) (q : Selector) (new : ℕ) → all ≡ false → useOf all q new ≡ givenMany (piece q new ∷ [])
 use-part all q new e = rw e
-
-module _ (p : UsageFlags) (mask : ℕ) (sh : Extent) (t s e : List ℕ) (i : ℕ) where
-  -- none where it is not owned
-  pub entries-none : (g : Given) → getD t (ownedAt i) 0 ≡ 0 → slotEntries p mask sh g (trackerSlot t s e i) ≡ []
-  entries-none g free = rw (eq-eqb (getD t (ownedAt i) 0) 0 free)
-
-  -- otherwise `barrier`
-  pub entries-are : (g k : Given) → g ≡ k → (getD t (ownedAt i) 0 ≡ 0 → ⊥) → slotEntries p mask sh g (trackerSlot t s e i) ≡ barrier p mask sh (heldOf (numbersOf t) endHalf t e i) k
-  entries-are g k z own = rw (ne-eqb (getD t (ownedAt i) 0) 0 own, z)

@@ -6,8 +6,7 @@ use set_storage::END;
 use set_storage::OWNED;
 use set_storage::START;
 use set_storage::Table;
-use texture_barrier::barrier_selector;
-use texture_barrier::barrier_state;
+use texture_barrier::barrier_use;
 use texture_merge::using::insert_use;
 use texture_merge::using::own;
 use texture_update::using::update_state;
@@ -83,8 +82,5 @@ pub fn log_use_at(
     if table[OWNED + i] == 0 {
         return 0;
     }
-    if all {
-        return barrier_state(table, ends, i, extent, p, mask, new, log, at, write);
-    }
-    barrier_selector(table, ends, i, extent, p, mask, q, new, log, at, write)
+    barrier_use(table, ends, i, extent, all, q, p, mask, new, log, at, write)
 }

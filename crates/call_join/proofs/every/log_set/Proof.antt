@@ -18,21 +18,18 @@ abbrev μ-loop : tie.MeasureT-loop
 
 add-log-at : tie.Need-add-log-at Inv-loop μ-loop
 add-log-at c =
-    let v = c .before .before .loop .inv in
-    let p = c .before .before .before .before .before .before .pre in
+    let v = c .before .before .loop .inv in let p = c .before .before .before .before .before .before .pre in
     omega (arith, v .high, v .few, p .0 .few, p .1 .0, c .before .loop-test .taken)
 
 log-at-requires : tie.Need-log-at-requires Inv-loop μ-loop
 log-at-requires c κs =
-    let v = c .before .before .loop .inv in
-    let p = c .before .before .before .before .before .before .pre in
+    let v = c .before .before .loop .inv in let p = c .before .before .before .before .before .before .pre in
     let b = c .before .loop-test .taken in
     (p .0 .each _ b, (omega (arith, v .high, v .few, p .0 .few, p .1 .0, b), adding-room v (p .1 .1) (up-next _ _ b)))
 
 add-x : tie.Need-add-x Inv-loop μ-loop
 add-x c =
-    let at-loop = c .before .before .before .before .before in
-    let v = at-loop .loop .inv in
+    let at-loop = c .before .before .before .before .before in let v = at-loop .loop .inv in
     let p = at-loop .before .before .before .before .pre in
     omega (arith, v .high, v .few, p .0 .few, c .before .before .before .before .loop-test .taken, c .before .before .log-at .ensures .few)
 
@@ -43,8 +40,7 @@ add-k c =
 
 loop-again : tie.Need-loop-again Inv-loop μ-loop
 loop-again c =
-    let at-loop = c .before .before .before .before .before in
-    let p = at-loop .before .before .before .before .pre in
+    let at-loop = c .before .before .before .before .before in let p = at-loop .before .before .before .before .pre in
     let b = c .before .before .before .before .loop-test .taken in
     adding-turn (at-loop .loop .inv) (p .1 .1) (up-next _ _ b) b (c .before .before .log-at .ensures) (omega arith)
 

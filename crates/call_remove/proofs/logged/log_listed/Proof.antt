@@ -22,25 +22,19 @@ abbrev μ-loop : tie.MeasureT-loop
 
 array-read-again : tie.Need-array-read-again Inv-loop μ-loop
 array-read-again c =
-    let at-loop = c .before .before .before in
-    let at-pre = at-loop .before .before .before .before .before in
+    let at-loop = c .before .before .before in let at-pre = at-loop .before .before .before .before .before in
     omega (arith, c .wide .ensures .0, at-pre .pre .0 .each _ (c .before .before .loop-test .taken) .index, at-loop .loop .inv .1 .long)
 
 add-log-listed-at : tie.Need-add-log-listed-at Inv-loop μ-loop
 add-log-listed-at c =
-    let at-loop = c .before .before .before .before in
-    let at-pre = at-loop .before .before .before .before .before in
+    let at-loop = c .before .before .before .before in let at-pre = at-loop .before .before .before .before .before in
     omega (arith, at-loop .loop .inv .0 .into .few, at-pre .pre .1 .1 .0)
 
 log-listed-at-requires : tie.Need-log-listed-at-requires Inv-loop μ-loop
 log-listed-at-requires c κs =
-    let at-loop = c .before .before .before .before in
-    let at-pre = at-loop .before .before .before .before .before in
-    let a = at-pre .args in
-    let v = at-loop .loop .inv in
-    let b = c .before .before .before .loop-test .taken in
-    let e = c .before .wide .ensures .0 in
-    let f = at-pre .pre .0 .each _ b in
+    let at-loop = c .before .before .before .before in let at-pre = at-loop .before .before .before .before .before in
+    let a = at-pre .args in let v = at-loop .loop .inv in let b = c .before .before .before .loop-test .taken in
+    let e = c .before .wide .ensures .0 in let f = at-pre .pre .0 .each _ b in
     let o = once-is (v .1) e (f .index) (a .p) (a .mask) (a .table .now) (a .ends .now) (a .given .now) (a .lent .now) in
     (rw e f, (omega (arith, v .0 .into .few, at-pre .pre .1 .1 .0), rw o (adding-room (v .0) (at-pre .pre .1 .1 .1) (up-next _ _ b))))
 
@@ -59,12 +53,9 @@ add-x c =
 loop-again : tie.Need-loop-again Inv-loop μ-loop
 loop-again c =
     let at-loop = c .before .before .before .before .before .before .before in
-    let at-pre = at-loop .before .before .before .before .before in
-    let a = at-pre .args in
-    let v = at-loop .loop .inv in
+    let at-pre = at-loop .before .before .before .before .before in let a = at-pre .args in let v = at-loop .loop .inv in
     let b = c .before .before .before .before .before .before .loop-test .taken in
-    let e = c .before .before .before .before .wide .ensures .0 in
-    let f = at-pre .pre .0 .each _ b in
+    let e = c .before .before .before .before .wide .ensures .0 in let f = at-pre .pre .0 .each _ b in
     let o = once-is (v .1) e (f .index) (a .p) (a .mask) (a .table .now) (a .ends .now) (a .given .now) (a .lent .now) in (
       adding-few (v .0) (at-pre .pre .1 .1 .1) (up-next _ _ b) b (rw o at (c .before .before .log-listed-at .ensures)) (at-pre .pre .1 .0),
       seen-next (v .1) b e (f .index),

@@ -9,18 +9,6 @@ use borrow.Author.Needs.{needs}
 use Rattle.call_remove.proofs.logged.log_listed_at.Statement.{statement}
 use Rattle.call_remove.proofs.logged.log_listed_at.Tie as tie
 
-returns : tie.Need-returns
-returns c = rw (c .if1 .taken) (adds-none _ _ _ _)
-
-returns-2 : tie.Need-returns-2
-returns-2 c = rw ((c .before .before .if1 .left), eq-eqb _ _ (c .if2 .taken)) (adds-none _ _ _ _)
-
-returns-3 : tie.Need-returns-3
-returns-3 c = rw ((c .before .before .before .before .if1 .left), ne-eqb _ _ (c .before .before .if2 .left), eq-eqb _ _ (c .if3 .taken)) (adds-none _ _ _ _)
-
-both-single-requires : tie.Need-both-single-requires
-both-single-requires c κs = ((c .before .before .before .before .before .before .before .before .pre .0) .index, omega arith)
-
 log-single-requires : tie.Need-log-single-requires
 log-single-requires c κs = (((c .before .before .before .before .before .before .before .before .before .before .before .pre .0) .index, omega arith), rw ((c .before .before .before .before .before .before .before .if1 .left), plain-entries ((c .before .before .before .before .before .before .before .before .before .before .before .args) .p) ((c .before .before .before .before .before .before .before .before .before .before .before .args) .mask) ((c .before .before .before .before .before .before .before .before .before .before .before .args) .table .now) ((c .before .before .before .before .before .before .before .before .before .before .before .args) .ends .now) startHalf ((c .before .before .before .before .before .before .before .before .before .before .before .args) .given .now) ((c .before .before .before .before .before .before .before .before .before .before .before .args) .lent .now) ((c .before .before .before .before .before .before .before .before .before .before .before .args) .i) (c .before .before .before .before .before .if2 .left) (c .before .before .before .if3 .left) (sym (c .before .before .both-single .ensures) ∙ (c .before .if4 .taken))) at (c .before .before .before .before .before .before .before .before .before .before .before .pre .1 .1))
 
@@ -30,10 +18,13 @@ returns-4 c = rw ((c .before .before .before .before .before .before .before .be
 log-owned-at-requires : tie.Need-log-owned-at-requires
 log-owned-at-requires c κs = ((c .before .before .before .before .before .before .before .before .before .before .before .pre .0), ((c .before .before .before .before .before .before .before .before .before .before .before .pre .1 .0), rw (c .before .before .before .before .before .before .before .if1 .left) at (c .before .before .before .before .before .before .before .before .before .before .before .pre .1 .1)))
 
-returns-5 : tie.Need-returns-5
-returns-5 c = rw (c .before .before .before .before .before .before .before .before .before .before .if1 .left) (c .before .before .log-owned-at .ensures)
-
 pub log-listed-at-spec : {M : Type 1} → statement M
-log-listed-at-spec = tie.close (tie.spec returns (λ c. search needs) (λ c. search needs) (λ c. search needs) returns-2
-    (λ c. search needs) (λ c. search needs) (λ c. search needs) returns-3 both-single-requires log-single-requires
-    (λ c. search needs) returns-4 log-owned-at-requires (λ c. search needs) returns-5)
+log-listed-at-spec = tie.close (tie.spec (λ c. rw (c .if1 .taken) (adds-none _ _ _ _)) (λ c. search needs) (λ c. search needs)
+    (λ c. search needs) (λ c. rw ((c .before .before .if1 .left), eq-eqb _ _ (c .if2 .taken)) (adds-none _ _ _ _))
+    (λ c. search needs) (λ c. search needs) (λ c. search needs)
+    (λ c. rw (c .before .before .before .before .if1 .left, ne-eqb _ _ (c .before .before .if2 .left), eq-eqb _ _ (c .if3 .taken))
+    (adds-none _ _ _ _))
+    (λ c κs. ((c .before .before .before .before .before .before .before .before .pre .0) .index, omega arith)) log-single-requires
+    (λ c. search needs) returns-4 log-owned-at-requires (λ c. search needs)
+    (λ c. rw (c .before .before .before .before .before .before .before .before .before .before .if1 .left)
+    (c .before .before .log-owned-at .ensures)))

@@ -14,8 +14,7 @@ use Rattle.texture_barrier.proofs.many.log_mip_pairs.Tie as tie
 
 abbrev Inv-loop : tie.InvT-loop
 Inv-loop table ranges half given pieces side i high t log₀ at x₀ m₀ log x m =
-    let held = mipOf (numbersOf table) half table ranges i in
-    let new = mipOf (numbersOf given) side given pieces i in
+    let held = mipOf (numbersOf table) half table ranges i in let new = mipOf (numbersOf given) side given pieces i in
     let left = mipsLeft (t .index .0) (λ k s. toRanges (t .unknown) (t .mask) (held k) k s) new high in
     Adding (65536 * m) (t .write) log₀ at (left 0) left high x m log
 
@@ -33,10 +32,8 @@ locate-requires-2 c κs =
 
 log-pairs-requires : tie.Need-log-pairs-requires Inv-loop μ-loop
 log-pairs-requires c κs =
-    let at-wide = c .before .before .before .before .before .before in
-    let at-loop = at-wide .before .before in
-    let p = at-loop .before .before .before .before .pre in
-    let b = at-wide .before .loop-test .taken in
+    let at-wide = c .before .before .before .before .before .before in let at-loop = at-wide .before .before in
+    let p = at-loop .before .before .before .before .pre in let b = at-wide .before .loop-test .taken in
     let f = rw (at-wide .wide .ensures .0) at (c .before .before .before .before .before .locate .ensures) in
     let g = rw (c .before .before .before .wide2 .ensures .0) at (c .before .before .locate2 .ensures) in (
       pair-ready (run-ready (p .0) b f _ (omega arith)) (run-ready (p .1 .0) b g _ (omega arith)) (omega arith),
@@ -51,8 +48,7 @@ add-m c =
 loop-again : tie.Need-loop-again Inv-loop μ-loop
 loop-again c =
     let at-wide = c .before .before .before .before .before .before .before .before .before in
-    let at-loop = at-wide .before .before in
-    let p = at-loop .before .before .before .before .pre in
+    let at-loop = at-wide .before .before in let p = at-loop .before .before .before .before .pre in
     let b = at-wide .before .loop-test .taken in
     let f = rw (at-wide .wide .ensures .0) at (c .before .before .before .before .before .before .before .before .locate .ensures) in
     let at-given = c .before .before .before .before .before in

@@ -26,8 +26,7 @@ locate-requires c κs =
 
 log-run-requires : tie.Need-log-run-requires Inv-loop μ-loop
 log-run-requires c κs =
-    let at-loop = c .before .before .before .before .before in
-    let p = at-loop .before .before .before .pre in
+    let at-loop = c .before .before .before .before .before in let p = at-loop .before .before .before .pre in
     let b = c .before .before .before .before .loop-test .taken in
     let f = rw (c .before .before .before .wide .ensures .0) at (c .before .before .locate .ensures) in
     (run-ready (p .0) b f _ (omega arith), rw (run-is (p .0) b f) (adding-room (at-loop .loop .inv) (p .1 .1 .1) (mips-left _ _ _ _ b)))

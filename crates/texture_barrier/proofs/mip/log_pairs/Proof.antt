@@ -22,9 +22,7 @@ abbrev μ-loop : tie.MeasureT-loop
 
 log-run-requires : tie.Need-log-run-requires Inv-loop μ-loop
 log-run-requires c κs =
-    let at-loop = c .before .before .before in
-    let p = at-loop .before .before .before .before .pre in
-    let q = p .0 .held in
+    let at-loop = c .before .before .before in let p = at-loop .before .before .before .before .pre in let q = p .0 .held in
     let b = c .before .before .loop-test .taken in (
       record { room = q .room; few = q .few; level = q .level; low = omega arith },
       adding-room (at-loop .loop .inv) (p .1) (run-next _ _ _ _ (p .0 .room) b (c .before .get .ensures)),
@@ -32,8 +30,7 @@ log-run-requires c κs =
 
 loop-again : tie.Need-loop-again Inv-loop μ-loop
 loop-again c =
-    let at-loop = c .before .before .before .before .before .before in
-    let p = at-loop .before .before .before .before .pre in
+    let at-loop = c .before .before .before .before .before .before in let p = at-loop .before .before .before .before .pre in
     let b = c .before .before .before .before .before .loop-test .taken in
     adding-turn (at-loop .loop .inv) (p .1) (run-next _ _ _ _ (p .0 .room) b (c .before .before .before .before .get .ensures)) b
     (c .before .before .log-run .ensures) (omega arith)

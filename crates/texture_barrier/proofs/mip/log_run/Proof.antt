@@ -19,15 +19,13 @@ abbrev μ-loop : tie.MeasureT-loop
 
 log-range-requires : tie.Need-log-range-requires Inv-loop μ-loop
 log-range-requires c κs =
-    let at-loop = c .before .before .before in
-    let p = at-loop .before .before .before .pre in
+    let at-loop = c .before .before .before in let p = at-loop .before .before .before .pre in
     let b = c .before .before .loop-test .taken in
     (p .0 .level, adding-room (at-loop .loop .inv) (p .1) (run-next _ _ _ _ (p .0 .room) b (c .before .get .ensures)))
 
 loop-again : tie.Need-loop-again Inv-loop μ-loop
 loop-again c =
-    let at-loop = c .before .before .before .before .before .before in
-    let p = at-loop .before .before .before .pre in
+    let at-loop = c .before .before .before .before .before .before in let p = at-loop .before .before .before .pre in
     let b = c .before .before .before .before .before .loop-test .taken in
     adding-turn (at-loop .loop .inv) (p .1) (run-next _ _ _ _ (p .0 .room) b (c .before .before .before .before .get .ensures)) b
     (c .before .before .log-range .ensures) (omega arith)

@@ -8,12 +8,6 @@ use borrow.Author.Needs.{needs}
 use Rattle.texture_track.proofs.given.log_at.Statement.{statement}
 use Rattle.texture_track.proofs.given.log_at.Tie as tie
 
-returns : tie.Need-returns
-returns c = rw (eq-eqb _ _ (c .if1 .taken)) (adds-none _ _ _ _)
-
-returns-2 : tie.Need-returns-2
-returns-2 c = rw (ne-eqb _ _ (c .before .before .if1 .left), eq-eqb _ _ (c .if2 .taken)) (adds-none _ _ _ _)
-
 both-single-requires : tie.Need-both-single-requires
 both-single-requires c κs = ((c .before .before .before .before .before .before .before .pre .0) .index, (c .before .before .before .before .before .before .before .pre .0) .given (rw (ne-eqb _ _ (c .before .before .if1 .left))) .measured .half .1)
 
@@ -26,10 +20,9 @@ returns-3 c = rw (plain-entries ((c .before .before .before .before .before .bef
 log-owned-at-requires : tie.Need-log-owned-at-requires
 log-owned-at-requires c κs = (c .before .before .before .before .before .before .before .before .before .before .pre)
 
-returns-4 : tie.Need-returns-4
-returns-4 c = (c .before .before .log-owned-at .ensures)
-
 pub log-at-spec : {M : Type 1} → statement M
-log-at-spec = tie.close (tie.spec (λ c. search needs) (λ c. search needs) (λ c. search needs) returns
-    (λ c. search needs) (λ c. search needs) (λ c. search needs) returns-2 both-single-requires log-single-requires
-    (λ c. search needs) returns-3 log-owned-at-requires (λ c. search needs) returns-4)
+log-at-spec = tie.close (tie.spec (λ c. search needs) (λ c. search needs) (λ c. search needs)
+    (λ c. rw (eq-eqb _ _ (c .if1 .taken)) (adds-none _ _ _ _)) (λ c. search needs) (λ c. search needs) (λ c. search needs)
+    (λ c. rw (ne-eqb _ _ (c .before .before .if1 .left), eq-eqb _ _ (c .if2 .taken)) (adds-none _ _ _ _)) both-single-requires
+    log-single-requires (λ c. search needs) returns-3 log-owned-at-requires (λ c. search needs)
+    (λ c. c .before .before .log-owned-at .ensures))
