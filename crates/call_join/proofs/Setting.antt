@@ -9,7 +9,7 @@ use Rattle.model.specs.Representation.{Ends}
 use Rattle.model.specs.Sets.{Numbers, Slot, withTracker}
 use Rattle.model.specs.Calls.{setGiven}
 use Rattle.model.specs.Texture.{Held, ranged}
-use Rattle.set_storage.specs.Storage.{numbersOf, flagsOf, endsOf, slotWith, trackerOf, texturesAt}
+use Rattle.set_storage.specs.Storage.{flagsOf, endsOf, slotWith, trackerOf, texturesAt}
 use Rattle.set_storage.specs.Stays.{onlyOwned, ownedBy}
 use Rattle.set_ready.specs.Named.{within}
 use Rattle.set_ready.specs.Half.{HeadStays, tracker-keeps, numbers-stay, flags-stay}
