@@ -8,8 +8,7 @@ use mathlib.Core.List.{List, [], _∷_}
 use lib.ListN.{length, getD, set, take, length-set}
 use lib.Seq.{getD-set-same, getD-set-other}
 use borrow.Author.Tests.{eq-eqb}
-use Rattle.model.specs.Sets.{Numbers, Slot, withSlots}
-use Rattle.model.specs.Texture.{Held}
+use Rattle.model.specs.Sets.{Numbers, withSlots}
 use Rattle.set_storage.specs.Storage.{numbersOf, extentOf, ownedOf, heldOf, slotWith, setWith, scopeOf, startHalf}
 use Rattle.set_storage.specs.Storage.{tableIndices, tableLength, texturesAt, complexAt, ownedAt, mipsAt, layersAt, stateAt, countAt}
 use Rattle.set_storage.specs.Stays.{Stays, only, stays-refl, stays-then, stays-more, stays-set, head-off, ScopeFrame}
@@ -66,20 +65,16 @@ module _ (g : List ℕ) (i : ℕ) (few : i < tableIndices) where
         go (yes e) = absurd (false≢true (sym off-not ∙ rw e at o))
         go (no ne) = (ne, sym (off-other j ne) ∙ o)
 
-    -- its slot then
-    abbrev offSlot : List ℕ → Slot Held
-    offSlot r = record { owned = false; extent = extentOf g i; held = heldOf (numbersOf g) startHalf g r i }
-
     -- THE VIEW
-    pub off-view : (r : List ℕ) → i < getD g texturesAt 0
-        → scopeOf (set g (ownedAt i) 0) r ≡ withSlots (scopeOf g r) (set (scopeOf g r .slots) i (offSlot r))
+    pub off-view : (r : List ℕ) → i < getD g texturesAt 0 → scopeOf (set g (ownedAt i) 0) r ≡ withSlots (scopeOf g r)
+        (set (scopeOf g r .slots) i (record { owned = false; extent = extentOf g i; held = heldOf (numbersOf g) startHalf g r i }))
     unfolding scopeOf
     off-view r h =
         let n = numbersOf g in let g₁ = set g (ownedAt i) 0 in let f = off-one in
         let q : SlotFrame (getD g texturesAt 0) i (heldOf n startHalf g r) (heldOf n startHalf g₁ r) g g₁ =
         record { head = owned-keeps f .words; others = λ j a ne. slot-stays f n r j (off-other j ne) } in
         ap (λ (y : Numbers). setWith (heldOf y startHalf g₁ r) g₁) (numbers-stay (owned-keeps f))
-        ∙ set-becomes (offSlot r) h q (λ k. record { owned = off-not k; extent = extent-stays f i k; held = held-stays f n r i k })
+        ∙ set-becomes _ h q (λ k. record { owned = off-not k; extent = extent-stays f i k; held = held-stays f n r i k })
 
 -- ---- The scope without some of its textures
 pub record Fewer (g g₁ : List ℕ) : Type 0 where

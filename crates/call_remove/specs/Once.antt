@@ -1,5 +1,5 @@
 -- Lists of indices, each of which counts once: whether one was listed before, and what a list makes.
-use Prim.Native.Nat.{ℕ, zero, suc, _+_, _≤_, _<_}
+use Prim.Native.Nat.{ℕ, zero, suc, _≤_, _<_}
 use native.Mathlib.Omega.{arith}
 use mathlib.Core.Path.{_≡_, refl, sym, ap, _∙_}
 use mathlib.Core.Logic.{_⊎_, inl, inr}
@@ -8,7 +8,7 @@ use mathlib.Core.List.{List, [], _∷_, _++_, append-assoc, append-nil}
 use lib.Dec.{eqb}
 use lib.ListN.{length, getD, take, drop}
 use lib.Seq.{take-suc, drop-cons, drop-length}
-use borrow.Author.Tests.{eq-eqb, eqb-true, eqb-false}
+use borrow.Author.Tests.{eqb-true, eqb-false}
 use Rattle.model.specs.Base.{if_then_else_, each}
 use Rattle.model.specs.ListLaws.{each-append}
 use Rattle.agreement.specs.LogBound.{listed}
@@ -43,17 +43,6 @@ is-listed is i j e = go (listed j is) (sym (listed-last is i j) ∙ e)
     go : (b : Bool) → (if b then true else eqb i j) ≡ true → (b ≡ true) ⊎ (j ≡ i)
     go true z = inl refl
     go false z = inr (sym (eqb-true i j z))
-
--- ---- Of the first k: it stands among them
-pub scan-found : (is : List ℕ) (i j k : ℕ) → j < k → k ≤ length is → getD is j 0 ≡ i → listed i (take k is) ≡ true
-scan-found [] i j k a b e = absurd (omega arith)
-scan-found (x ∷ is) i j zero a b e = absurd (omega arith)
-scan-found (x ∷ is) i zero (suc k) a b e = rw (eq-eqb x i e)
-scan-found (x ∷ is) i (suc j) (suc k) a b e = go (eqb x i) (scan-found is i j k (omega arith) (omega arith) e)
-  where
-    go : (b : Bool) → listed i (take k is) ≡ true → (if b then true else listed i (take k is)) ≡ true
-    go true z = refl
-    go false z = z
 
 -- ---- What f makes of the indices of a list, in its order, of each once and of those in `seen` no more
 unfoldable pub eachOnce : {A : Type 0} → (ℕ → List A) → List ℕ → List ℕ → List A

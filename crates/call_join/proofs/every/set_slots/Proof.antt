@@ -14,9 +14,6 @@ Inv-loop table₀ starts₀ ends₀ given first from last to n p k₀ table star
 abbrev μ-loop : tie.MeasureT-loop
 μ-loop table₀ starts₀ ends₀ given first from last to n p k₀ table starts ends k = n - k
 
-loop-holds : tie.Need-loop-holds Inv-loop μ-loop
-loop-holds c = (omega arith, setting-start _ _ _ _)
-
 set-at-requires : tie.Need-set-at-requires Inv-loop μ-loop
 set-at-requires c κs =
     let l = c .before .before .before in let p = l .before .before .before .before .before .before .pre in
@@ -28,24 +25,18 @@ add-k c =
     let p = l .before .before .before .before .before .before .pre in
     omega (arith, p .0 .given .start .textures, l .loop-test .taken, p .1 .0)
 
-loop-less : tie.Need-loop-less Inv-loop μ-loop
-loop-less c = omega (arith, c .before .before .before .before .before .before .before .before .loop-test .taken)
-
 loop-again : tie.Need-loop-again Inv-loop μ-loop
 loop-again c =
     let s = c .before .before .before .before in let l = s .before .before .before .before in
     let p = l .before .before .before .before .before .before .pre in let h = l .loop-test .taken in
     (omega (arith, h), setting-next (p .0) (l .before .loop .inv .1) (rw (p .1 .0) at h) (s .set-at .ensures))
 
-same-length : tie.Need-same-length Inv-loop μ-loop
-same-length c = (c .before .loop .inv) .1 .frame .starts .long
-
-same-length-2 : tie.Need-same-length-2 Inv-loop μ-loop
-same-length-2 c = (c .before .loop .inv) .1 .frame .ends .long
-
 returns : tie.Need-returns Inv-loop μ-loop
-returns c = let p = c .before .before .before .before .before .before .pre in let v = c .before .loop .inv in setting-end _ _ (p .1 .1) (omega (arith, v .0, (c .loop-test .left), p .1 .0)) (v .1)
+returns c =
+    let p = c .before .before .before .before .before .before .pre in let v = c .before .loop .inv in
+    setting-end _ _ (p .1 .1) (omega (arith, v .0, c .loop-test .left, p .1 .0)) (v .1)
 
 pub set-slots-spec : {M : Type 1} → statement M
-set-slots-spec = tie.close (tie.spec Inv-loop μ-loop loop-holds set-at-requires add-k loop-less loop-again same-length
-    same-length-2 returns)
+set-slots-spec = tie.close (tie.spec Inv-loop μ-loop (λ c. (omega arith, setting-start _ _ _ _)) set-at-requires add-k
+    (λ c. omega (arith, c .before .before .before .before .before .before .before .before .loop-test .taken)) loop-again
+    (λ c. c .before .loop .inv .1 .frame .starts .long) (λ c. c .before .loop .inv .1 .frame .ends .long) returns)

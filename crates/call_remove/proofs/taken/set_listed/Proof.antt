@@ -13,33 +13,26 @@ Inv-loop table₀ starts₀ ends₀ given₀ lent indices p k₀ table starts en
 abbrev μ-loop : tie.MeasureT-loop
 μ-loop table₀ starts₀ ends₀ given₀ lent indices p k₀ table starts ends given k = length indices - k
 
-mul-wide : tie.Need-mul-wide Inv-loop μ-loop
-mul-wide c = omega (arith, (c .loop-test .taken))
-
-shared-slice-read-wide : tie.Need-shared-slice-read-wide Inv-loop μ-loop
-shared-slice-read-wide c = omega (arith, (c .before .loop-test .taken))
-
 take-at-requires : tie.Need-take-at-requires Inv-loop μ-loop
-take-at-requires c κs = rw ((c .before .before .before .before .wide .ensures) .0) (taking-ready ((c .before .before .before .before .before .before .before .before .before .before .before .before .pre) .0) (c .before .before .before .before .before .before .before .loop .inv) (c .before .before .before .before .before .before .loop-test .taken) ((c .before .before .before .before .before .before .before .before .before .before .before .before .pre) .1))
+take-at-requires c κs =
+    let l = c .before .before .before .before .before .before in let p = l .before .before .before .before .before .before .pre in
+    rw (c .before .before .before .before .wide .ensures .0) (taking-ready (p .0) (l .before .loop .inv) (l .loop-test .taken) (p .1))
 
 add-k : tie.Need-add-k Inv-loop μ-loop
-add-k c = omega (arith, (c .before .before .before .before .before .before .before .before .before .before .before .loop-test .taken))
+add-k c = omega (arith, c .before .before .before .before .before .before .before .before .before .before .before .loop-test .taken)
 
 loop-less : tie.Need-loop-less Inv-loop μ-loop
-loop-less c = omega (arith, (c .before .before .before .before .before .before .before .before .before .before .before .loop-test .taken))
+loop-less c = omega (arith, c .before .before .before .before .before .before .before .before .before .before .before .loop-test .taken)
 
 loop-again : tie.Need-loop-again Inv-loop μ-loop
-loop-again c = taking-turn ((c .before .before .before .before .before .before .before .before .before .before .before .before .before .before .before .before .before .pre) .0) (c .before .before .before .before .before .before .before .before .before .before .before .before .loop .inv) (c .before .before .before .before .before .before .before .before .before .before .before .loop-test .taken) ((c .before .before .before .before .before .before .before .before .before .before .before .before .before .before .before .before .before .pre) .1) (rw ((c .before .before .before .before .before .before .before .before .before .wide .ensures) .0) at (c .before .before .before .before .take-at .ensures))
-
-same-length : tie.Need-same-length Inv-loop μ-loop
-same-length c = (c .before .loop .inv) .walked .frame .starts .long
-
-same-length-2 : tie.Need-same-length-2 Inv-loop μ-loop
-same-length-2 c = (c .before .loop .inv) .walked .frame .ends .long
-
-returns : tie.Need-returns Inv-loop μ-loop
-returns c = taking-end (c .before .loop .inv) (c .loop-test .left)
+loop-again c =
+    let s = c .before .before .before .before in let l = s .before .before .before .before .before .before .before in
+    let p = l .before .before .before .before .before .before .pre in
+    let z = (rw (s .before .before .before .before .before .wide .ensures .0) at (s .take-at .ensures)) in
+    taking-turn (p .0) (l .before .loop .inv) (l .loop-test .taken) (p .1) z
 
 pub set-listed-spec : {M : Type 1} → statement M
-set-listed-spec = tie.close (tie.spec Inv-loop μ-loop (λ c. taking-start _ _ _ _ _ _) mul-wide shared-slice-read-wide
-    (λ c κs. search needs) take-at-requires add-k loop-less loop-again same-length same-length-2 returns)
+set-listed-spec = tie.close (tie.spec Inv-loop μ-loop (λ c. taking-start _ _ _ _ _ _)
+    (λ c. omega (arith, c .loop-test .taken)) (λ c. omega (arith, c .before .loop-test .taken)) (λ c κs. search needs)
+    take-at-requires add-k loop-less loop-again (λ c. c .before .loop .inv .walked .frame .starts .long)
+    (λ c. c .before .loop .inv .walked .frame .ends .long) (λ c. taking-end (c .before .loop .inv) (c .loop-test .left)))

@@ -6,46 +6,36 @@ use borrow.Author.Needs.{needs}
 use Rattle.call_remove.proofs.taken.set_taken.Statement.{statement}
 use Rattle.call_remove.proofs.taken.set_taken.Tie as tie
 
-add-if1 : tie.Need-add-if1
-add-if1 c = omega (arith, (c .before .before .before .pre .0) .index)
-
-mul-if1 : tie.Need-mul-if1
-mul-if1 c = omega (arith, (c .before .before .before .pre .0) .index)
-
-element-copy-out-if1 : tie.Need-element-copy-out-if1
-element-copy-out-if1 c = omega (arith, (c .before .before .before .pre .0) .index)
-
 set-owned-at-requires : tie.Need-set-owned-at-requires
-set-owned-at-requires c κs = (c .before .before .before .before .before .before .before .before .pre .0)
-
-returns : tie.Need-returns
-returns c = (c .before .before .before .before .set-owned-at .ensures)
+set-owned-at-requires c κs = c .before .before .before .before .before .before .before .before .pre .0
 
 both-single-requires : tie.Need-both-single-requires
-both-single-requires c κs = ((c .before .before .before .before .before .before .pre .0) .index, omega arith)
+both-single-requires c κs = (c .before .before .before .before .before .before .pre .0 .index, omega arith)
 
 add-set-state : tie.Need-add-set-state
-add-set-state c = omega (arith, (c .before .before .before .before .before .before .before .before .before .pre .0) .index)
+add-set-state c = omega (arith, c .before .before .before .before .before .before .before .before .before .pre .0 .index)
 
 mul-set-state : tie.Need-mul-set-state
-mul-set-state c = omega (arith, (c .before .before .before .before .before .before .before .before .before .pre .0) .index)
+mul-set-state c = omega (arith, c .before .before .before .before .before .before .before .before .before .pre .0 .index)
 
 element-copy-out-set-state : tie.Need-element-copy-out-set-state
-element-copy-out-set-state c = omega (arith, (c .before .before .before .before .before .before .before .before .before .pre .0) .index)
+element-copy-out-set-state c = omega (arith, c .before .before .before .before .before .before .before .before .before .pre .0 .index)
 
 set-state-requires : tie.Need-set-state-requires
-set-state-requires c κs = (omega arith, (c .before .before .before .before .before .before .before .before .before .before .pre .0) .index)
+set-state-requires c κs = (omega arith, c .before .before .before .before .before .before .before .before .before .before .pre .0 .index)
 
 returns-2 : tie.Need-returns-2
-returns-2 c = rw (c .set-state .ensures) (plain-set (c .before .before .before .before .before .before .before .before .before .before .before .pre .0) (c .before .before .before .before .before .before .before .before .before .before .before .pre .1) (c .before .before .before .before .before .before .if1 .left) (sym (c .before .before .before .before .both-single .ensures) ∙ (c .before .before .before .if2 .taken)))
+returns-2 c =
+    let s = c .before .before .before .before in let p = s .before .before .before .before .before .before .before .pre in
+    let single = sym (s .both-single .ensures) ∙ c .before .before .before .if2 .taken in
+    rw (c .set-state .ensures) (plain-set (p .0) (p .1) (s .before .before .if1 .left) single)
 
 set-owned-at-requires-2 : tie.Need-set-owned-at-requires-2
-set-owned-at-requires-2 c κs = (c .before .before .before .before .before .before .before .before .before .before .before .pre .0)
-
-returns-3 : tie.Need-returns-3
-returns-3 c = (c .before .before .before .before .set-owned-at2 .ensures)
+set-owned-at-requires-2 c κs = c .before .before .before .before .before .before .before .before .before .before .before .pre .0
 
 pub set-taken-spec : {M : Type 1} → statement M
-set-taken-spec = tie.close (tie.spec add-if1 mul-if1 element-copy-out-if1 set-owned-at-requires (λ c. search needs)
-    (λ c. search needs) returns both-single-requires add-set-state mul-set-state element-copy-out-set-state
-    set-state-requires returns-2 set-owned-at-requires-2 (λ c. search needs) (λ c. search needs) returns-3)
+set-taken-spec = tie.close (tie.spec (λ c. omega (arith, c .before .before .before .pre .0 .index))
+    (λ c. omega (arith, c .before .before .before .pre .0 .index)) (λ c. omega (arith, c .before .before .before .pre .0 .index))
+    set-owned-at-requires (λ c. search needs) (λ c. search needs) (λ c. c .before .before .before .before .set-owned-at .ensures)
+    both-single-requires add-set-state mul-set-state element-copy-out-set-state set-state-requires returns-2
+    set-owned-at-requires-2 (λ c. search needs) (λ c. search needs) (λ c. c .before .before .before .before .set-owned-at2 .ensures))
