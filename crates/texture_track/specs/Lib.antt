@@ -1,4 +1,3 @@
 pub mod Tracked
 pub mod Slot
-pub mod Using
 pub mod GivenSlot

@@ -1,7 +1,8 @@
 -- `log_use_at`: none where the texture is not owned, otherwise the entries of `barrier`.
 use borrow.Author.Tests.{eq-eqb, ne-eqb}
 use Rattle.texture_barrier.specs.Adds.{adds-none}
-use Rattle.texture_track.specs.Using.{old-textured, old-selects}
+use Rattle.set_ready.specs.Checked.{selector-within}
+use Rattle.set_ready.specs.Half.{half-held}
 use borrow.Author.Needs.{needs}
 use Rattle.texture_track.proofs.using.log_use_at.Statement.{statement}
 use Rattle.texture_track.proofs.using.log_use_at.Tie as tie
@@ -11,7 +12,7 @@ barrier-use-requires c κs =
     let p = c .before .before .before .before .before .before .pre in
     let o = c .before .if1 .left in
     let u = p .1 .0 in
-    (old-textured (p .0) u o, ((old-selects (p .0) u o, u .whole), (p .1 .1 .0, rw (ne-eqb _ _ o) at (p .1 .1 .1))))
+    (half-held (p .0 .end) o, ((selector-within (u .selector), u .whole), (p .1 .1 .0, rw (ne-eqb _ _ o) at (p .1 .1 .1))))
 
 pub log-use-at-spec : {M : Type 1} → statement M
 log-use-at-spec = tie.close (tie.spec (λ c. search needs) (λ c. search needs) (λ c. search needs)

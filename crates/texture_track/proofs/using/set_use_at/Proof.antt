@@ -2,7 +2,6 @@
 use Rattle.set_ready.specs.Checked.{use-ready, update-ready, selecting}
 use Rattle.set_ready.specs.Half.{half-held}
 use Rattle.set_ready.specs.Owned.{own-flags, own-ready, end-flags, end-textured}
-use Rattle.texture_track.specs.Using.{use-all, use-part}
 use Rattle.texture_track.specs.Slot.{tracker-new, tracker-old}
 use borrow.Author.Needs.{needs}
 use Rattle.texture_track.proofs.using.set_use_at.Statement.{statement}
@@ -36,7 +35,7 @@ update-state-requires c κs =
 returns-2 : tie.Need-returns-2
 returns-2 c =
     let at-if2 = c .before .before .before .before .before .before in let p = at-if2 .before .before .before .before .before .pre in
-    rw (use-all _ _ _ (at-if2 .if2 .taken))
+    rw (at-if2 .if2 .taken)
     (tracker-old (p .0) _ _ _ (at-if2 .before .if1 .left) (c .before .before .update-state .ensures))
 
 update-use-requires : tie.Need-update-use-requires
@@ -49,7 +48,7 @@ returns-3 : tie.Need-returns-3
 returns-3 c =
     let at-if2 = c .before .before .before .before .before .before .before .before in
     let p = at-if2 .before .before .before .before .before .pre in
-    rw (use-part _ _ _ (at-if2 .if2 .left))
+    rw (at-if2 .if2 .left)
     (tracker-old (p .0) _ _ _ (at-if2 .before .if1 .left) (c .before .before .before .before .update-use .ensures))
 
 pub set-use-at-spec : {M : Type 1} → statement M
