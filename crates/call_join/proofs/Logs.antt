@@ -12,7 +12,8 @@ use Rattle.model.specs.Texture.{ranged}
 use Rattle.set_storage.specs.Storage.{flagsOf, extentOf, ownedOf, slotWith, trackerOf, maskAt, texturesAt}
 use Rattle.texture_barrier.specs.Adds.{entriesAt}
 use Rattle.set_ready.specs.Half.{tracker-texture}
-use Rattle.texture_track.specs.Slot.{trackerSlot, slot-pending}
+use Rattle.set_ready.specs.Tested.{trackerSlot}
+use Rattle.texture_track.specs.Slot.{slot-pending}
 use Rattle.call_join.specs.Join.{Joins, LogsSet, givenOf, joinedEntries, start-given}
 use Rattle.call_join.specs.Lists.{each-list}
 use Rattle.texture_track.specs.GivenSlot.{pairOf, passStart, passEnd, endEntries, givenEntries}

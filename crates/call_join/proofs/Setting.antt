@@ -15,7 +15,8 @@ use Rattle.set_ready.specs.Named.{within}
 use Rattle.set_ready.specs.Half.{HeadStays, tracker-keeps, numbers-stay, flags-stay}
 use Rattle.set_ready.specs.Walked.{walked-next, over-end}
 use Rattle.set_ready.specs.TrackerWalk.{slotsBy, TrackerWalked, tracker-start, left-ready, tracker-turn, walked-view}
-use Rattle.texture_track.specs.Slot.{trackerSlot, SlotSet}
+use Rattle.set_ready.specs.Tested.{trackerSlot}
+use Rattle.texture_track.specs.Slot.{SlotSet}
 use Rattle.texture_track.specs.GivenSlot.{SetsAt, pairOf, passStart, passEnd, slotAfter}
 use Rattle.call_join.specs.Join.{Joins, SetsAll, start-given, end-given}
 

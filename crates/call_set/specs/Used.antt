@@ -9,7 +9,8 @@ use Rattle.model.specs.Calls.{setSlot}
 use Rattle.model.specs.Texture.{Held, Given, ranged}
 use Rattle.set_storage.specs.Storage.{flagsOf, trackerOf, maskAt}
 use Rattle.texture_barrier.specs.Adds.{entriesAt}
-use Rattle.texture_track.specs.Slot.{trackerSlot, slotEntries}
+use Rattle.set_ready.specs.Tested.{trackerSlot}
+use Rattle.texture_track.specs.Slot.{slotEntries}
 
 abbrev pub usedEntries : List ℕ → List ℕ → List ℕ → ℕ → Extent → Given → List PendingTransition
 usedEntries t s e i sh g = entriesAt i (slotEntries (flagsOf t) (getD t maskAt 0) sh g (trackerSlot t s e i))
