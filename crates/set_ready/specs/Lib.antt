@@ -6,4 +6,4 @@ pub mod Half
 pub mod Answers
 pub mod Named
 pub mod Walked
-pub mod TrackerWalk
+pub mod SetWalk
