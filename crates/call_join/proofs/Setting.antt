@@ -14,7 +14,7 @@ use Rattle.set_storage.specs.Stays.{onlyOwned, ownedBy}
 use Rattle.set_ready.specs.Named.{within}
 use Rattle.set_ready.specs.Half.{HeadStays, tracker-keeps, numbers-stay, flags-stay}
 use Rattle.set_ready.specs.Walked.{walked-next, over-end}
-use Rattle.set_ready.specs.TrackerWalk.{slotsBy, TrackerWalked, tracker-start, left-ready, tracker-turn, walked-view}
+use Rattle.set_ready.specs.SetWalk.{slotsBy, TrackerWalked, tracker-start, left-ready, tracker-turn, walked-view}
 use Rattle.set_ready.specs.Tested.{trackerSlot}
 use Rattle.texture_track.specs.Slot.{SlotSet}
 use Rattle.texture_track.specs.GivenSlot.{SetsAt, pairOf, passStart, passEnd, slotAfter}
@@ -34,6 +34,7 @@ setting-start t s e f = tracker-start (λ j l. absurd (l (omega arith)))
 
 module _ {t s e : List ℕ} {from to : ℕ} {g a b : List ℕ} (w : Joins t s e from to g a b) {f : Rule} {k : ℕ} {t₁ s₁ e₁ : List ℕ}
     (q : Setting (within t (ownedBy g)) t s e f k t₁ s₁ e₁) (h : k < getD g texturesAt 0) where
+  -- the head stays
   keeps : HeadStays t t₁
   keeps = tracker-keeps (q .frame)
 
@@ -56,7 +57,7 @@ module _ {t s e : List ℕ} {from to : ℕ} {g a b : List ℕ} (w : Joins t s e 
       let below : (j : ℕ) → j ≡ k → j < getD g texturesAt 0 = λ j e. subst (λ (y : ℕ). y < getD g texturesAt 0) (sym e) h in
       tracker-turn q (w .tracker .starts)
       (λ j n. let l = below j (n .0) in (n .0, (w .passed .each j l (n .1) .texture, (l, n .1))))
-      (z .frame) (λ o. walked-next _ _ _ (q .slots) o (λ y. here))
+      (z .frame) (λ o. walked-next (q .slots) o (λ y. here))
 
 -- at the end: THE VIEW
 pub setting-end : {t s e : List ℕ} {from to : ℕ} {g a b : List ℕ} {t′ s′ e′ : List ℕ} (p : UsageFlags) (k : ℕ)

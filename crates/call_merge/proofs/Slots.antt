@@ -24,7 +24,7 @@ use Rattle.set_ready.specs.Given.{HalfGiven, owned-given}
 use Rattle.set_ready.specs.Half.{HalfReady, HeadStays, scope-keeps, numbers-stay, flags-stay, measured-stays, scope-still}
 use Rattle.call_merge.specs.Met.{indexed, metAt}
 use Rattle.set_ready.specs.Walked.{Walked, walked-start, walked-next, walk-end, walk-stop}
-use Rattle.set_ready.specs.TrackerWalk.{set-view}
+use Rattle.set_ready.specs.SetWalk.{set-view}
 use Rattle.call_merge.specs.Slot.{OwnedReady, SlotMerged, scope-named, scope-rest}
 use Rattle.call_merge.specs.Scope.{mergedSlots, SlotsReady, SlotsMerged}
 
@@ -39,7 +39,7 @@ pub record Merging (p : UsageFlags) (t₀ r₀ g l : List ℕ) (k : ℕ) (t r : 
   pub frame : ScopeFrame (ownedBy g) (numbersOf t₀) t₀ r₀ t r
 
 pub start : (p : UsageFlags) (t r g l : List ℕ) → Merging p t r g l 0 t r
-start p t r g l = record { within = omega arith; slots = walked-start _ _ _ (λ j l. absurd (l (omega arith))); frame = keeps-refl t r }
+start p t r g l = record { within = omega arith; slots = walked-start (λ j l. absurd (l (omega arith))); frame = keeps-refl t r }
 
 -- what a walk gives that leaves these textures, and the view then
 walk-gives : {named : ℕ → Type 0} {w : Stop (Indexed InvalidUse) (List (Slot Held))} {o : Option (Indexed InvalidUse)} {t₀ r₀ t r : List ℕ}
@@ -60,6 +60,7 @@ module _ {p : UsageFlags} {t₀ r₀ g l : List ℕ} {k : ℕ} {t r : List ℕ} 
       walk-gives (walk-end (mergeGiven ranged p) (scopeSlot t₀ r₀) (scopeSlot t r) (scopeSlot g l) n (getD g texturesAt 0) y) (m .frame)
 
   module _ (q : SlotsReady t₀ r₀ g l p) (h : k < getD g texturesAt 0) where
+    -- the head stays
     keeps : HeadStays t₀ t
     keeps = scope-keeps (m .frame)
 
@@ -100,7 +101,7 @@ module _ {p : UsageFlags} {t₀ r₀ g l : List ℕ} {k : ℕ} {t r : List ℕ} 
 
       -- it met no conflict
       pub turn : x ≡ Nowhere → Merging p t₀ r₀ g l (k + 1) t′ r′
-      turn e = record { within = omega arith; slots = walked-next _ _ _ (m .slots) others (λ b. rw e at this); frame = frame-now }
+      turn e = record { within = omega arith; slots = walked-next (m .slots) others (λ b. rw e at this); frame = frame-now }
 
       -- it met one: the given scope owns the texture
       is-owned : (b : Bool) → ownedOf g k ≡ b → {c : InvalidUse} → x ≡ At c → ownedOf g k ≡ true

@@ -45,6 +45,7 @@ module _ {named : ℕ → Type 0} {g g₁ : List ℕ} (f : Stays OffOwned named 
 
 -- ---- The scope without texture i
 module _ (g : List ℕ) (i : ℕ) (few : i < tableIndices) where
+  -- its word alone changed
   off-one : Stays OffOwned (only i) g (set g (ownedAt i) 0)
   off-one = stays-set g (ownedAt i) 0 few (λ x o. o)
 

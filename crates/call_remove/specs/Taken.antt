@@ -23,7 +23,7 @@ use Rattle.set_ready.specs.Named.{within}
 use Rattle.set_ready.specs.Tested.{trackerSlot, ScopeTested, TrackerTested}
 use Rattle.set_ready.specs.Half.{HeadStays, BothReady, tracker-keeps, flags-stay, measured-stays}
 use Rattle.set_ready.specs.Walked.{walked-turn}
-use Rattle.set_ready.specs.TrackerWalk.{TrackerWalked, tracker-start, left-ready, tracker-turn}
+use Rattle.set_ready.specs.SetWalk.{TrackerWalked, tracker-start, left-ready, tracker-turn}
 use Rattle.texture_track.specs.Slot.{SlotSet, tracker-kept, tracker-named, tracker-view}
 use Rattle.set_ready.specs.Given.{givenAt, HalfGiven}
 use Rattle.texture_track.specs.GivenSlot.{SetsAt, slotAfter}
@@ -111,6 +111,7 @@ module _ {t s e g r is : List ℕ} (w : Listing t s e g r is) {k : ℕ} {t₁ s�
   abbrev i : ℕ
   i = getD is k 0
 
+  -- the head stays
   keeps : HeadStays t t₁
   keeps = tracker-keeps (q .walked .frame)
 
@@ -176,7 +177,7 @@ module _ {t s e g r is : List ℕ} (w : Listing t s e g r is) {k : ℕ} {t₁ s�
           after = after-turn;
           gone = z .gone ∙ rw (add-one, take-suc is k 0 h, disowned-last (take k is) i g, q .gone);
           walked = tracker-turn (q .walked) (w .tracker .starts) listed (z .into .frame) (λ o.
-              walked-turn _ _ _ (q .walked .slots) o (λ b. tt) (λ j ne l. rw (z .gone) (off-other g₁ i (few k h) j ne ∙ l))
+              walked-turn (q .walked .slots) o (λ b. tt) (λ j ne l. rw (z .gone) (off-other g₁ i (few k h) j ne ∙ l))
               (λ j l. off-still g₁ i (few k h) long-now j (rw (z .gone) at l)));
         }
 

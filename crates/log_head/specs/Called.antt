@@ -100,6 +100,7 @@ pub record Wrote (new : List PendingTransition) (h : LogHead) (l : List ℕ) (k 
   pub into : Added l (h .written) new l′
   pub moves : (k ≤ h .free) × (h .written + h .free < 18446744073709551616)
 
+-- as the code finds it: the head fits, the entries fit, and they are added
 pub wrote : {new : List PendingTransition} {h : LogHead} {l : List ℕ} {top k : ℕ} {l′ : List ℕ}
     → (headWithin (length l / 7) h ≡ true) × (length l < 18446744073709551616) → length new ≤ h .free
     → Adds top true l (h .written) new k l′ → Wrote new h l k l′

@@ -5,4 +5,4 @@ pub mod Given
 pub mod Owned
 pub mod Named
 pub mod Walked
-pub mod TrackerWalk
+pub mod SetWalk

@@ -1,4 +1,4 @@
--- A walk over the slots of a tracker that changes what is of named indices alone: a slot that is left is ready, and the view at its end.
+-- A walk over the slots of a set as it is lent: the view at its end; and of a tracker, that a slot which is left is ready as it was.
 use Prim.Native.Nat.{ℕ, _<_}
 use native.Mathlib.Omega.{arith}
 use mathlib.Core.Path.{_≡_, ap, subst, _∙_}
@@ -35,7 +35,7 @@ pub record TrackerWalked (named : ℕ → Type 0) (t s e : List ℕ) (R : ℕ �
 module _ {named : ℕ → Type 0} {t s e : List ℕ} {R : ℕ → Slot (Ends Held) → Slot (Ends Held) → Type 0} {left : ℕ → Type 0} where
   -- nothing changed yet
   pub tracker-start : ((j : ℕ) → (left j → ⊥) → R j (trackerSlot t s e j) (trackerSlot t s e j)) → TrackerWalked named t s e R left t s e
-  tracker-start d = record { slots = walked-start _ _ _ d; frame = both-refl t s e }
+  tracker-start d = record { slots = walked-start d; frame = both-refl t s e }
 
   module _ {t₁ s₁ e₁ : List ℕ} (q : TrackerWalked named t s e R left t₁ s₁ e₁) where
     -- a slot that is left is ready
