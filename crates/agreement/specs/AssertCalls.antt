@@ -12,14 +12,14 @@ use Rattle.model.specs.declared.Extent.{Extent}
 use Rattle.model.specs.declared.Refusal.{Refusal}
 use Rattle.model.specs.declared.Selector.{Selector}
 use Rattle.model.specs.declared.UsageFlags.{UsageFlags}
-use Rattle.model.specs.Base.{if_then_else_, every, each, eachAt}
+use Rattle.model.specs.Base.{if_then_else_, every, each, eachAt, All}
 use Rattle.model.specs.Representation.{Ends}
 use Rattle.model.specs.Sets.{Numbers, Slot, Set, Tracker, headOf, ownExtent, emptySlot, slotAt}
 use Rattle.model.specs.Refusals.{ownedChecks, sparseChecks, singleRefusal, setRefusal, sparseRefusal}
 use Rattle.model.specs.Calls.{noEnds, Call, callMergeSingle, callMergeUsageScope, callSetSingle, callSetFromUsageScope, callSetFromTracker, callSetAndRemoveSparse, Sets}
 use Rattle.model.specs.Texture.{Held, Given, ranged, fromUse, fromHeld}
 use Rattle.model.specs.BoolLaws.{by-test, both}
-use Rattle.model.specs.ListLaws.{All, all-left, all-right, elem-of}
+use Rattle.model.specs.ListLaws.{all-left, all-right, elem-of}
 use Rattle.model.specs.CheckLaws.{passed, Passed}
 use Rattle.agreement.specs.Grid.{Grid, Named, namedUse, namedAll, grid}
 use Rattle.agreement.specs.Shared.{gridOf, gridEnds, entriesAt, gridAt}

@@ -12,13 +12,13 @@ use borrow.Author.Tests.{le-leb, lt-ltb, eqb-false, ne-eqb}
 use Rattle.model.specs.declared.Extent.{Extent}
 use Rattle.model.specs.declared.Range.{Range}
 use Rattle.model.specs.declared.UsageFlags.{UsageFlags}
-use Rattle.model.specs.Base.{every, eachAt, if_then_else_, zip₂}
+use Rattle.model.specs.Base.{every, eachAt, if_then_else_, zip₂, All, AllO}
 use Rattle.model.specs.Flags.{incompatible}
 use Rattle.model.specs.Representation.{select, mipStart, mipEnd, layerStart, layerEnd, full, inMips, Ends}
 use Rattle.model.specs.StateRules.{invalidState}
 use Rattle.model.specs.RangedStates.{layerStates, coalesce, isolate, paint, Tiles}
 use Rattle.model.specs.Texture.{Held, single, many, Given, givenSingle, givenMany, Piece, onMips, learnAll, metBy}
-use Rattle.model.specs.ListLaws.{All, all-every, all-left, all-right, all-join, first-of, AllO, zip-append, all-replicate, all-map}
+use Rattle.model.specs.ListLaws.{all-every, all-left, all-right, all-join, first-of, zip-append, all-replicate, all-map}
 use Rattle.model.specs.BoolLaws.{both, by-test}
 use Rattle.model.specs.RangeLaws.{tiles-le, isolate-cuts, tiles-length}
 use Rattle.agreement.specs.Grid.{Named, tab, namedRow}

@@ -18,10 +18,10 @@ use Rattle.model.specs.Refusals.{selectorChecks}
 use Rattle.model.specs.Texture.{Held, insert, merge, update, ranged}
 use Rattle.model.specs.WellFormed.{singleFits, heldFits, endsFit, scopeFits, trackerFits}
 use Rattle.model.specs.CheckLaws.{Passed}
-use Rattle.model.specs.Base.{every}
+use Rattle.model.specs.Base.{every, All}
 use Rattle.model.specs.Sets.{Tracker, Opening}
 use Rattle.model.specs.Calls.{Answer, done, refused, inConflict, Call, Sets, step, newly}
-use Rattle.model.specs.ListLaws.{All, every-all, all-every, all-weak}
+use Rattle.model.specs.ListLaws.{every-all, all-every, all-weak}
 use Rattle.agreement.specs.Grid.{SubresourceConflict, grid}
 use Rattle.agreement.specs.Shared.{Use, ofSelector, ofTexture, rangedUse, gridUse, selectorFits, useFits, TextureShares, toGrids, seenAnswer, Shares, Agree, Demand3, afterCalls}
 use Rattle.agreement.specs.WellFormedSets.{wellFormed, GivenWord}

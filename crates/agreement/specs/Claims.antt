@@ -13,7 +13,7 @@ use Rattle.model.specs.declared.Refusal.{Refusal}
 use Rattle.model.specs.declared.Refusal.the-variants.{NoFreeEntry}
 use Rattle.model.specs.declared.Selector.{Selector}
 use Rattle.model.specs.declared.UsageFlags.{UsageFlags}
-use Rattle.model.specs.Base.{every}
+use Rattle.model.specs.Base.{every, All}
 use Rattle.model.specs.Flags.{flagsFit}
 use Rattle.model.specs.Representation.{Ends}
 use Rattle.model.specs.Sets.{Slot, Set, Tracker, headOf, Opening}
@@ -24,7 +24,6 @@ use Rattle.model.specs.RangeCalls.{ascends}
 use Rattle.model.specs.Texture.{Held, Entry, ranged}
 use Rattle.model.specs.WellFormed.{scopeFits, trackerFits}
 use Rattle.model.specs.Log.{Log, pending, headCheck, logging}
-use Rattle.model.specs.ListLaws.{All}
 use Rattle.model.specs.RangeLaws.{isolate-few}
 use Rattle.agreement.specs.Grid.{grid}
 use Rattle.agreement.specs.Shared.{toGrids, Use, useFits, TextureShares, Shares, Agree, Demand3, afterCalls}

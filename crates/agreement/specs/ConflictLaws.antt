@@ -12,13 +12,13 @@ use borrow.Author.Tests.{not-false, leb-true, ltb-true, ltb-false, le-leb, lt-lt
 use Rattle.model.specs.declared.Extent.{Extent}
 use Rattle.model.specs.declared.Selector.{Selector}
 use Rattle.model.specs.declared.UsageFlags.{UsageFlags}
-use Rattle.model.specs.Base.{if_then_else_, Stop, ruled, orKeep, onward, walk₂}
+use Rattle.model.specs.Base.{if_then_else_, Stop, ruled, orKeep, onward, walk₂, All, AllO}
 use Rattle.model.specs.Flags.{incompatible}
 use Rattle.model.specs.Representation.{inMips, holds, full}
 use Rattle.model.specs.Sets.{Slot, Set, headOf, slotAt}
 use Rattle.model.specs.Refusals.{textureChecks, selectorChecks, stateChecks, singleRefusal}
 use Rattle.model.specs.Calls.{Indexed, answer, mergeSingle}
-use Rattle.model.specs.ListLaws.{All, all-left, all-right, all-join, all-getD, all-both, AllO}
+use Rattle.model.specs.ListLaws.{all-left, all-right, all-join, all-getD, all-both}
 use Rattle.model.specs.BoolLaws.{neither, by-test}
 use Rattle.model.specs.CheckLaws.{passed, Passed}
 use Rattle.agreement.specs.Grid.{SubresourceConflict, without, singleUnion, manyUnion, namedUse}

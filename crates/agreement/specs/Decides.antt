@@ -18,12 +18,13 @@ use Rattle.model.specs.RangedStates.{Tiles}
 use Rattle.model.specs.Texture.{Held, single, many}
 use Rattle.model.specs.Subresources.{subresources}
 use Rattle.model.specs.WellFormed.{stateFits, singleFits, rangesFit, heldFits, sameTest, all₂, sameUnknown, endsFit, slotFits, setFits, scopeFits, trackerFits}
-use Rattle.model.specs.ListLaws.{All, every-all, all-every}
+use Rattle.model.specs.ListLaws.{every-all, all-every}
 use Rattle.model.specs.BoolLaws.{by-test, neither, both, and-left, and-right, false-not}
 use Rattle.model.specs.CheckLaws.{inside}
 use Rattle.agreement.specs.Shared.{gridOf}
 use Rattle.agreement.specs.Fits.{StateFits, SingleFits, MipFits, HeldFits, unknowns, EndsFit, ExtentFits, SlotFits, SetFits}
 use Rattle.agreement.specs.WellStates.{no-meet}
+use Rattle.model.specs.Base.{All}
 
 -- ---- a state
 meets-apart : (a b : ℕ) → bitAnd a b ≡ 0 → not (meets a b) ≡ true

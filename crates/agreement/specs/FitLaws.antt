@@ -9,9 +9,8 @@ use lib.Count.{onesIn}
 use lib.Dec.{eqb}
 use borrow.Author.Tests.{eqb-true, eqb-false, eq-eqb, ne-eqb}
 use Rattle.model.specs.declared.UsageFlags.{UsageFlags}
-use Rattle.model.specs.Base.{every}
+use Rattle.model.specs.Base.{every, All}
 use Rattle.model.specs.Flags.{meets, oneBit, incompatible}
-use Rattle.model.specs.ListLaws.{All}
 use Rattle.agreement.specs.WebGpu.{Renders, Usage, input, constant, storage, storageRead, attachment, attachmentRead, reads, isStorage, isAttachment, oneElement, compatibleList, sameBit, usesFit}
 use Rattle.usage.specs.BitLaws.{and-or, or-zero, or-assoc, in-one-bit}
 

@@ -15,7 +15,7 @@ use Rattle.model.specs.Sets.{Numbers, Slot, Set, Tracker, numbersFit}
 use Rattle.model.specs.Calls.{Sets}
 use Rattle.model.specs.RangedStates.{Tiles}
 use Rattle.model.specs.Texture.{Held, single, many, ranged}
-use Rattle.model.specs.ListLaws.{All}
+use Rattle.model.specs.Base.{All}
 use Rattle.agreement.specs.Shared.{gridOf}
 
 -- "states nonzero, compatible, without COMPLEX", of sixteen bits

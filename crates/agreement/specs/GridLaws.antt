@@ -5,9 +5,9 @@ use lib.ListN.{replicate, length, take, drop, take-append-drop, length-take, len
 use Prim.Native.Nat.{ℕ, suc, _-_, _≤_}
 use native.Mathlib.Omega.{arith}
 use Rattle.model.specs.declared.Extent.{Extent}
-use Rattle.model.specs.Base.{zip₂, Stop, fine, walk₂}
+use Rattle.model.specs.Base.{zip₂, Stop, fine, walk₂, All}
 use Rattle.model.specs.Subresources.{everywhere}
-use Rattle.model.specs.ListLaws.{All, all-map, all-replicate, map-replicate}
+use Rattle.model.specs.ListLaws.{all-map, all-replicate, map-replicate}
 
 pub all-of : {A : Type 0} (P : A → Type 0) → ((x : A) → P x) → (s : List A) → All P s
 all-of P h [] = tt

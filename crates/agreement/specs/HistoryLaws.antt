@@ -13,13 +13,13 @@ use borrow.Author.Tests.{eqb-true, eqb-false, not-false}
 use Rattle.model.specs.declared.Extent.{Extent}
 use Rattle.model.specs.declared.Selector.{Selector}
 use Rattle.model.specs.declared.UsageFlags.{UsageFlags}
-use Rattle.model.specs.Base.{if_then_else_, Stop, ruled, orKeep, onward, walk₂}
+use Rattle.model.specs.Base.{if_then_else_, Stop, ruled, orKeep, onward, walk₂, All, AllO}
 use Rattle.model.specs.Flags.{meets, incompatible, flagsFit}
 use Rattle.model.specs.Representation.{Ends}
 use Rattle.model.specs.Sets.{Head}
 use Rattle.model.specs.Refusals.{textureChecks, selectorChecks, stateChecks, singleRefusal}
 use Rattle.model.specs.StateRules.{less}
-use Rattle.model.specs.ListLaws.{All, all-right, all-join, AllO}
+use Rattle.model.specs.ListLaws.{all-right, all-join}
 use Rattle.model.specs.BoolLaws.{neither, by-test₂}
 use Rattle.model.specs.CheckLaws.{passed}
 use Rattle.agreement.specs.Grid.{Grid, Named, SubresourceConflict, without, singleUnion, manyUnion, uniteState, uniteStates, namedOr, namedUse, namedAll, gridInsert, gridMerge, gridBarrier, gridUpdate, grid}

@@ -7,7 +7,7 @@ use lib.Dec.{leb, ltb}
 use Rattle.model.specs.declared.Extent.{Extent}
 use Rattle.model.specs.declared.Range.{Range}
 use Rattle.model.specs.Texture.{Held, single, many}
-use Rattle.model.specs.ListLaws.{All}
+use Rattle.model.specs.Base.{All}
 use Rattle.agreement.specs.LogBound.{sumFrom, oneIf}
 
 -- a layer lies in a range of the list

@@ -10,14 +10,14 @@ use lib.ListN.{length, set, getElem?}
 use Rattle.model.specs.declared.Extent.{Extent}
 use Rattle.model.specs.declared.Refusal.{Refusal}
 use Rattle.model.specs.declared.UsageFlags.{UsageFlags}
-use Rattle.model.specs.Base.{if_then_else_, each}
+use Rattle.model.specs.Base.{if_then_else_, each, All, AllO}
 use Rattle.model.specs.Representation.{Representation, Ends}
 use Rattle.model.specs.Sets.{Set, Tracker, Opening, openSet, openTracker}
 use Rattle.model.specs.Refusals.{opens}
 use Rattle.model.specs.Calls.{Answer, CallResult, Call, callMergeSingle, callMergeUsageScope, callSetSingle, callSetFromUsageScope, callSetFromTracker, callSetAndRemoveSparse, Sets, step, newly, into, withScopes, withTrackers, nothing, with₁, with₂, setAndRemoveSparse}
 use Rattle.model.specs.StateRules.{Move}
 use Rattle.model.specs.BoolLaws.{by-test₂}
-use Rattle.model.specs.ListLaws.{All, all-set, AllO, all-elem, elem-map, set-map}
+use Rattle.model.specs.ListLaws.{all-set, all-elem, elem-map, set-map}
 use Rattle.agreement.specs.Shared.{afterCalls, ofIndex}
 use Rattle.agreement.specs.Fits.{SetFits}
 use Rattle.agreement.specs.SlotLaws.{imageSet, imageEnds, imageTracker, open-image, open-fits}

@@ -8,14 +8,14 @@ use lib.ListN.{set}
 use Rattle.model.specs.declared.Extent.{Extent}
 use Rattle.model.specs.declared.Selector.{Selector}
 use Rattle.model.specs.declared.UsageFlags.{UsageFlags}
-use Rattle.model.specs.Base.{Stop, walk₂}
+use Rattle.model.specs.Base.{Stop, walk₂, All}
 use Rattle.model.specs.Flags.{flagsFit}
 use Rattle.model.specs.Representation.{Representation}
 use Rattle.model.specs.Sets.{Numbers, Slot, Set, Head, headOf, slotAt, withSlots}
 use Rattle.model.specs.Refusals.{singleRefusal, setRefusal}
 use Rattle.model.specs.Calls.{owning, Indexed, Answer, done, refused, inConflict, answer, CallResult, mergeSlot, mergeGiven, mergeSingle, mergeUsageScope}
 use Rattle.model.specs.BoolLaws.{by-test₂}
-use Rattle.model.specs.ListLaws.{All, set-map}
+use Rattle.model.specs.ListLaws.{set-map}
 use Rattle.agreement.specs.Shared.{gridSlots}
 use Rattle.agreement.specs.WalkLaws.{Sim, Sims, onward-sim, onward-all, walk-length}
 use Rattle.agreement.specs.Fits.{SlotFits, SetFits}

@@ -13,7 +13,7 @@ use Rattle.model.specs.declared.Extent.{Extent}
 use Rattle.model.specs.declared.Refusal.{Refusal}
 use Rattle.model.specs.declared.Selector.{Selector}
 use Rattle.model.specs.declared.UsageFlags.{UsageFlags}
-use Rattle.model.specs.Base.{each, over₂, eachAt₂}
+use Rattle.model.specs.Base.{each, over₂, eachAt₂, All}
 use Rattle.model.specs.Flags.{flagsFit}
 use Rattle.model.specs.Representation.{Representation, Ends}
 use Rattle.model.specs.Sets.{Numbers, Slot, Set, Tracker, Head, headOf, ownExtent, emptySlot, slotAt, withSlots, withTracker}
@@ -21,7 +21,7 @@ use Rattle.model.specs.Refusals.{sparseChecks, textureChecks, ownedChecks, sing
 use Rattle.model.specs.Calls.{owning, Indexed, Answer, done, refused, CallResult, setSlot, logSlot, setSingle, setGiven, logGiven, setFrom, sparseAll, setAndRemoveSparse, noEnds}
 use Rattle.model.specs.StateRules.{Move}
 use Rattle.model.specs.BoolLaws.{by-test, by-test₂, by-eq}
-use Rattle.model.specs.ListLaws.{All, all-weak, all-left, all-right, set-map, each-append}
+use Rattle.model.specs.ListLaws.{all-weak, all-left, all-right, set-map, each-append}
 use Rattle.model.specs.CheckLaws.{Passed, passed, same-flags}
 use Rattle.agreement.specs.Shared.{ofIndex, gridSlots}
 use Rattle.agreement.specs.Fits.{SlotFits, SetFits}

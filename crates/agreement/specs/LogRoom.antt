@@ -16,12 +16,12 @@ use Rattle.model.specs.declared.Range.{Range}
 use Rattle.model.specs.declared.Refusal.the-variants.{NoFreeEntry}
 use Rattle.model.specs.declared.Selector.{Selector}
 use Rattle.model.specs.declared.UsageFlags.{UsageFlags}
-use Rattle.model.specs.Base.{if_then_else_, eachAt₂, zip₂}
+use Rattle.model.specs.Base.{if_then_else_, eachAt₂, zip₂, All}
 use Rattle.model.specs.Representation.{select, full, inMips, holds, Ends}
 use Rattle.model.specs.StateRules.{Move, moveOf}
 use Rattle.model.specs.RangedStates.{iterFilter, Tiles}
 use Rattle.model.specs.Texture.{Held, single, many, Given, givenSingle, givenMany, Piece, Entry, entry, mipEntries, barrier, ranged, fromUse, fromHeld}
-use Rattle.model.specs.ListLaws.{All, all-each, all-eachAt, elem-of}
+use Rattle.model.specs.ListLaws.{all-each, all-eachAt, elem-of}
 use Rattle.model.specs.BoolLaws.{by-test, by-test₂, neither}
 use Rattle.model.specs.RangeLaws.{tiles-le}
 use Rattle.model.specs.Sets.{Numbers, Slot, Set, Tracker, headOf, emptySlot, slotAt, capacity}

@@ -10,12 +10,11 @@ use Rattle.model.specs.declared.Extent.{Extent}
 use Rattle.model.specs.declared.InvalidUse.{InvalidUse}
 use Rattle.model.specs.declared.Range.{Range}
 use Rattle.model.specs.declared.UsageFlags.{UsageFlags}
-use Rattle.model.specs.Base.{if_then_else_, Stop, fine, stopped, ruled, andThen, onward, walk, walk₂}
+use Rattle.model.specs.Base.{if_then_else_, Stop, fine, stopped, ruled, andThen, onward, walk, walk₂, All}
 use Rattle.model.specs.Representation.{select, inMips}
 use Rattle.model.specs.StateRules.{uniteKnown}
 use Rattle.model.specs.RangedStates.{Cut, isolate, inState, layerStates, Tiles}
 use Rattle.model.specs.Texture.{Piece, invalidUse, mergeRange, mergeMip, settled}
-use Rattle.model.specs.ListLaws.{All}
 use Rattle.model.specs.RangeLaws.{Same, coalesce-same, Cuts, isolate-cuts, tiles-le, states-append, tiles-append, tiles-length}
 use Rattle.agreement.specs.Grid.{SubresourceConflict, uniteState, band, namedRow}
 use Rattle.agreement.specs.Shared.{firstOf}

@@ -11,12 +11,12 @@ use Rattle.model.specs.declared.Extent.{Extent}
 use Rattle.model.specs.declared.Refusal.{Refusal}
 use Rattle.model.specs.declared.Selector.{Selector}
 use Rattle.model.specs.declared.UsageFlags.{UsageFlags}
-use Rattle.model.specs.Base.{each, eachAt, walk₂}
+use Rattle.model.specs.Base.{each, eachAt, walk₂, All}
 use Rattle.model.specs.Representation.{Representation, Ends}
 use Rattle.model.specs.Sets.{Set, Tracker, Head, headOf, slotAt}
 use Rattle.model.specs.Refusals.{Check, firstFailing, numberOf, textureChecks, selectorChecks, stateChecks, ownedChecks, sparseChecks, singleRefusal, setRefusal, sparseRefusal}
 use Rattle.model.specs.Calls.{Indexed, Answer, done, refused, inConflict, answer, CallResult, unless, Result, Sets, into, with₁, with₂, Call, callMergeSingle, callMergeUsageScope, callSetSingle, callSetFromUsageScope, callSetFromTracker, callSetAndRemoveSparse, mergeSlot, mergeGiven, setFrom, sparseAll, step}
-use Rattle.model.specs.ListLaws.{All, all-join}
+use Rattle.model.specs.ListLaws.{all-join}
 use Rattle.model.specs.BoolLaws.{by-test}
 
 abbrev Own : Refusal → Type 0

@@ -10,11 +10,11 @@ use lib.ListN.{replicate, length, length-replicate, length-append, take, drop, t
 use borrow.Author.Tests.{le-leb, lt-ltb, le-ltb, leb-true}
 use Rattle.model.specs.declared.Extent.{Extent}
 use Rattle.model.specs.declared.Range.{Range}
-use Rattle.model.specs.Base.{if_then_else_, eachAt, Stop, fine, andThen, passes, onward, walk, walk₂}
+use Rattle.model.specs.Base.{if_then_else_, eachAt, Stop, fine, andThen, passes, onward, walk, walk₂, All}
 use Rattle.model.specs.Representation.{select, inMips}
 use Rattle.model.specs.RangedStates.{layerStates, Tiles}
 use Rattle.model.specs.Texture.{Piece, piecesOf}
-use Rattle.model.specs.ListLaws.{All, all-left, all-right, all-join, all-both}
+use Rattle.model.specs.ListLaws.{all-left, all-right, all-join, all-both}
 use Rattle.model.specs.RangeLaws.{tiles-le}
 use Rattle.agreement.specs.Grid.{band, tab, namedRow}
 use Rattle.agreement.specs.WalkLaws.{joinStop, walk-append, walk-length, walk-none, Sim, lockstep, unnamed-of, row-parts-of, RunsOf, GridsOf}

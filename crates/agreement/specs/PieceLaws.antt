@@ -8,10 +8,9 @@ use lib.ListN.{length}
 use Rattle.model.specs.declared.Extent.{Extent}
 use Rattle.model.specs.declared.InvalidUse.{InvalidUse}
 use Rattle.model.specs.declared.Range.{Range}
-use Rattle.model.specs.Base.{Stop, passes, walk}
+use Rattle.model.specs.Base.{Stop, passes, walk, All}
 use Rattle.model.specs.RangedStates.{layerStates, Tiles}
 use Rattle.model.specs.Texture.{Piece, piecesOf}
-use Rattle.model.specs.ListLaws.{All}
 use Rattle.model.specs.RangeLaws.{tiles-length}
 use Rattle.agreement.specs.Grid.{SubresourceConflict, uniteState, uniteStates, tab, namedRow}
 use Rattle.agreement.specs.Shared.{firstOf}

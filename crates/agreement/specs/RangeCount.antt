@@ -16,13 +16,14 @@ use Rattle.model.specs.RangedStates.{Tiles}
 use Rattle.model.specs.RangeCalls.{ascends}
 use Rattle.model.specs.Texture.{Held, single, many}
 use Rattle.model.specs.WellFormed.{scopeFits, trackerFits}
-use Rattle.model.specs.ListLaws.{All, all-weak}
+use Rattle.model.specs.ListLaws.{all-weak}
 use Rattle.model.specs.BoolLaws.{and-left, and-right}
 use Rattle.model.specs.RangeLaws.{tiles-count}
 use Rattle.agreement.specs.LogBound.{sumFrom, oneIf}
 use Rattle.agreement.specs.Layers.{covers, covered, lengths, AddUp}
 use Rattle.agreement.specs.Fits.{HeldFits, EndsFit, MipFits, SlotFits}
 use Rattle.agreement.specs.Decides.{scope-to, tracker-to}
+use Rattle.model.specs.Base.{All}
 
 pub ranges-few : (s : List Range) (w : ℕ) → Tiles 0 s w → length s ≤ w
 ranges-few s w t = omega (arith, tiles-count s 0 w t)

@@ -11,13 +11,13 @@ use Rattle.model.specs.declared.Extent.{Extent}
 use Rattle.model.specs.declared.Refusal.{Refusal}
 use Rattle.model.specs.declared.Selector.{Selector}
 use Rattle.model.specs.declared.UsageFlags.{UsageFlags}
-use Rattle.model.specs.Base.{eachAt}
+use Rattle.model.specs.Base.{eachAt, All}
 use Rattle.model.specs.Representation.{Ends}
 use Rattle.model.specs.Sets.{Numbers, Slot, Set, Tracker, Head, Opening, headOf, ownExtent, emptySlot, slotAt, outside, withSlots, openSet}
 use Rattle.model.specs.Refusals.{textureChecks, ownedChecks, selectorChecks, stateChecks, singleRefusal, setRefusal, opens}
 use Rattle.model.specs.Calls.{CallResult, unless, turnedAway}
 use Rattle.model.specs.BoolLaws.{neither}
-use Rattle.model.specs.ListLaws.{All, all-weak, all-left, all-right, all-getD, all-set, all-replicate, map-replicate}
+use Rattle.model.specs.ListLaws.{all-weak, all-left, all-right, all-getD, all-set, all-replicate, map-replicate}
 use Rattle.model.specs.CheckLaws.{Passed, passed, inside, own-extent, same-flags}
 use Rattle.agreement.specs.Shared.{gridSlots}
 use Rattle.agreement.specs.Fits.{ExtentFits, SlotFits, SetFits}

@@ -13,13 +13,13 @@ use Rattle.model.specs.declared.InvalidUse.{InvalidUse}
 use Rattle.model.specs.declared.Range.{Range}
 use Rattle.model.specs.declared.Selector.{Selector}
 use Rattle.model.specs.declared.UsageFlags.{UsageFlags}
-use Rattle.model.specs.Base.{if_then_else_, eachAt, Stop, fine, stopped, ruled, orKeep, andThen, passes, onward, walk, walk₂, zip₂}
+use Rattle.model.specs.Base.{if_then_else_, eachAt, Stop, fine, stopped, ruled, orKeep, andThen, passes, onward, walk, walk₂, zip₂, All}
 use Rattle.model.specs.Representation.{select, full, inMips}
 use Rattle.model.specs.StateRules.{unite, uniteKnown}
 use Rattle.model.specs.RangedStates.{range, coalesce, paint, layerStates, Tiles}
 use Rattle.model.specs.Texture.{Held, single, many, Given, givenSingle, givenMany, Piece, invalidUse, piecesOf, onMips, freshMips, paintAll, insert, mergeMip, mergeEvery, spreadPiece, merge}
 use Rattle.model.specs.Subresources.{everywhere}
-use Rattle.model.specs.ListLaws.{All, all-join, all-replicate, map-replicate}
+use Rattle.model.specs.ListLaws.{all-join, all-replicate, map-replicate}
 use Rattle.model.specs.BoolLaws.{by-test, by-test₂}
 use Rattle.model.specs.RangeLaws.{tiles-length}
 use Rattle.agreement.specs.Grid.{Named, SubresourceConflict, uniteState, uniteStates, tab, namedRow, namedOr, gridInsert, gridMerge}

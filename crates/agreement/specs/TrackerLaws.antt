@@ -13,13 +13,13 @@ use Rattle.model.specs.declared.Extent.{Extent}
 use Rattle.model.specs.declared.InvalidUse.{InvalidUse}
 use Rattle.model.specs.declared.Range.{Range}
 use Rattle.model.specs.declared.UsageFlags.{UsageFlags}
-use Rattle.model.specs.Base.{if_then_else_, zip₂, zip₃, Stop, fine, passes, walk}
+use Rattle.model.specs.Base.{if_then_else_, zip₂, zip₃, Stop, fine, passes, walk, All}
 use Rattle.model.specs.Representation.{inMips, Ends}
 use Rattle.model.specs.StateRules.{endAfter}
 use Rattle.model.specs.RangedStates.{range, coalesce, paint, layerStates, Tiles}
 use Rattle.model.specs.Texture.{Held, single, many, Given, givenSingle, givenMany, Piece, freshMips, spreadEnd, learnAll, updateAll, update, insert}
 use Rattle.model.specs.Subresources.{everywhere}
-use Rattle.model.specs.ListLaws.{All, all-replicate, all-map}
+use Rattle.model.specs.ListLaws.{all-replicate, all-map}
 use Rattle.model.specs.BoolLaws.{by-test}
 use Rattle.model.specs.RangeLaws.{tiles-length}
 use Rattle.agreement.specs.Grid.{Named, uniteState, namedOr, gridInsert}

@@ -11,13 +11,13 @@ use Rattle.model.specs.declared.Extent.{Extent}
 use Rattle.model.specs.declared.InvalidUse.{InvalidUse}
 use Rattle.model.specs.declared.Range.{Range}
 use Rattle.model.specs.declared.UsageFlags.{UsageFlags}
-use Rattle.model.specs.Base.{if_then_else_, zip₂, Stop, fine, walk₂, zip₃, passes, walk}
+use Rattle.model.specs.Base.{if_then_else_, zip₂, Stop, fine, walk₂, zip₃, passes, walk, All}
 use Rattle.model.specs.Representation.{inMips}
 use Rattle.model.specs.StateRules.{endAfter}
 use Rattle.model.specs.RangedStates.{coalesce, isolate, paint, layerStates, Tiles}
 use Rattle.model.specs.Texture.{Piece, learn, single, many, givenMany, onMips, learnAll, metBy, updateAll, learnHeld, Held}
 use Rattle.model.specs.BoolLaws.{by-test, by-test₂}
-use Rattle.model.specs.ListLaws.{zip-append, All, all-map}
+use Rattle.model.specs.ListLaws.{zip-append, all-map}
 use Rattle.model.specs.RangeLaws.{isolate-cuts, tiles-length}
 use Rattle.agreement.specs.Grid.{SubresourceConflict, Named}
 use Rattle.agreement.specs.Shared.{firstOf}

@@ -16,8 +16,8 @@ use Rattle.model.specs.Sets.{Set, Head, headOf, Opening, slotAt}
 use Rattle.model.specs.Refusals.{trackerIndex, singleRefusal}
 use Rattle.model.specs.Calls.{Answer, done, refused, inConflict, Call, callMergeSingle, Sets, step, newly, mergeSingle, callMergeUsageScope, callSetSingle, callSetFromUsageScope, callSetFromTracker, callSetAndRemoveSparse}
 use Rattle.model.specs.Texture.{ranged, Held}
-use Rattle.model.specs.ListLaws.{All, elem-map, all-weak, all-join, AllO, all-elem, all-getD}
-use Rattle.model.specs.Base.{Stop, orKeep, every}
+use Rattle.model.specs.ListLaws.{elem-map, all-weak, all-join, all-elem, all-getD}
+use Rattle.model.specs.Base.{Stop, orKeep, every, All, AllO}
 use Rattle.model.specs.BoolLaws.{by-test}
 use Rattle.model.specs.Flags.{meets, oneBit}
 use Rattle.agreement.specs.Grid.{grid, Grid, SubresourceConflict, namedOr, namedUse, singleUnion, manyUnion, gridBarrier}

@@ -6,8 +6,8 @@ use Prim.Native.Nat.{ℕ, zero, suc, _+_, _-_, _≤_}
 use native.Mathlib.Nat.{add-suc, suc-add, add-zero}
 use native.Mathlib.Omega.{arith}
 use lib.ListN.{length, replicate, length-replicate}
-use Rattle.model.specs.Base.{Stop, fine, onward, walk, walk₂}
-use Rattle.model.specs.ListLaws.{All, all-weak}
+use Rattle.model.specs.Base.{Stop, fine, onward, walk, walk₂, All}
+use Rattle.model.specs.ListLaws.{all-weak}
 use Rattle.agreement.specs.Grid.{tab, band}
 
 pub onward-all : {A C : Type 0} (P : A → Type 0) (x : A) (o : Option C) (was : List A) (w : Stop C (List A))

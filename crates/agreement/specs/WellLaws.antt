@@ -21,7 +21,7 @@ use Rattle.model.specs.Calls.{Call, callMergeSingle, callMergeUsageScope, callS
 use Rattle.model.specs.RangedStates.{layerStates, Tiles}
 use Rattle.model.specs.Texture.{Held, single, many, Given, ranged}
 use Rattle.model.specs.Subresources.{everywhere}
-use Rattle.model.specs.ListLaws.{all-weak, All, all-right, all-join, all-left, all-replicate, first-of, unlike-lists}
+use Rattle.model.specs.ListLaws.{all-weak, all-right, all-join, all-left, all-replicate, first-of, unlike-lists}
 use Rattle.model.specs.BoolLaws.{neither}
 use Rattle.model.specs.CheckLaws.{passed}
 use Rattle.agreement.specs.Grid.{Grid, Named, grid, namedOr}
@@ -38,6 +38,7 @@ use Rattle.agreement.specs.Agree.{FitS, GivesC, Pairs, scope-facts, trac
 use Rattle.agreement.specs.Fits.{StateFits, MipFits, HeldFits, unknowns, EndsFit, SetFits, SetsFit}
 use Rattle.agreement.specs.WellStates.{FlagFacts, sure-flags, StatesFit, NamedFit, merge-fits, insert-fits, update-end-fits, update-start-fits, grid-alike, use-fits, pass-fits, insert-back}
 use Rattle.agreement.specs.GridLaws.{GridAll, grid-everywhere}
+use Rattle.model.specs.Base.{All}
 
 pub known-flags : (p : UsageFlags) → FlagFacts p → UnknownNonzero p
 known-flags p s = bit-nonzero 16 (p .unknown) (s .unknown-bit)

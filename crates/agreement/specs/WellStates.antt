@@ -13,11 +13,11 @@ use borrow.Author.Tests.{eqb-true, eqb-false, ltb-true, not-true, not-false}
 use Rattle.model.specs.declared.Extent.{Extent}
 use Rattle.model.specs.declared.Selector.{Selector}
 use Rattle.model.specs.declared.UsageFlags.{UsageFlags}
-use Rattle.model.specs.Base.{if_then_else_, Stop, ruled, orKeep, walk₂, zip₂, zip₃}
+use Rattle.model.specs.Base.{if_then_else_, Stop, ruled, orKeep, walk₂, zip₂, zip₃, All, AllO}
 use Rattle.model.specs.Flags.{incompatible, meets, oneBit, isBit, apart, flagsFit}
 use Rattle.model.specs.Representation.{inMips}
 use Rattle.model.specs.StateRules.{less}
-use Rattle.model.specs.ListLaws.{All, all-join, all-replicate, AllO, unlike-lists}
+use Rattle.model.specs.ListLaws.{all-join, all-replicate, unlike-lists}
 use Rattle.model.specs.BoolLaws.{by-test}
 use Rattle.agreement.specs.Grid.{Grid, Named, SubresourceConflict, without, singleUnion, manyUnion, endState, startState, uniteState, uniteStates, namedEnd, namedStart, namedOr, gridMerge, gridInsert, tab, namedRow, namedUse, namedAll}
 use Rattle.usage.specs.BitLaws.{and-or, or-zero, split-bits, bit-nonzero, bits-apart}

@@ -9,10 +9,9 @@ use Rattle.model.specs.Base.{if_then_else_, eachAt₂}
 use Rattle.model.specs.Calls.{logGiven, logSlot}
 use Rattle.model.specs.Log.{pending, pendingOf}
 use Rattle.model.specs.Texture.{ranged}
-use Rattle.set_storage.specs.Storage.{flagsOf, extentOf, ownedOf, slotWith, trackerOf, maskAt, texturesAt}
+use Rattle.set_storage.specs.Storage.{flagsOf, extentOf, ownedOf, slotWith, trackerOf, maskAt, texturesAt, trackerSlot}
 use Rattle.texture_barrier.specs.Adds.{entriesAt}
 use Rattle.set_ready.specs.Half.{tracker-texture}
-use Rattle.set_ready.specs.Tested.{trackerSlot}
 use Rattle.texture_track.specs.Slot.{slot-pending}
 use Rattle.call_join.specs.Join.{Joins, LogsSet, givenOf, joinedEntries, start-given}
 use Rattle.call_join.specs.Lists.{each-list}

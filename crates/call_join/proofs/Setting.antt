@@ -9,13 +9,12 @@ use Rattle.model.specs.Representation.{Ends}
 use Rattle.model.specs.Sets.{Numbers, Slot, withTracker}
 use Rattle.model.specs.Calls.{setGiven}
 use Rattle.model.specs.Texture.{Held, ranged}
-use Rattle.set_storage.specs.Storage.{flagsOf, endsOf, slotWith, trackerOf, texturesAt}
+use Rattle.set_storage.specs.Storage.{flagsOf, endsOf, slotWith, trackerOf, texturesAt, trackerSlot}
 use Rattle.set_storage.specs.Stays.{onlyOwned, ownedBy}
 use Rattle.set_ready.specs.Named.{within}
 use Rattle.set_ready.specs.Half.{HeadStays, tracker-keeps, numbers-stay, flags-stay}
 use Rattle.set_ready.specs.Walked.{walked-next, over-end}
 use Rattle.set_ready.specs.SetWalk.{slotsBy, TrackerWalked, tracker-start, left-ready, tracker-turn, walked-view}
-use Rattle.set_ready.specs.Tested.{trackerSlot}
 use Rattle.texture_track.specs.Slot.{SlotSet}
 use Rattle.texture_track.specs.GivenSlot.{SetsAt, pairOf, passStart, passEnd, slotAfter}
 use Rattle.call_join.specs.Join.{Joins, SetsAll, start-given, end-given}

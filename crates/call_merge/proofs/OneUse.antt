@@ -19,14 +19,14 @@ use Rattle.model.specs.Refusals.{firstFailing, singleRefusal}
 use Rattle.model.specs.Calls.{Indexed, CallResult, answer, turnedAway, unless, mergeSlot, mergeSingle}
 use Rattle.model.specs.Log.{isRefused, outcomeOf, merging}
 use Rattle.model.specs.Texture.{Held, single, Entry, fromUse, ranged}
-use Rattle.set_storage.specs.Storage.{flagsOf, scopeOf, startHalf, texturesAt}
+use Rattle.set_storage.specs.Storage.{flagsOf, scopeOf, startHalf, texturesAt, scopeSlot}
 use Rattle.set_storage.specs.Stays.{only, keeps-refl, keeps-more}
 use Rattle.set_storage.specs.Lists.{list-at}
 use Rattle.texture_merge.specs.declared.Stopped.{Stopped}
 use Rattle.set_checks.specs.Head.{selectorOf, useRefusal, scope-head, UseTold}
 use Rattle.model.specs.declared.Verdict.the-variants as verdict
 use Rattle.set_checks.specs.Passed.{StatePassed, use-passed, texture-passed, state-passed}
-use Rattle.set_ready.specs.Tested.{scopeSlot, ScopeTested}
+use Rattle.set_ready.specs.Tested.{ScopeTested}
 use Rattle.set_ready.specs.Half.{HalfReady, scope-texture}
 use Rattle.call_merge.specs.Met.{toldOf}
 use Rattle.set_ready.specs.Named.{within}

@@ -15,11 +15,10 @@ use Rattle.model.specs.Sets.{Numbers, Slot}
 use Rattle.model.specs.Calls.{Indexed, answer, mergeGiven}
 use Rattle.model.specs.Log.{outcomeOf}
 use Rattle.model.specs.Texture.{Held, ranged}
-use Rattle.set_storage.specs.Storage.{numbersOf, flagsOf, extentOf, ownedOf, startHalf, heldOf, slotWith, scopeOf, listFrom, texturesAt}
+use Rattle.set_storage.specs.Storage.{numbersOf, flagsOf, extentOf, ownedOf, startHalf, heldOf, slotWith, scopeOf, listFrom, texturesAt, scopeSlot}
 use Rattle.set_storage.specs.Stays.{onlyOwned, ownedBy, keeps-refl, keeps-then, keeps-more, ScopeFrame}
 use Rattle.texture_merge.specs.declared.Stopped.{Stopped}
 use Rattle.texture_merge.specs.declared.Stopped.the-variants.{Nowhere, At}
-use Rattle.set_ready.specs.Tested.{scopeSlot}
 use Rattle.set_ready.specs.Given.{HalfGiven, owned-given}
 use Rattle.set_ready.specs.Half.{HalfReady, HeadStays, scope-keeps, numbers-stay, flags-stay, measured-stays, scope-still}
 use Rattle.call_merge.specs.Met.{indexed, metAt}

@@ -12,7 +12,7 @@ use Rattle.model.specs.Base.{Stop, fine}
 use Rattle.model.specs.Sets.{Numbers, Slot, withSlots}
 use Rattle.model.specs.Calls.{Indexed, mergeSlot}
 use Rattle.model.specs.Texture.{Held, Given, insert, merge, ranged}
-use Rattle.set_storage.specs.Storage.{numbersOf, extentOf, startHalf, heldOf, slotWith, scopeOf, ownedAt, texturesAt}
+use Rattle.set_storage.specs.Storage.{numbersOf, extentOf, startHalf, heldOf, slotWith, scopeOf, ownedAt, texturesAt, scopeSlot}
 use Rattle.set_storage.specs.Frames.{Measured}
 use Rattle.set_storage.specs.Stays.{only, keeps-refl, keeps-then, keeps-more, ScopeFrame}
 use Rattle.set_storage.specs.Slots.{SlotFrame, HalfBecomes, ownWords, scope-slots, scope-half, scope-own, half-low}
@@ -21,7 +21,6 @@ use Rattle.texture_merge.specs.declared.Stopped.the-variants.{Nowhere}
 use Rattle.texture_merge.specs.Uses.{HalfMerged}
 use Rattle.set_ready.specs.Half.{HalfReady, half-held}
 use Rattle.set_ready.specs.Given.{HalfGiven, WhereOwned}
-use Rattle.set_ready.specs.Tested.{scopeSlot}
 use Rattle.set_ready.specs.Owned.{own-numbers, own-textured, now-owned, owned-reads, slot-becomes, slot-other}
 use Rattle.call_merge.specs.Met.{indexed, metAt}
 

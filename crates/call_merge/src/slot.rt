@@ -17,13 +17,12 @@ use texture_merge::using::own;
 ghost use mathlib.Core.Path.{_≡_};
 ghost use Rattle.model.specs.Calls.{mergeSlot, mergeGiven};
 ghost use Rattle.model.specs.Texture.{ranged};
-ghost use Rattle.set_storage.specs.Storage.{flagsOf, startHalf};
+ghost use Rattle.set_storage.specs.Storage.{flagsOf, startHalf, scopeSlot};
 ghost use Rattle.set_storage.specs.Stays.{only, onlyOwned};
 ghost use Rattle.texture_merge.specs.Uses.{useOf};
 ghost use Rattle.set_ready.specs.Checked.{TakenUse};
 ghost use Rattle.set_ready.specs.Half.{HalfReady};
 ghost use Rattle.set_ready.specs.Given.{givenAt, HalfGiven};
-ghost use Rattle.set_ready.specs.Tested.{scopeSlot};
 ghost use Rattle.call_merge.specs.Slot.{OwnedReady, SlotMerged};
 
 // A use of the texture.

@@ -13,12 +13,12 @@ use Rattle.model.specs.Sets.{Slot, emptySlot}
 use Rattle.model.specs.Calls.{noEnds, logSlot, sparseAll}
 use Rattle.model.specs.Log.{pending, pendingOf}
 use Rattle.model.specs.Texture.{Held, Entry, ranged}
-use Rattle.set_storage.specs.Storage.{numbersOf, flagsOf, extentOf, ownedOf, startHalf, heldOf, slotWith, scopeOf, trackerOf, maskAt, texturesAt}
+use Rattle.set_storage.specs.Storage.{numbersOf, flagsOf, extentOf, ownedOf, startHalf, heldOf, slotWith, scopeOf, trackerOf, maskAt, texturesAt, trackerSlot}
 use Rattle.set_storage.specs.Lists.{list-at}
 use Rattle.texture_barrier.specs.Adds.{entriesAt}
 use Rattle.agreement.specs.LogBound.{listed}
 use Rattle.set_checks.specs.Passed.{SparsePassed}
-use Rattle.set_ready.specs.Tested.{trackerSlot, half-fits, ScopeTested, TrackerTested}
+use Rattle.set_ready.specs.Tested.{half-fits, ScopeTested, TrackerTested}
 use Rattle.set_ready.specs.Half.{tracker-texture}
 use Rattle.set_ready.specs.Given.{givenAt}
 use Rattle.texture_track.specs.Slot.{slot-pending}

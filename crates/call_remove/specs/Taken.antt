@@ -16,11 +16,11 @@ use Rattle.model.specs.Texture.{Held, Entry, ranged}
 use Rattle.model.specs.BoolLaws.{by-test}
 use Rattle.set_storage.specs.Stays.{only, onlyOwned, TrackerFrame}
 use Rattle.set_storage.specs.Frames.{Measured}
-use Rattle.set_storage.specs.Storage.{numbersOf, flagsOf, extentOf, ownedOf, startHalf, scopeOf, trackerOf}
+use Rattle.set_storage.specs.Storage.{numbersOf, flagsOf, extentOf, ownedOf, startHalf, scopeOf, trackerOf, trackerSlot}
 use Rattle.set_storage.specs.Storage.{ownedAt, texturesAt, tableIndices, tableLength}
 use Rattle.set_checks.specs.Passed.{TexturePassed, SparsePassed}
 use Rattle.set_ready.specs.Named.{within}
-use Rattle.set_ready.specs.Tested.{trackerSlot, ScopeTested, TrackerTested}
+use Rattle.set_ready.specs.Tested.{ScopeTested, TrackerTested}
 use Rattle.set_ready.specs.Half.{HeadStays, BothReady, tracker-keeps, flags-stay, measured-stays}
 use Rattle.set_ready.specs.Walked.{walked-turn}
 use Rattle.set_ready.specs.SetWalk.{TrackerWalked, tracker-start, left-ready, tracker-turn}

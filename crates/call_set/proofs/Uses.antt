@@ -24,13 +24,13 @@ use Rattle.model.specs.Log.{pending}
 use Rattle.model.specs.Texture.{Held, Given, Entry, fromUse, ranged}
 use Rattle.model.specs.BoolLaws.{and-left}
 use Rattle.set_storage.specs.Lists.{list-at}
-use Rattle.set_storage.specs.Storage.{numbersOf, flagsOf, trackerOf, maskAt, texturesAt}
+use Rattle.set_storage.specs.Storage.{numbersOf, flagsOf, trackerOf, maskAt, texturesAt, trackerSlot}
 use Rattle.set_storage.specs.Stays.{only, both-more}
 use Rattle.texture_merge.specs.Uses.{useOf}
 use Rattle.set_checks.specs.Head.{useRefusal, tracker-head, UseTold}
 use Rattle.model.specs.declared.Verdict.the-variants as verdict
 use Rattle.set_checks.specs.Passed.{use-passed, texture-passed, selector-passed, state-passed}
-use Rattle.set_ready.specs.Tested.{trackerSlot, TrackerTested}
+use Rattle.set_ready.specs.Tested.{TrackerTested}
 use Rattle.set_ready.specs.Half.{BothReady, tracker-texture}
 use Rattle.set_ready.specs.Checked.{TakenUse, full-is}
 use Rattle.model.specs.declared.Answered.{Answered}

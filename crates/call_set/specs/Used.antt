@@ -7,9 +7,8 @@ use Rattle.model.specs.declared.PendingTransition.{PendingTransition}
 use Rattle.model.specs.Sets.{Tracker, withTracker}
 use Rattle.model.specs.Calls.{setSlot}
 use Rattle.model.specs.Texture.{Held, Given, ranged}
-use Rattle.set_storage.specs.Storage.{flagsOf, trackerOf, maskAt}
+use Rattle.set_storage.specs.Storage.{flagsOf, trackerOf, maskAt, trackerSlot}
 use Rattle.texture_barrier.specs.Adds.{entriesAt}
-use Rattle.set_ready.specs.Tested.{trackerSlot}
 use Rattle.texture_track.specs.Slot.{slotEntries}
 
 abbrev pub usedEntries : List ℕ → List ℕ → List ℕ → ℕ → Extent → Given → List PendingTransition

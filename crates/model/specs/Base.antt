@@ -100,3 +100,13 @@ abbrev pub walk₂ : {C A B : Type 0} → (ℕ → A → B → Stop C A) → ℕ
 walk₂ f k [] gs = fine []
 walk₂ f k (x ∷ s) [] = fine (x ∷ s)
 walk₂ f k (x ∷ s) (g ∷ gs) = let r = f k x g in onward (r .value) (r .conflict) s (walk₂ f (suc k) s gs)
+
+-- each element of a list has a property
+abbrev pub All : {A : Type 0} → (A → Type 0) → List A → Type 0
+All P [] = Unit {0}
+All P (x ∷ s) = P x × All P s
+
+-- what is there has it
+abbrev pub AllO : {A : Type 0} → (A → Type 0) → Option A → Type 0
+AllO P none = Unit {0}
+AllO P (some x) = P x

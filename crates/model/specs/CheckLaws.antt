@@ -9,12 +9,11 @@ use lib.Dec.{ltb, eqb}
 use borrow.Author.Tests.{eqb-true, eqb-false, ltb-false, not-false}
 use Rattle.model.specs.declared.Extent.{Extent}
 use Rattle.model.specs.declared.UsageFlags.{UsageFlags}
-use Rattle.model.specs.Base.{if_then_else_}
+use Rattle.model.specs.Base.{if_then_else_, All}
 use Rattle.model.specs.Flags.{sameFlags}
 use Rattle.model.specs.Sets.{Slot, ownExtent, outside}
 use Rattle.model.specs.Refusals.{Check, firstFailing, otherExtent, sameExtent}
 use Rattle.model.specs.BoolLaws.{neither}
-use Rattle.model.specs.ListLaws.{All}
 
 -- none of these checks failed
 abbrev pub Passed : List Check → Type 0

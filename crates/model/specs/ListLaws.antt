@@ -6,18 +6,8 @@ use mathlib.Core.Path.{_≡_, refl, sym, ap}
 use Prim.Native.Nat.{ℕ, zero, suc, _+_, _<_, _≤_}
 use native.Mathlib.Omega.{arith}
 use lib.ListN.{length, replicate, getD, set, getElem?}
-use Rattle.model.specs.Base.{each, eachAt, zip₂, every}
+use Rattle.model.specs.Base.{All, AllO, each, eachAt, zip₂, every}
 use Rattle.model.specs.BoolLaws.{both, and-left, and-right}
-
--- each element of a list has a property
-abbrev pub All : {A : Type 0} → (A → Type 0) → List A → Type 0
-All P [] = Unit {0}
-All P (x ∷ s) = P x × All P s
-
--- what is there has it
-abbrev pub AllO : {A : Type 0} → (A → Type 0) → Option A → Type 0
-AllO P none = Unit {0}
-AllO P (some x) = P x
 
 pub all-weak : {A : Type 0} (P N : A → Type 0) → ((x : A) → P x → N x) → (s : List A) → All P s → All N s
 all-weak P N w [] t = tt

@@ -9,15 +9,16 @@ use lib.ListN.{length, getD}
 use Rattle.model.specs.declared.UsageFlags.{UsageFlags}
 use Rattle.model.specs.declared.Extent.{Extent}
 use Rattle.model.specs.Sets.{Numbers, Slot}
-use Rattle.set_storage.specs.Storage.{numbersOf, flagsOf, ownedOf, startHalf, endHalf, heldOf, endsOf, slotWith, ownedAt}
+use Rattle.set_storage.specs.Storage.{numbersOf, flagsOf, ownedOf, startHalf, endHalf, heldOf, endsOf, slotWith, ownedAt, scopeSlot, trackerSlot}
 use Rattle.set_storage.specs.Stays.{only, keeps-refl, both-refl, ScopeFrame, TrackerFrame}
 use Rattle.set_storage.specs.Frames.{Measured}
 use Rattle.set_storage.specs.Slots.{scope-head, tracker-head}
 use Rattle.set_storage.specs.Texture.{TextureHeld}
 use Rattle.set_checks.specs.Passed.{TexturePassed}
 use Rattle.agreement.specs.Fits.{HeldFits, EndsFit, SlotFits}
-use Rattle.set_ready.specs.Tested.{scopeSlot, trackerSlot, HalfFits, half-fits, ScopeTested, TrackerTested}
+use Rattle.set_ready.specs.Tested.{HalfFits, half-fits, ScopeTested, TrackerTested}
 use Rattle.set_ready.specs.Checked.{word-owned, texture-held}
+use Rattle.set_storage.specs.Storage.{complexAt, exclusiveAt, headLength, layerLimitAt, mipLimitAt, texturesAt, uninitializedAt, unknownAt}
 
 -- texture i in the half h: it passed the checks, and where it is owned, what it holds fits
 pub record HalfReady (h : ℕ) (t r : List ℕ) (i : ℕ) (sh : Extent) : Type 0 where
@@ -36,7 +37,7 @@ pub record BothReady (t s e : List ℕ) (i : ℕ) (sh : Extent) : Type 0 where
 
 -- ---- While other textures change: the head and the table's length stay
 pub record HeadStays (t t₁ : List ℕ) : Type 0 where
-  pub words : (x : ℕ) → x < 8 → getD t₁ x 0 ≡ getD t x 0
+  pub words : (x : ℕ) → x < headLength → getD t₁ x 0 ≡ getD t x 0
   pub long : length t₁ ≡ length t
 
 pub scope-keeps : {named : ℕ → Type 0} {d : Numbers} {t r t₁ r₁ : List ℕ} → ScopeFrame named d t r t₁ r₁ → HeadStays t t₁
@@ -48,10 +49,10 @@ tracker-keeps f = record { words = tracker-head f; long = f .words .long }
 module _ {t t₁ : List ℕ} (q : HeadStays t t₁) where
   -- N, M, W and the flags
   pub numbers-stay : numbersOf t₁ ≡ numbersOf t
-  numbers-stay = rw (q .words 0 (omega arith), q .words 1 (omega arith), q .words 2 (omega arith))
+  numbers-stay = rw (q .words texturesAt (omega arith), q .words mipLimitAt (omega arith), q .words layerLimitAt (omega arith))
 
   pub flags-stay : flagsOf t₁ ≡ flagsOf t
-  flags-stay = rw (q .words 3 (omega arith), q .words 4 (omega arith), q .words 5 (omega arith), q .words 6 (omega arith))
+  flags-stay = rw (q .words exclusiveAt (omega arith), q .words uninitializedAt (omega arith), q .words complexAt (omega arith), q .words unknownAt (omega arith))
 
   -- what is measured, by N, M and W as they were and as they are
   module _ {h : ℕ} {r r₁ : List ℕ} (long : length r₁ ≡ length r) (m : Measured (numbersOf t) h t r) where
@@ -74,11 +75,11 @@ module _ {t t₁ : List ℕ} (q : HeadStays t t₁) where
   module _ {H : Type 0} (held held₁ : ℕ → H) (i : ℕ) (slot : slotWith held₁ t₁ i ≡ slotWith held t i) where
     passed-stays : {sh : Extent} → TexturePassed t i sh → TexturePassed t₁ i sh
     passed-stays x = record {
-      texture = rw (q .words 0 (omega arith)) (x .texture);
+      texture = rw (q .words texturesAt (omega arith)) (x .texture);
       mip = x .mip;
-      top = rw (q .words 1 (omega arith)) (x .top);
+      top = rw (q .words mipLimitAt (omega arith)) (x .top);
       some = x .some;
-      low = rw (q .words 2 (omega arith)) (x .low);
+      low = rw (q .words layerLimitAt (omega arith)) (x .low);
       own = λ o. ap (λ (y : Slot H). y .extent) slot ∙ x .own (sym (ap (λ (y : Slot H). y .owned) slot) ∙ o);
     }
 

@@ -16,6 +16,7 @@ use Rattle.set_storage.specs.Stays.{HalfFrame}
 use Rattle.set_storage.specs.Slots.{SlotFrame, ownWords, scope-own, own-owned, own-mips, own-layers, half-low, slot-owned, set-becomes}
 use Rattle.set_storage.specs.Texture.{TextureReady, numbers-low, flags-low, texture-dims, texture-away}
 use Rattle.set_ready.specs.Half.{HalfReady, BothReady, HeadStays, scope-keeps, numbers-stay, flags-stay, measured-kept}
+use Rattle.set_storage.specs.Storage.{complexAt, exclusiveAt, layerLimitAt, mipLimitAt, uninitializedAt, unknownAt}
 
 -- ---- A texture that has just become owned, in any half
 module _ {h i : ℕ} {t r : List ℕ} {sh : Extent} (s : HalfReady h t r i sh) where
@@ -83,13 +84,13 @@ set-stays {H} {i} {held} {held′} {t} {t′} s h f =
     let q : listFrom (slotWith held′ t′) 0 n ≡ set (listFrom slot 0 n) i s =
     list-ext slot (slotWith held′ t′) 0 n (λ x a b. f .others x (omega arith) (λ w. omega arith))
     ∙ sym (set-out (listFrom slot 0 n) i s (rw (list-long slot 0 n) h)) in
-    rw (f .head 0 (omega arith), f .head 1 (omega arith), f .head 2 (omega arith))
-    (rw (f .head 3 (omega arith), f .head 4 (omega arith), f .head 5 (omega arith), f .head 6 (omega arith), q))
+    rw (f .head texturesAt (omega arith), f .head mipLimitAt (omega arith), f .head layerLimitAt (omega arith))
+    (rw (f .head exclusiveAt (omega arith), f .head uninitializedAt (omega arith), f .head complexAt (omega arith), f .head unknownAt (omega arith), q))
 
 module _ {H : Type 0} (was is : Numbers → ℕ → H) {t t′ : List ℕ} {i : ℕ}
     (f : SlotFrame (getD t texturesAt 0) i (was (numbersOf t)) (is (numbersOf t)) t t′) where
   same-numbers : numbersOf t′ ≡ numbersOf t
-  same-numbers = rw (f .head 0 (omega arith), f .head 1 (omega arith), f .head 2 (omega arith))
+  same-numbers = rw (f .head texturesAt (omega arith), f .head mipLimitAt (omega arith), f .head layerLimitAt (omega arith))
 
   pub slot-becomes : {x : Slot H} → slotWith (is (numbersOf t)) t′ i ≡ x
       → setWith (is (numbersOf t′)) t′ ≡ withSlots (setWith (was (numbersOf t)) t) (set (setWith (was (numbersOf t)) t .slots) i x)

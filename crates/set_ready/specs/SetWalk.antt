@@ -8,12 +8,12 @@ use Rattle.model.specs.declared.Extent.{Extent}
 use Rattle.model.specs.Representation.{Ends}
 use Rattle.model.specs.Sets.{Numbers, Slot, withTracker}
 use Rattle.model.specs.Texture.{Held}
-use Rattle.set_storage.specs.Storage.{numbersOf, flagsOf, startHalf, endsOf, slotWith, setWith, trackerOf, listFrom, maskAt, texturesAt}
+use Rattle.set_storage.specs.Storage.{numbersOf, flagsOf, startHalf, endsOf, slotWith, setWith, trackerOf, listFrom, maskAt, texturesAt, trackerSlot}
 use Rattle.set_storage.specs.Stays.{both-refl, both-then, both-more, TrackerFrame}
 use Rattle.set_storage.specs.Frames.{Measured}
 use Rattle.set_storage.specs.Slots.{tracker-other}
 use Rattle.set_checks.specs.Passed.{TexturePassed}
-use Rattle.set_ready.specs.Tested.{trackerSlot, TrackerTested}
+use Rattle.set_ready.specs.Tested.{TrackerTested}
 use Rattle.set_ready.specs.Half.{HeadStays, BothReady, tracker-keeps, numbers-stay, flags-stay, tracker-still}
 use Rattle.set_ready.specs.Walked.{Walked, walked-start}
 

@@ -11,26 +11,16 @@ use Rattle.model.specs.declared.Extent.{Extent}
 use Rattle.model.specs.declared.Range.{Range}
 use Rattle.model.specs.Flags.{flagsFit}
 use Rattle.model.specs.RangedStates.{Tiles}
-use Rattle.model.specs.Representation.{Ends}
-use Rattle.model.specs.Sets.{Slot}
-use Rattle.model.specs.Texture.{Held, many}
+use Rattle.model.specs.Texture.{many}
 use Rattle.model.specs.WellFormed.{wellFormedScope, wellFormedTracker}
 use Rattle.usage.specs.BitLaws.{and-or, or-zero}
-use Rattle.set_storage.specs.Storage.{numbersOf, flagsOf, extentOf, startHalf, endHalf, mipOf, mipsIn, mipsOf, heldOf, endsOf, slotWith, setWith, scopeOf, trackerOf, listFrom, complexAt, layersAt, mipLimitAt, mipsAt, tableLength, texturesAt}
+use Rattle.set_storage.specs.Storage.{trackerSlot, scopeSlot, numbersOf, flagsOf, extentOf, startHalf, endHalf, mipOf, mipsIn, mipsOf, heldOf, endsOf, slotWith, setWith, scopeOf, trackerOf, listFrom, complexAt, layersAt, mipLimitAt, mipsAt, tableLength, texturesAt}
 use Rattle.set_storage.specs.Lists.{list-at, list-long}
 use Rattle.set_storage.specs.Frames.{Measured, mip-at, mips-long, measured-of}
 use Rattle.set_storage.specs.Slots.{held-many, held-single}
 use Rattle.agreement.specs.Fits.{SingleFits, MipFits, HeldFits, EndsFit, SlotFits, SetFits}
 use Rattle.agreement.specs.Decides.{scope-to, tracker-to}
 use Rattle.model.specs.ListLaws.{all-at}
-
--- texture i of a scope, as the view has it
-abbrev pub scopeSlot : List ℕ → List ℕ → ℕ → Slot Held
-scopeSlot t r = slotWith (heldOf (numbersOf t) startHalf t r) t
-
--- texture i of a tracker
-abbrev pub trackerSlot : List ℕ → List ℕ → List ℕ → ℕ → Slot (Ends Held)
-trackerSlot t s e = slotWith (endsOf (numbersOf t) t s e) t
 
 -- ---- What an owned texture holds in the half h: ranges that tile its layers where its word tells COMPLEX, otherwise a state that fits
 pub record HalfFits (h : ℕ) (t r : List ℕ) (i : ℕ) : Type 0 where

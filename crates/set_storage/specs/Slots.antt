@@ -12,14 +12,15 @@ use Rattle.model.specs.declared.Extent.{Extent}
 use Rattle.model.specs.Sets.{Numbers, Slot, withSlots}
 use Rattle.model.specs.Calls.{owning}
 use Rattle.model.specs.Texture.{Held, single, many}
-use Rattle.set_storage.specs.Storage.{extentOf, startHalf, endHalf, tableIndices, ownedAt, mipsAt, layersAt, stateAt, countAt, mipPart, mipOf, mipsIn, mipsOf, heldOf, endsOf, slotWith, setWith, listFrom, complexAt, tableLength, texturesAt}
+use Rattle.set_storage.specs.Storage.{halfLength, extentOf, startHalf, endHalf, tableIndices, ownedAt, mipsAt, layersAt, stateAt, countAt, mipPart, mipOf, mipsIn, mipsOf, heldOf, endsOf, slotWith, setWith, listFrom, complexAt, tableLength, texturesAt}
 use Rattle.set_storage.specs.Lists.{list-ext, list-set}
 use Rattle.set_storage.specs.Stays.{Stays, only, stays-refl, stays-then, stays-set, stays-more, OffHead, OffScope, OffTracker, off-scope, head-off, owned-off, mips-off, layers-off, start-off, end-off, start-count-off, end-count-off, mip-stays, keeps-more, both-more, HalfFrame, ScopeFrame, BothFrame, TrackerFrame}
 use Rattle.set_storage.specs.Frames.{Measured, MipsBecome, half-of, half-word, half-below, half-above, frame-below, mips-top, mips-same}
+use Rattle.set_storage.specs.Storage.{exclusiveAt, headLength, layerLimitAt, mipLimitAt, uninitializedAt, unknownAt}
 
 -- ---- How a frame reads in the view: nothing but the slot of texture i differs
 pub record SlotFrame {H : Type 0} (n i : ℕ) (held held′ : ℕ → H) (t t′ : List ℕ) : Type 0 where
-  pub head : (x : ℕ) → x < 8 → getD t′ x 0 ≡ getD t x 0
+  pub head : (x : ℕ) → x < headLength → getD t′ x 0 ≡ getD t x 0
   pub others : (j : ℕ) → j < n → (j ≡ i → ⊥) → slotWith held′ t′ j ≡ slotWith held t j
 
 -- THE VIEW after a change of one texture
@@ -28,7 +29,7 @@ set-becomes {H} {i} {held} {held′} {t} {t′} s hi f e =
     let z : 0 + i ≡ i = omega arith in
     let q : listFrom (slotWith held′ t′) 0 (getD t texturesAt 0) ≡ set (listFrom (slotWith held t) 0 (getD t texturesAt 0)) i s =
     list-set (slotWith held t) (slotWith held′ t′) 0 (getD t texturesAt 0) i s hi (ap (λ (x : ℕ). slotWith held′ t′ x) z ∙ e) (λ x a b c. f .others x (omega arith) (λ w. c (omega arith))) in
-    rw (f .head 0 (omega arith), f .head 1 (omega arith), f .head 2 (omega arith), f .head 3 (omega arith), f .head 4 (omega arith), f .head 5 (omega arith), f .head 6 (omega arith), q)
+    rw (f .head texturesAt (omega arith), f .head mipLimitAt (omega arith), f .head layerLimitAt (omega arith), f .head exclusiveAt (omega arith), f .head uninitializedAt (omega arith), f .head complexAt (omega arith), f .head unknownAt (omega arith), q)
 
 -- ---- What is held at an index, where its words and ranges are the same
 pub held-ext : (d : Numbers) (h : ℕ) (t r t′ r′ : List ℕ) (j : ℕ) → getD t′ complexAt 0 ≡ getD t complexAt 0 → getD t′ (mipsAt j) 0 ≡ getD t (mipsAt j) 0 → getD t′ (h + j) 0 ≡ getD t (h + j) 0
@@ -53,19 +54,19 @@ module _ {d : Numbers} {h i : ℕ} {t r t′ r′ : List ℕ} (s : Measured d h 
   half-low x q = half-below f x (omega (arith, s .half .0)) (λ z. omega (arith, s .half .0))
 
   -- any texture in the other half, whose ranges are lent apart
-  pub half-away : (g : ℕ) → ((h + 1088 ≤ g) ⊎ (g + 1088 ≤ h)) → startHalf ≤ g → (r₂ : List ℕ) (j : ℕ) → j < d .textures → heldOf d g t′ r₂ j ≡ heldOf d g t r₂ j
+  pub half-away : (g : ℕ) → ((h + halfLength ≤ g) ⊎ (g + halfLength ≤ h)) → startHalf ≤ g → (r₂ : List ℕ) (j : ℕ) → j < d .textures → heldOf d g t′ r₂ j ≡ heldOf d g t r₂ j
   half-away g (inl o) low r₂ j a =
-      held-ext d g t r₂ t′ r₂ j (half-low 5 (omega arith)) (half-low (mipsAt j) (omega (arith, s .textures))) (half-above f (g + j) (omega (arith, s .textures)))
+      held-ext d g t r₂ t′ r₂ j (half-low complexAt (omega arith)) (half-low (mipsAt j) (omega (arith, s .textures))) (half-above f (g + j) (omega (arith, s .textures)))
       (λ k q. mip-ext d g t r₂ t′ r₂ j k (half-above f (countAt g j k) (omega (arith, s .textures))) refl)
   half-away g (inr o) low r₂ j a =
-      held-ext d g t r₂ t′ r₂ j (half-low 5 (omega arith)) (half-low (mipsAt j) (omega (arith, s .textures))) (half-below f (g + j) (omega (arith, s .textures)) (λ z. omega (arith, s .textures)))
+      held-ext d g t r₂ t′ r₂ j (half-low complexAt (omega arith)) (half-low (mipsAt j) (omega (arith, s .textures))) (half-below f (g + j) (omega (arith, s .textures)) (λ z. omega (arith, s .textures)))
       (λ k q. mip-ext d g t r₂ t′ r₂ j k (half-below f (countAt g j k) (omega (arith, s .textures, s .mips)) (λ z. omega (arith, s .textures, s .mips))) refl)
 
 -- ---- The head reads as before
-pub scope-head : {named : ℕ → Type 0} {d : Numbers} {t r t′ r′ : List ℕ} → ScopeFrame named d t r t′ r′ → (x : ℕ) → x < 8 → getD t′ x 0 ≡ getD t x 0
+pub scope-head : {named : ℕ → Type 0} {d : Numbers} {t r t′ r′ : List ℕ} → ScopeFrame named d t r t′ r′ → (x : ℕ) → x < headLength → getD t′ x 0 ≡ getD t x 0
 scope-head f x q = f .words .same x (λ i _ _. off-scope i x (head-off i x q))
 
-pub tracker-head : {named : ℕ → Type 0} {d : Numbers} {t s e t′ s′ e′ : List ℕ} → TrackerFrame named d t s e t′ s′ e′ → (x : ℕ) → x < 8 → getD t′ x 0 ≡ getD t x 0
+pub tracker-head : {named : ℕ → Type 0} {d : Numbers} {t s e t′ s′ e′ : List ℕ} → TrackerFrame named d t s e t′ s′ e′ → (x : ℕ) → x < headLength → getD t′ x 0 ≡ getD t x 0
 tracker-head f x q = f .words .same x (λ i _ _. head-off i x q)
 
 -- ---- A slot that is not named reads as before
@@ -122,7 +123,7 @@ module _ (d : Numbers) (t : List ℕ) (i : ℕ) (sh : Extent) (n : d .textures �
       ∙ getD-set-other (set t (ownedAt i) 1) (mipsAt i) x (sh .mips) 0 b ∙ getD-set-other t (ownedAt i) x 1 0 a
 
   -- the words of the head, and those past the extents
-  pub own-word : (x : ℕ) → (x < 8) ⊎ (startHalf ≤ x) → getD (ownWords t i sh) x 0 ≡ getD t x 0
+  pub own-word : (x : ℕ) → (x < headLength) ⊎ (startHalf ≤ x) → getD (ownWords t i sh) x 0 ≡ getD t x 0
   own-word x (inl q) = own-same x (λ z. omega arith) (λ z. omega arith) (λ z. omega arith)
   own-word x (inr q) = own-same x (λ z. omega arith) (λ z. omega arith) (λ z. omega arith)
 
@@ -179,7 +180,7 @@ become-single {d} {h} {i} {v} {t} {r} s hi c =
 pub become-many : {d : Numbers} {h i : ℕ} {ss : List (List Range)} {t r t′ r′ : List ℕ} → Measured d h t r → i < d .textures → getD t (h + i) 0 ≡ getD t complexAt 0 → MipsBecome d h i ss t r t′ r′ → HalfBecomes d h i (many ss) t r t′ r′
 become-many {d} {h} {i} {ss} {t} {r} {t′} {r′} s hi c b =
     record {
-      held = held-many d h t′ r′ i ss (frame-below (b .frame) (h + i) (omega (arith, s .textures)) ∙ c ∙ sym (frame-below (b .frame) 5 (omega (arith, s .half .0)))) (b .mips);
+      held = held-many d h t′ r′ i ss (frame-below (b .frame) (h + i) (omega (arith, s .textures)) ∙ c ∙ sym (frame-below (b .frame) complexAt (omega (arith, s .half .0)))) (b .mips);
       frame = half-of (b .frame);
     }
 

@@ -12,6 +12,7 @@ use Rattle.model.specs.Sets.{Numbers}
 use Rattle.model.specs.BoolLaws.{by-lt}
 use Rattle.set_storage.specs.Part.{baseOf, block-le, row-lt, part-alike}
 use Rattle.set_storage.specs.Storage.{ownedOf, startHalf, endHalf, ownedAt, mipsAt, layersAt, stateAt, countAt, rangesAt, tableIndices, mipPart, texturesAt}
+use Rattle.set_storage.specs.Storage.{headLength}
 
 -- `off i x` says that position x is none of index i's. Every number stays that is none of a named index's; a table has words for 64.
 pub record Stays (off : ℕ → ℕ → Type 0) (named : ℕ → Type 0) (l l′ : List ℕ) : Type 0 where
@@ -121,7 +122,7 @@ mip-stays {d} {named} {r} {r′} f j k n h =
 
 -- ---- The words of another index, and of the head
 -- a word of the head is none of an index's
-pub head-off : (i x : ℕ) → x < 8 → OffTracker i x
+pub head-off : (i x : ℕ) → x < headLength → OffTracker i x
 head-off i x q = record {
   head = record { owned = λ z. omega arith; mips = λ z. omega arith; layers = λ z. omega arith };
   both = record { start = record { state = λ z. omega arith; counts = record { off = inl (omega arith) } }; end = record { state = λ z. omega arith; counts = record { off = inl (omega arith) } } };

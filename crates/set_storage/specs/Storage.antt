@@ -39,9 +39,15 @@ unknownAt = 6
 abbrev pub maskAt : ℕ
 maskAt = 7
 
--- how many words a table has, and for how many indices
+-- how many words a table has, its head, and a half of it; and for how many indices
 abbrev pub tableLength : ℕ
 tableLength = 2376
+
+abbrev pub headLength : ℕ
+headLength = 8
+
+abbrev pub halfLength : ℕ
+halfLength = 1088
 
 abbrev pub tableIndices : ℕ
 tableIndices = 64
@@ -120,6 +126,14 @@ endsOf d t s e i = record { start = heldOf d startHalf t s i; end = heldOf d end
 abbrev pub slotWith : {H : Type 0} → (ℕ → H) → List ℕ → ℕ → Slot H
 slotWith held t i = record { owned = ownedOf t i; extent = extentOf t i; held = held i }
 
+-- index i of a scope, and of a tracker
+abbrev pub scopeSlot : List ℕ → List ℕ → ℕ → Slot Held
+scopeSlot t r = slotWith (heldOf (numbersOf t) startHalf t r) t
+
+abbrev pub trackerSlot : List ℕ → List ℕ → List ℕ → ℕ → Slot (Ends Held)
+trackerSlot t s e = slotWith (endsOf (numbersOf t) t s e) t
+
+-- all of them
 abbrev pub setWith : {H : Type 0} → (ℕ → H) → List ℕ → Set H
 setWith held t = record { numbers = numbersOf t; flags = flagsOf t; slots = listFrom (slotWith held t) 0 (getD t texturesAt 0) }
 

@@ -16,6 +16,7 @@ use Rattle.set_storage.specs.Stays.{HalfFrame}
 use Rattle.set_storage.specs.Frames.{Measured}
 use Rattle.set_storage.specs.Slots.{half-low}
 use Rattle.model.specs.BoolLaws.{by-lt}
+use Rattle.set_storage.specs.Storage.{exclusiveAt, layerLimitAt, mipLimitAt, texturesAt, uninitializedAt, unknownAt}
 
 -- texture i, owned or about to be: its words tell the extent sh, and there is room for its ranges
 pub record TextureReady (d : Numbers) (h : ℕ) (t r : List ℕ) (i : ℕ) (sh : Extent) : Type 0 where
@@ -55,10 +56,10 @@ tiles-few d h t r i k w some f =
 -- ---- Where the words below the halves stay, so do N, M and W and the flags
 module _ (t₀ t : List ℕ) (low : (x : ℕ) → x < startHalf → getD t x 0 ≡ getD t₀ x 0) where
   pub numbers-low : numbersOf t ≡ numbersOf t₀
-  numbers-low = rw (low 0 (omega arith), low 1 (omega arith), low 2 (omega arith))
+  numbers-low = rw (low texturesAt (omega arith), low mipLimitAt (omega arith), low layerLimitAt (omega arith))
 
   pub flags-low : flagsOf t ≡ flagsOf t₀
-  flags-low = rw (low 3 (omega arith), low 4 (omega arith), low 5 (omega arith), low 6 (omega arith))
+  flags-low = rw (low exclusiveAt (omega arith), low uninitializedAt (omega arith), low complexAt (omega arith), low unknownAt (omega arith))
 
 -- and what is measured, where the lengths stay too, and a texture
 module _ {h : ℕ} {t₀ r₀ t r : List ℕ} (low : (x : ℕ) → x < startHalf → getD t x 0 ≡ getD t₀ x 0) (long : length r ≡ length r₀) (table : length t ≡ length t₀) where

@@ -10,10 +10,10 @@ use borrow.Author.Tests.{eqb-true, eqb-false, not-true, not-false}
 use Rattle.model.specs.BoolLaws.{and-both as both, neither}
 use Rattle.model.specs.Base.{every}
 use Rattle.model.specs.WellFormed.{singleFits, rangesFit, heldFits, slotFits, endsFit}
-use Rattle.set_storage.specs.Storage.{numbersOf, flagsOf, extentOf, startHalf, endHalf, mipsOf, heldOf, endsOf, listFrom, complexAt, layerLimitAt, layersAt, mipLimitAt, mipsAt, ownedAt, texturesAt, unknownAt}
+use Rattle.set_storage.specs.Storage.{numbersOf, flagsOf, extentOf, startHalf, endHalf, mipsOf, heldOf, endsOf, listFrom, complexAt, layerLimitAt, layersAt, mipLimitAt, mipsAt, ownedAt, texturesAt, unknownAt, scopeSlot, trackerSlot}
 use Rattle.set_storage.specs.Frames.{Measured}
-use Rattle.set_wellformed.specs.Parts.{TextureStored, extentFits, every-none, every-next, every-at, every-also, scopeSlot, scopeSlotFits, scopeSlotsFit}
-use Rattle.set_wellformed.specs.Unknowns.{itself, EndsReady, HalvesFit, endsAgree, trackerSlot, trackerSlotFits, trackerSlotsFit}
+use Rattle.set_wellformed.specs.Parts.{TextureStored, extentFits, every-none, every-next, every-at, every-also, scopeSlotFits, scopeSlotsFit}
+use Rattle.set_wellformed.specs.Unknowns.{itself, EndsReady, HalvesFit, endsAgree, trackerSlotFits, trackerSlotsFit}
 use Rattle.set_wellformed.specs.Words.{WordsAre, scopeWordPlain, scopeWordFits, trackerWordPlain, trackerWordFits}
 use Rattle.set_wellformed.proofs.Numbers.{Inside, extent-in}
 use Rattle.set_wellformed.proofs.Holding.{fits-many, fits-single}

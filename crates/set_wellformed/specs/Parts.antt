@@ -11,10 +11,9 @@ use borrow.Author.Tests.{not-true, not-false}
 use Rattle.model.specs.BoolLaws.{and-both as both}
 use Rattle.model.specs.Base.{every}
 use Rattle.model.specs.Flags.{flagsFit}
-use Rattle.model.specs.Sets.{Numbers, Slot, outside, numbersFit, capacity}
-use Rattle.model.specs.Texture.{Held}
+use Rattle.model.specs.Sets.{Numbers, outside, numbersFit, capacity}
 use Rattle.model.specs.WellFormed.{heldFits, slotFits}
-use Rattle.set_storage.specs.Storage.{numbersOf, flagsOf, startHalf, heldOf, slotWith, listFrom}
+use Rattle.set_storage.specs.Storage.{scopeSlot, numbersOf, flagsOf, listFrom}
 use Rattle.set_storage.specs.Frames.{Measured}
 
 pub record TextureStored (d : Numbers) (h : ℕ) (t r : List ℕ) (i : ℕ) : Type 0 where
@@ -34,9 +33,6 @@ unfoldable pub headFits : List ℕ → ℕ → Bool
 headFits t room = numbersFit (numbersOf t) && flagsFit (flagsOf t) && leb (capacity (numbersOf t)) (room / 3)
 
 -- a scope's index i, and its first n indices
-abbrev pub scopeSlot : List ℕ → List ℕ → ℕ → Slot Held
-scopeSlot t r = slotWith (heldOf (numbersOf t) startHalf t r) t
-
 abbrev pub scopeSlotFits : List ℕ → List ℕ → ℕ → Bool
 scopeSlotFits t r i = slotFits heldFits (numbersOf t) (flagsOf t) (scopeSlot t r i)
 

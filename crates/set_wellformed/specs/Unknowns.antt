@@ -8,14 +8,11 @@ use lib.ListN.{length, getD}
 use Rattle.model.specs.declared.Range.{Range}
 use Rattle.model.specs.declared.UsageFlags.{UsageFlags}
 use Rattle.model.specs.Base.{if_then_else_, every}
-use Rattle.model.specs.Representation.{Ends}
 use Rattle.model.specs.RangedStates.{layerStates, Tiles}
-use Rattle.model.specs.Sets.{Slot}
-use Rattle.model.specs.Texture.{Held}
 use Rattle.model.specs.Subresources.{subresources}
 use Rattle.model.specs.WellFormed.{rangesFit, heldFits, sameTest, all₂, sameUnknown, endsFit, slotFits}
 use Rattle.range_states.specs.View.{decode}
-use Rattle.set_storage.specs.Storage.{numbersOf, flagsOf, extentOf, startHalf, endHalf, mipOf, mipsOf, heldOf, endsOf, slotWith, listFrom, layersAt, mipLimitAt, mipsAt}
+use Rattle.set_storage.specs.Storage.{trackerSlot, numbersOf, flagsOf, extentOf, startHalf, endHalf, mipOf, mipsOf, heldOf, listFrom, layersAt, mipLimitAt, mipsAt}
 use Rattle.set_storage.specs.Frames.{MipReady}
 use Rattle.set_wellformed.specs.Parts.{TextureStored}
 
@@ -84,9 +81,6 @@ endsAgree u t s e i =
     sameUnknown u (subresources (extentOf t i) (heldOf (numbersOf t) startHalf t s i)) (subresources (extentOf t i) (heldOf (numbersOf t) endHalf t e i))
 
 -- a tracker's index i, and its first n indices
-abbrev pub trackerSlot : List ℕ → List ℕ → List ℕ → ℕ → Slot (Ends Held)
-trackerSlot t s e = slotWith (endsOf (numbersOf t) t s e) t
-
 abbrev pub trackerSlotFits : List ℕ → List ℕ → List ℕ → ℕ → Bool
 trackerSlotFits t s e i = slotFits endsFit (numbersOf t) (flagsOf t) (trackerSlot t s e i)
 

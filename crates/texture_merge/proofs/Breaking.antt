@@ -32,7 +32,7 @@ module _ {h i : ℕ} {sh : Extent} {p : UsageFlags} {t r : List ℕ} (u : Textur
   told : getD t₁ (h + i) 0 ≡ getD t₁ complexAt 0
   told =
       getD-set-same t (h + i) (p .complex) 0 (omega (arith, u .measured .table, u .measured .half .1, u .measured .textures, u .index))
-      ∙ ap (λ (x : UsageFlags). x .complex) f ∙ sym (half-low (u .measured) (u .index) word 5 (omega arith))
+      ∙ ap (λ (x : UsageFlags). x .complex) f ∙ sym (half-low (u .measured) (u .index) word complexAt (omega arith))
 
   pub break-every : EveryReady (numbersOf t₁) h t₁ r i (sh .mips)
   break-every = texture-every (texture-dims first)
@@ -55,7 +55,7 @@ module _ {h i : ℕ} {sh : Extent} {p : UsageFlags} {t r : List ℕ} (u : Textur
     break-then {t₃} {r₃} g c =
         let c₂ : MipsBecome (numbersOf t) h i (g (mipsOf (numbersOf t) h t₂ r₂ i)) t₂ r₂ t₃ r₃ =
         subst (λ (d : Numbers). MipsBecome d h i (g (mipsOf d h t₂ r₂ i)) t₂ r₂ t₃ r₃) (second .measured .dims) c in
-        let k : getD t₂ (h + i) 0 ≡ getD t₂ complexAt 0 = frame-below (b₂ .frame) (h + i) (omega (arith, u .measured .textures)) ∙ told ∙ sym (frame-below (b₂ .frame) 5 (omega (arith, u .measured .half .0))) in
+        let k : getD t₂ (h + i) 0 ≡ getD t₂ complexAt 0 = frame-below (b₂ .frame) (h + i) (omega (arith, u .measured .textures)) ∙ told ∙ sym (frame-below (b₂ .frame) complexAt (omega (arith, u .measured .half .0))) in
         let x = become-many (second .measured) (u .index) k c₂ in
         record {
           held = x .held ∙ ap (λ (ss : List (List Range)). many (g ss)) (b₂ .mips);

@@ -117,7 +117,7 @@ module _ {h i from : ℕ} {sh : Extent} {p : UsageFlags} {t r t₂ r₂ : List �
               record {
                 conflict = refl;
                 into = record {
-                  held = held-single (numbersOf t) h t₄ r₄ i (λ m. ne (e ∙ sym (word (h + i) (omega (arith, x .texture .index))) ∙ m ∙ word 5 (omega (arith, x .texture .measured .half .0)) ∙ sym complex-is)) ∙ ap single (word (h + i) (omega (arith, x .texture .index)) ∙ sym e);
+                  held = held-single (numbersOf t) h t₄ r₄ i (λ m. ne (e ∙ sym (word (h + i) (omega (arith, x .texture .index))) ∙ m ∙ word complexAt (omega (arith, x .texture .measured .half .0)) ∙ sym complex-is)) ∙ ap single (word (h + i) (omega (arith, x .texture .index)) ∙ sym e);
                   frame = half-of both;
                 };
               }
@@ -126,6 +126,6 @@ module _ {h i from : ℕ} {sh : Extent} {p : UsageFlags} {t r t₂ r₂ : List �
           unfolding merge
           spread-done q =
               let n : s .conflict ≡ none = sym (v .conflict) ∙ ap stoppedOf q in
-              let m = become-marked (measured-then (x .texture .measured) both) (x .texture .index) (complex-is ∙ sym (word 5 (omega (arith, x .texture .measured .half .0)))) in
+              let m = become-marked (measured-then (x .texture .measured) both) (x .texture .index) (complex-is ∙ sym (word complexAt (omega (arith, x .texture .measured .half .0)))) in
               rw (given-pieces (x .given) c, held-single-is, n)
               record { conflict = refl; into = record { held = m .held ∙ ap many (v .into .mips); frame = keeps-then (half-of both) (m .frame) } }

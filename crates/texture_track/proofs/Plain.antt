@@ -9,7 +9,7 @@ use borrow.Author.Tests.{ne-eqb, eqb-false, not-true}
 use Rattle.model.specs.declared.UsageFlags.{UsageFlags}
 use Rattle.model.specs.Texture.{barrier}
 use Rattle.model.specs.BoolLaws.{and-both as both}
-use Rattle.set_storage.specs.Storage.{numbersOf, endHalf, complexAt, ownedAt, stateAt}
+use Rattle.set_storage.specs.Storage.{numbersOf, endHalf, complexAt, ownedAt, stateAt, trackerSlot}
 use Rattle.set_storage.specs.Stays.{onlyOwned}
 use Rattle.set_storage.specs.Slots.{held-single}
 use Rattle.texture_update.specs.FromSet.{from-use}
@@ -17,7 +17,6 @@ use Rattle.texture_update.proofs.Cases.{all-single}
 use Rattle.texture_update.proofs.SetCases.{state-given}
 use Rattle.set_ready.specs.Half.{half-held}
 use Rattle.set_ready.specs.Given.{givenAt, given-update, where-owned, only-owned}
-use Rattle.set_ready.specs.Tested.{trackerSlot}
 use Rattle.texture_track.specs.Slot.{SlotSet, tracker-old, tracker-named}
 use Rattle.texture_track.specs.GivenSlot.{SetsAt, bothSingle, slotAfter, givenEntries, singleEntry}
 

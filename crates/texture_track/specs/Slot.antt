@@ -14,14 +14,13 @@ use Rattle.model.specs.Sets.{Numbers, Slot, withTracker}
 use Rattle.model.specs.Calls.{setSlot, logSlot}
 use Rattle.model.specs.Log.{pending}
 use Rattle.model.specs.Texture.{Held, Given, Entry, insert, update, barrier, ranged}
-use Rattle.set_storage.specs.Storage.{numbersOf, startHalf, endHalf, endsOf, slotWith, trackerOf, maskAt, ownedAt}
+use Rattle.set_storage.specs.Storage.{numbersOf, startHalf, endHalf, endsOf, slotWith, trackerOf, maskAt, ownedAt, trackerSlot}
 use Rattle.set_storage.specs.Frames.{Measured}
 use Rattle.set_storage.specs.Stays.{only, both-refl, both-then, both-more, TrackerFrame}
 use Rattle.set_storage.specs.Slots.{HalfBecomes, ownWords, tracker-own, tracker-both, tracker-slots}
 use Rattle.texture_update.specs.Both.{BothBecome, low-of, start-then-end}
 use Rattle.texture_barrier.specs.Adds.{entriesAt}
 use Rattle.set_ready.specs.Half.{BothReady, half-held}
-use Rattle.set_ready.specs.Tested.{trackerSlot}
 use Rattle.set_ready.specs.Owned.{own-numbers, own-textured, now-owned, end-numbers, owned-reads, slot-becomes}
 
 -- THE CONTRACT of its change: texture i becomes x, and all that is lent stays but what is of a named index: i, or none

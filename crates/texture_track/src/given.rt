@@ -23,10 +23,9 @@ ghost use Rattle.texture_barrier.specs.Adds.{RoomFor, Adds, entriesAt};
 ghost use Rattle.texture_track.specs.Slot.{SlotSet};
 ghost use Rattle.set_storage.specs.Stays.{only, onlyOwned};
 ghost use Rattle.set_ready.specs.Given.{givenAt, HalfGiven};
-ghost use Rattle.set_ready.specs.Tested.{trackerSlot};
 ghost use Rattle.texture_track.specs.GivenSlot.{BothGiven, SetsAt, LogsAt, slotAfter};
 ghost use Rattle.texture_track.specs.GivenSlot.{bothSingle, endEntries, givenEntries, singleEntry};
-ghost use Rattle.set_storage.specs.Storage.{endHalf};
+ghost use Rattle.set_storage.specs.Storage.{endHalf, trackerSlot};
 ghost use Rattle.set_ready.specs.Half.{HalfReady, BothReady};
 
 // What the texture becomes, by the start and the end that the set holds.

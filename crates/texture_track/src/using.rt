@@ -20,7 +20,7 @@ ghost use Rattle.texture_barrier.specs.Steps.{logTop};
 ghost use Rattle.texture_barrier.specs.Adds.{RoomFor, Adds, entriesAt};
 ghost use Rattle.texture_track.specs.Slot.{slotEntries, SlotSet};
 ghost use Rattle.set_ready.specs.Half.{BothReady};
-ghost use Rattle.set_ready.specs.Tested.{trackerSlot};
+ghost use Rattle.set_storage.specs.Storage.{trackerSlot};
 ghost use Rattle.set_ready.specs.Checked.{TakenUse};
 
 // What the texture becomes.

@@ -63,7 +63,7 @@ module _ {t s e : List ℕ} {i : ℕ} {sh : Extent} {p : UsageFlags} {new : ℕ}
       let m : Measured (numbersOf t) endHalf t₁ e = measured-low low refl (a .frame .words .long) (r .end .ready .measured) in
       subst (λ (x : Ends Held). BothBecome (numbersOf t) i x t s e (set t₁ (stateAt endHalf i) new) s′ e)
       (held-is (givenSingle new) _ (start-many d) (end-many c) (state-learnt p sh new (mipsOf (numbersOf t) startHalf t s i) (mipsOf (numbersOf t) endHalf t e i)))
-      (start-then-end (r .start .ready .measured) (r .end .ready .measured) (r .start .ready .index) a (become-single m (r .end .ready .index) (λ z. plain (z ∙ low 5 (omega arith)))))
+      (start-then-end (r .start .ready .measured) (r .end .ready .measured) (r .start .ready .index) a (become-single m (r .end .ready .index) (λ z. plain (z ∙ low complexAt (omega arith)))))
 
   -- ---- a selector with a state
   module _ {q : Selector} (x : Selecting sh q p new) where

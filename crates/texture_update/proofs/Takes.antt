@@ -24,6 +24,7 @@ use Rattle.set_storage.specs.Texture.{measured-low, numbers-low, flags-low}
 use Rattle.texture_update.specs.Both.{BothBecome, low-of}
 use Rattle.texture_update.specs.Pieces.{updated, updates, updates-append, EndsTiled, updated-tiled, PairReady}
 use Rattle.model.specs.RangeLaws.{tiles-le}
+use Rattle.set_storage.specs.Storage.{layerLimitAt, texturesAt}
 
 -- ---- The storage on the way: `left` is what is still to be done
 pub record Taking (i : ℕ) (p : UsageFlags) (goal : Ends Held) (t₀ s₀ e₀ : List ℕ) (left : Ends Held → Ends Held) (t s e : List ℕ) : Type 0 where
@@ -49,9 +50,9 @@ module _ {t s e : List ℕ} {i : ℕ} {p : UsageFlags} {t′ s′ e′ : List �
   ready-then k = record {
     starts = subst (λ (d : Numbers). Measured d startHalf t′ s′) (sym same-dims) (measured-low low (f .starts .long) (f .words .long) (x .starts));
     ends = subst (λ (d : Numbers). Measured d endHalf t′ e′) (sym same-dims) (measured-low low (f .ends .long) (f .words .long) (x .ends));
-    texture = rw (low 0 (omega arith)) (x .texture);
+    texture = rw (low texturesAt (omega arith)) (x .texture);
     some = rw (same .layers) (x .some);
-    low = rw (same .layers, low 2 (omega arith)) (x .low);
+    low = rw (same .layers, low layerLimitAt (omega arith)) (x .low);
     flags = x .flags ∙ sym (flags-low t t′ low);
     tiled = subst (λ (d : Numbers). EndsTiled (getD t′ (layersAt i) 0) (endsOf d t′ s′ e′ i)) (sym same-dims) (subst (λ (w : ℕ). EndsTiled w (endsOf (numbersOf t) t′ s′ e′ i)) (sym (same .layers)) k);
   }

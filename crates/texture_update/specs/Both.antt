@@ -11,7 +11,7 @@ use Rattle.model.specs.Representation.{Ends}
 use Rattle.model.specs.RangedStates.{Tiles}
 use Rattle.model.specs.Texture.{Held, many}
 use Rattle.set_storage.specs.Lists.{list-ext}
-use Rattle.set_storage.specs.Storage.{numbersOf, startHalf, endHalf, countAt, mipOf, mipsIn, mipsOf, heldOf, endsOf, complexAt, layersAt, mipsAt, stateAt}
+use Rattle.set_storage.specs.Storage.{halfLength, numbersOf, startHalf, endHalf, countAt, mipOf, mipsIn, mipsOf, heldOf, endsOf, complexAt, layersAt, mipsAt, stateAt}
 use Rattle.set_storage.specs.Stays.{HalfFrame, BothFrame, stays-refl, stays-at, stays-more, both-then}
 use Rattle.set_storage.specs.Frames.{Measured, MipsBecome, frame-below, frame-above, half-of, half-below, half-above, mips-top, mips-same}
 use Rattle.set_storage.specs.Slots.{HalfBecomes, mip-ext, half-low, half-away, held-many}
@@ -43,11 +43,11 @@ module _ {h : ℕ} {t₀ r₀ t r : List ℕ} (low : (x : ℕ) → x < startHalf
 
 -- ---- A change of one half leaves the mips of the other
 module _ {d : Numbers} {h i : ℕ} {t r t′ r′ : List ℕ} (s : Measured d h t r) (hi : i < d .textures) (f : HalfFrame d h i t r t′ r′) where
-  pub away-mip : (g : ℕ) → ((h + 1088 ≤ g) ⊎ (g + 1088 ≤ h)) → (r₂ : List ℕ) (k : ℕ) → k < d .mips → mipOf d g t′ r₂ i k ≡ mipOf d g t r₂ i k
+  pub away-mip : (g : ℕ) → ((h + halfLength ≤ g) ⊎ (g + halfLength ≤ h)) → (r₂ : List ℕ) (k : ℕ) → k < d .mips → mipOf d g t′ r₂ i k ≡ mipOf d g t r₂ i k
   away-mip g (inl o) r₂ k q = mip-ext d g t r₂ t′ r₂ i k (half-above f (countAt g i k) (omega (arith, s .textures))) refl
   away-mip g (inr o) r₂ k q = mip-ext d g t r₂ t′ r₂ i k (half-below f (countAt g i k) (omega (arith, s .textures, s .mips)) (λ z. omega (arith, s .textures, s .mips))) refl
 
-  pub away-mips : (g : ℕ) → ((h + 1088 ≤ g) ⊎ (g + 1088 ≤ h)) → (r₂ : List ℕ) → mipsOf d g t′ r₂ i ≡ mipsOf d g t r₂ i
+  pub away-mips : (g : ℕ) → ((h + halfLength ≤ g) ⊎ (g + halfLength ≤ h)) → (r₂ : List ℕ) → mipsOf d g t′ r₂ i ≡ mipsOf d g t r₂ i
   away-mips g o r₂ =
       let n : mipsIn d t′ i ≡ mipsIn d t i = mips-same d t t′ i (half-low s hi f (mipsAt i) (omega (arith, s .textures))) in
       rw n (list-ext (mipOf d g t r₂ i) (mipOf d g t′ r₂ i) 0 (mipsIn d t i) (λ x _ q. away-mip g o r₂ x (omega (arith, mips-top d t i))))
@@ -98,7 +98,7 @@ module _ {d : Numbers} {i : ℕ} {t s e : List ℕ} (ms : Measured d startHalf t
   pub mips-become : {ss es : List (List Range)} {t′ s′ e′ : List ℕ} → getD t (stateAt startHalf i) 0 ≡ getD t complexAt 0 → getD t (stateAt endHalf i) 0 ≡ getD t complexAt 0
       → BothMips d i ss es t s e t′ s′ e′ → BothBecome d i (record { start = many ss; end = many es }) t s e t′ s′ e′
   mips-become {ss} {es} {t′} {s′} {e′} a z b =
-      let k : getD t′ complexAt 0 ≡ getD t complexAt 0 = low-of (b .frame) 5 (omega arith) in
+      let k : getD t′ complexAt 0 ≡ getD t complexAt 0 = low-of (b .frame) complexAt (omega arith) in
       record {
         ends = rw (held-many d startHalf t′ s′ i ss (b .start-word ∙ a ∙ sym k) (b .starts), held-many d endHalf t′ e′ i es (b .end-word ∙ z ∙ sym k) (b .ends));
         frame = b .frame;

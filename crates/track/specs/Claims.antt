@@ -19,7 +19,7 @@ use Rattle.set_storage.specs.Lent.{LentScope, scopeIn}
 use Rattle.track.specs.Trace.{Lent, viewOf, Ready, ScopeOpening, TrackerOpening, scopeAsked, trackerAsked, openedSets, Step, Trace, callsOf, setsAfter, seenOutcome, ModelAlong}
 use Rattle.track.specs.TraceLaws.{trace-runs, model-runs}
 use Rattle.track.specs.UsageLaws.{trace-judged}
-use Rattle.model.specs.ListLaws.{All}
+use Rattle.model.specs.Base.{All}
 
 -- ---- The ranged model's run of the same calls: each step is its call, and at the end the numbers hold its sets
 -- "the port gives what the Rust gives: every strip range by range, start and end states, clashes, and pending transitions in their order", the Rust on lists

@@ -24,7 +24,7 @@ use Rattle.model.specs.Refusals.{firstFailing, openingRefusal, opens}
 use Rattle.model.specs.Calls.{Answer, done, refused, inConflict, CallResult, Call, callSetSingle, setSingle}
 use Rattle.model.specs.Texture.{Held, Entry, ranged}
 use Rattle.model.specs.Log.{Log, Logged, pending, logging, unlessLogged, refusalOf, orNext, setsCheck, headCheck, freeCheck}
-use Rattle.set_storage.specs.Storage.{numbersOf, trackerOf}
+use Rattle.set_storage.specs.Storage.{numbersOf, trackerOf, texturesAt, mipLimitAt, layerLimitAt}
 use Rattle.set_storage.specs.Slots.{tracker-head}
 use Rattle.texture_barrier.specs.Entries.{entriesOf, entries-long}
 use Rattle.agreement.specs.WellFormedSets.{Word}
@@ -154,7 +154,7 @@ module _ {t₀ s₀ e₀ : List ℕ} {x : Outcome} {t₁ : List ℕ} (o : Opened
     ready₂ = ready-after (step₁ ∷ []) (alone (tracker t₁ s₀ e₀)) ready₁ (meets₁, tt)
 
     numbers₂ : numbersOf t₂ ≡ record { textures = 1; mips = 2; layers = 4 }
-    numbers₂ = let head = tracker-head (m₂ .stays) in rw (head 0 (omega arith), head 1 (omega arith), head 2 (omega arith)) numbers₁
+    numbers₂ = let head = tracker-head (m₂ .stays) in rw (head texturesAt (omega arith), head mipLimitAt (omega arith), head layerLimitAt (omega arith)) numbers₁
 
     meets₂ : Meets (alone (tracker t₂ s₂ e₂)) step₂
     unfolding trackerOf

@@ -9,7 +9,7 @@ use lib.ListN.{length}
 use borrow.Author.Tests.{ltb-false, le-leb}
 use Rattle.model.specs.declared.Refusal.{Refusal}
 use Rattle.model.specs.declared.Refusal.the-variants.{NumbersOutOfLimits, FlagsBreakRule, ShortRoom}
-use Rattle.model.specs.Base.{if_then_else_, each}
+use Rattle.model.specs.Base.{if_then_else_, each, All}
 use Rattle.model.specs.Flags.{flagsFit}
 use Rattle.model.specs.Sets.{Opening, openSet, openTracker, numbersFit, capacity}
 use Rattle.model.specs.Refusals.{firstFailing, openingRefusal, accepted, opens}
@@ -17,7 +17,7 @@ use Rattle.model.specs.Calls.{newly}
 use Rattle.model.specs.Texture.{single, ranged}
 use Rattle.model.specs.WellFormed.{scopeFits, trackerFits}
 use Rattle.model.specs.Log.{verdict}
-use Rattle.model.specs.ListLaws.{All, all-join}
+use Rattle.model.specs.ListLaws.{all-join}
 use Rattle.model.specs.BoolLaws.{by-test, by-test₂, both, and-left}
 use Rattle.agreement.specs.CallsAgree.{opened-fits}
 use Rattle.set_storage.specs.Lent.{LentScope, LentTracker, scopeIn, trackerIn, scopeTest, trackerTest}

@@ -13,14 +13,14 @@ use Rattle.model.specs.declared.LogHead.{LogHead}
 use Rattle.model.specs.declared.Refusal.{Refusal}
 use Rattle.model.specs.declared.Selector.{Selector}
 use Rattle.model.specs.declared.TrackerIndex.{TrackerIndex}
-use Rattle.model.specs.Base.{if_then_else_}
+use Rattle.model.specs.Base.{if_then_else_, All, AllO}
 use Rattle.model.specs.Sets.{Numbers, Set, Tracker, slotAt, headOf, capacity}
 use Rattle.model.specs.Refusals.{firstFailing, singleRefusal, setRefusal, sparseRefusal}
 use Rattle.model.specs.Calls.{done, CallResult, unless, Call, callMergeSingle, callMergeUsageScope, callSetSingle, callSetFromUsageScope, callSetFromTracker, callSetAndRemoveSparse, mergeSingle, mergeUsageScope, setSingle, setFromUsageScope, setFromTracker, setAndRemoveSparse, sparseOne, sparseAll, Sets, nothing, into, withScopes, withTrackers, with₁, with₂, step}
 use Rattle.model.specs.Texture.{Held, single, Entry, ranged}
 use Rattle.model.specs.WellFormed.{scopeFits, trackerFits}
 use Rattle.model.specs.Log.{pending, outcomeOf, merging, logging}
-use Rattle.model.specs.ListLaws.{All, all-set, AllO, all-elem, elem-map, set-map}
+use Rattle.model.specs.ListLaws.{all-set, all-elem, elem-map, set-map}
 use Rattle.model.specs.BoolLaws.{by-test, both, and-left, and-right}
 use Rattle.set_checks.specs.Head.{selectorOf}
 use Rattle.call_merge.specs.Merged.{Merged}
@@ -233,8 +233,8 @@ module _ (k : Lent) (ready : Ready k) (s : Step) (empty : Empty (logOf (s .log) 
   abbrev Nothing : Option (Set Held) → Type 0
   Nothing o = Unit {0}
 
-  abbrev Room : Option (Tracker Held) → Type 0
-  Room o = ofTracker o ≤ s .emptied .head .free
+  abbrev EnoughFree : Option (Tracker Held) → Type 0
+  EnoughFree o = ofTracker o ≤ s .emptied .head .free
 
   abbrev putScope : ℕ → CallResult InvalidUse (List Entry) (Set Held) → CallResult InvalidUse (List Entry) (Sets ranged)
   putScope n r = into ranged r (λ x. withScopes ranged (viewOf k) (set (map scopeIn (k .scopes)) n x))
@@ -296,10 +296,10 @@ module _ (k : Lent) (ready : Ready k) (s : Step) (empty : Empty (logOf (s .log) 
   follows (callMergeSingle n i sh sel st) w room = at-one (k .scopes) scopeIn ScopeReady (ready .scopes) Nothing n _ _ (λ a p q. merge-single n i sh sel st w a p) tt
   follows (callMergeUsageScope n m) w room =
       apart (eqb n m) _ _ (at-two (k .scopes) scopeIn ScopeReady (ready .scopes) Nothing n (k .scopes) scopeIn ScopeReady (ready .scopes) m _ _ (λ a g p p′ q. merge-scope n a g p p′) tt)
-  follows (callSetSingle n i sh sel st) w room = at-one (k .trackers) trackerIn TrackerReady (ready .trackers) Room n _ _ (set-single n i sh sel st w) room
+  follows (callSetSingle n i sh sel st) w room = at-one (k .trackers) trackerIn TrackerReady (ready .trackers) EnoughFree n _ _ (set-single n i sh sel st w) room
   follows (callSetFromUsageScope n m) w room =
-      at-two (k .trackers) trackerIn TrackerReady (ready .trackers) Room n (k .scopes) scopeIn ScopeReady (ready .scopes) m _ _ (set-from-scope n) room
+      at-two (k .trackers) trackerIn TrackerReady (ready .trackers) EnoughFree n (k .scopes) scopeIn ScopeReady (ready .scopes) m _ _ (set-from-scope n) room
   follows (callSetFromTracker n m) w room =
-      apart (eqb n m) _ _ (at-two (k .trackers) trackerIn TrackerReady (ready .trackers) Room n (k .trackers) trackerIn TrackerReady (ready .trackers) m _ _ (set-from-tracker n) room)
+      apart (eqb n m) _ _ (at-two (k .trackers) trackerIn TrackerReady (ready .trackers) EnoughFree n (k .trackers) trackerIn TrackerReady (ready .trackers) m _ _ (set-from-tracker n) room)
   follows (callSetAndRemoveSparse n m is) w room =
-      at-two (k .trackers) trackerIn TrackerReady (ready .trackers) Room n (k .scopes) scopeIn ScopeReady (ready .scopes) m _ _ (sparse n m is) room
+      at-two (k .trackers) trackerIn TrackerReady (ready .trackers) EnoughFree n (k .scopes) scopeIn ScopeReady (ready .scopes) m _ _ (sparse n m is) room

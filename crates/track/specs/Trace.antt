@@ -17,7 +17,7 @@ use Rattle.model.specs.declared.Selection.{Selection}
 use Rattle.model.specs.declared.Selection.the-variants.{Full, Part}
 use Rattle.model.specs.declared.Selector.{Selector}
 use Rattle.model.specs.declared.UsageFlags.{UsageFlags}
-use Rattle.model.specs.Base.{if_then_else_, each}
+use Rattle.model.specs.Base.{if_then_else_, each, All}
 use Rattle.model.specs.Representation.{holds}
 use Rattle.model.specs.Refusals.{numberOf}
 use Rattle.model.specs.Sets.{Tracker, Opening}
@@ -38,7 +38,6 @@ use Rattle.call_merge.specs.Contract.{MergeSingle, MergeUsageScope}
 use Rattle.call_set.specs.Contract.{SetSingle}
 use Rattle.call_join.specs.Contract.{SetFromUsageScope, SetFromTracker}
 use Rattle.call_remove.specs.Removed.{SetAndRemoveSparse}
-use Rattle.model.specs.ListLaws.{All}
 
 -- ---- What is lent: "the same scopes and trackers, however many"
 -- for all scopes and trackers

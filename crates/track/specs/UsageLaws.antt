@@ -25,7 +25,8 @@ use Rattle.set_storage.specs.Lent.{LentScope, scopeIn}
 use Rattle.track.specs.Trace.{Lent, viewOf, ScopeOpening, TrackerOpening, scopeAsked, trackerAsked, openedSets, Step, Meets, Trace, callsOf, setsAfter, seenOutcome}
 use Rattle.track.specs.OpenedLaws.{opened-ready}
 use Rattle.track.specs.TraceLaws.{told-seen, steps-on, ready-after, trace-runs}
-use Rattle.model.specs.ListLaws.{All, elem-map}
+use Rattle.model.specs.ListLaws.{elem-map}
+use Rattle.model.specs.Base.{All}
 
 -- ---- A trace and its last step
 front : (steps : List Step) (s : Step) (k : Lent) → Trace k (steps ++ (s ∷ [])) → Trace k steps

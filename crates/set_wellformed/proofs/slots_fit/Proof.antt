@@ -2,8 +2,8 @@
 use Prim.Native.Nat.{_-_}
 use native.Mathlib.Omega.{arith}
 use Rattle.model.specs.WellFormed.{heldFits, slotFits}
-use Rattle.set_storage.specs.Storage.{numbersOf, flagsOf}
-use Rattle.set_wellformed.specs.Parts.{every-at, scopeSlot, Testing, testing-start, testing-stop, testing-turn, testing-end}
+use Rattle.set_storage.specs.Storage.{numbersOf, flagsOf, scopeSlot}
+use Rattle.set_wellformed.specs.Parts.{every-at, Testing, testing-start, testing-stop, testing-turn, testing-end}
 use Rattle.set_wellformed.specs.Unknowns.{itself}
 use Rattle.set_wellformed.specs.Words.{scopeWordFits}
 use borrow.Author.Needs.{needs}

@@ -2,9 +2,9 @@
 use Prim.Native.Nat.{_-_}
 use native.Mathlib.Omega.{arith}
 use Rattle.model.specs.WellFormed.{endsFit, slotFits}
-use Rattle.set_storage.specs.Storage.{numbersOf, flagsOf}
+use Rattle.set_storage.specs.Storage.{numbersOf, flagsOf, trackerSlot}
 use Rattle.set_wellformed.specs.Parts.{every-at, Testing, testing-start, testing-stop, testing-turn, testing-end}
-use Rattle.set_wellformed.specs.Unknowns.{trackerSlot, itself}
+use Rattle.set_wellformed.specs.Unknowns.{itself}
 use Rattle.set_wellformed.specs.Words.{trackerWordFits}
 use borrow.Author.Needs.{needs}
 use Rattle.set_wellformed.proofs.unknowns.slots_fit.Statement.{statement}
