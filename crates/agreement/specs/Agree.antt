@@ -1,41 +1,26 @@
 -- Demand 3, from sets that are good: what holds of one texture in a scope and in a tracker is handed to the lifting of LiftCalls, for every list of calls.
-use mathlib.Core.Bool.{Bool, true, false, and-eq-true-iff, _||_, false≢true}
-use mathlib.Core.List.{[], _∷_, _++_, append-nil, List, map}
-use mathlib.Core.Option.{Option, none, some, Option·map}
-use mathlib.Core.Path.{_≡_, refl, sym, ap, _∙_}
-use Prim.Native.Nat.{ℕ, zero, suc, _-_, _+_, _≤_, _<_}
-use native.Mathlib.Omega.{arith}
-use lib.Bits.{bitAnd, bitOr}
-use lib.Dec.{ltb, eqb}
-use lib.ListN.{replicate, getD}
-use borrow.Author.Tests.{eqb-true, ltb-true, ltb-false, not-false, le-leb, lt-ltb}
-use Rattle.model.specs.declared.Extent.{Extent}
-use Rattle.model.specs.declared.InvalidUse.{InvalidUse}
-use Rattle.model.specs.declared.Selector.{Selector}
-use Rattle.model.specs.declared.UsageFlags.{UsageFlags}
-use Rattle.model.specs.Base.{if_then_else_, ruled, orKeep, passes}
-use Rattle.model.specs.Representation.{isFull, Ends, full}
+use Rattle.model.specs.Prelude.{ℕ, zero, suc, _-_, _+_, _≤_, _<_, arith, _≡_, refl, sym, ap, _∙_, Bool, true, false, and-eq-true-iff, _||_}
+use Rattle.model.specs.Prelude.{false≢true, Option, none, some, Option·map, [], _∷_, _++_, append-nil, List, map, ltb, eqb, bitAnd, bitOr}
+use Rattle.model.specs.Prelude.{replicate, getD, eqb-true, ltb-true, ltb-false, not-false, le-leb, lt-ltb}
+use Rattle.model.specs.declared.{Extent.Extent, InvalidUse.InvalidUse, Selector.Selector, UsageFlags.UsageFlags}
+use Rattle.model.specs.{Base.{if_then_else_, ruled, orKeep, passes}, Representation.{isFull, Ends, full}}
 use Rattle.model.specs.Sets.{Head, outside, Slot, Set, Tracker, Opening}
 use Rattle.model.specs.Refusals.{textureChecks, selectorChecks, stateChecks, singleRefusal}
-use Rattle.model.specs.Texture.{Held, single, many, Given, givenSingle, givenMany, fromUse, fromHeld, ranged, Entry, merge, invalidUse, spreadPiece, freshMips}
-use Rattle.model.specs.Subresources.{everywhere}
-use Rattle.model.specs.ListLaws.{all-left, all-right}
-use Rattle.model.specs.BoolLaws.{neither, by-test, and-left}
-use Rattle.model.specs.CheckLaws.{passed, inside, Passed}
-use Rattle.model.specs.Flags.{meets, isBit, apart, flagsFit}
-use Rattle.model.specs.Calls.{Answer, done, refused, inConflict, CallResult, Call, callMergeSingle, callMergeUsageScope, callSetSingle, callSetFromUsageScope, callSetFromTracker, callSetAndRemoveSparse, Sets, step, newly}
+use Rattle.model.specs.Texture.{Held, single, many, Given, givenSingle, givenMany, fromUse, fromHeld, ranged, Entry, merge, invalidUse}
+use Rattle.model.specs.{Texture.{spreadPiece, freshMips}, Subresources.everywhere, ListLaws.{all-left, all-right}}
+use Rattle.model.specs.{BoolLaws.{neither, by-test, and-left}, CheckLaws.{passed, inside, Passed}, Flags.{meets, isBit, apart, flagsFit}}
+use Rattle.model.specs.Calls.{Answer, done, refused, inConflict, CallResult, Call, callMergeSingle, callMergeUsageScope, callSetSingle}
+use Rattle.model.specs.Calls.{callSetFromUsageScope, callSetFromTracker, callSetAndRemoveSparse, Sets, step, newly}
 use Rattle.model.specs.StateRules.{Move, invalidState, unite}
 use Rattle.usage.specs.BitLaws.{and-or}
 use Rattle.agreement.specs.Grid.{Named, grid, namedUse, namedAll, tab, namedRow, Grid, SubresourceConflict, gridBarrier}
-use Rattle.agreement.specs.Shared.{firstOf, gridOf, seen, seenSlot, itself, seenAnswer, Shares, Agree, gridEnds, gridScope, gridTracker, toGrids, entriesAt, gridAt}
-use Rattle.agreement.specs.GridLaws.{map-everywhere, grid-map, grid-everywhere}
+use Rattle.agreement.specs.Shared.{firstOf, gridOf, seen, seenSlot, itself, seenAnswer, Shares, Agree, gridEnds, gridScope}
+use Rattle.agreement.specs.{Shared.{gridTracker, toGrids, entriesAt, gridAt}, GridLaws.{map-everywhere, grid-map, grid-everywhere}}
 use Rattle.agreement.specs.RulesAgree.{update-rule}
 use Rattle.agreement.specs.TextureLaws.{Measured, Fit, Gives, gives-one, gives-place, gives-set, inserted, merged}
-use Rattle.agreement.specs.TrackerLaws.{Known, Clear, ClearHeld, ClearGiven, UnknownNonzero, KnownEnd, FitEnds, KnownO, KnownGiven, clear-known, updated, inserted-ends, insert-clear}
-use Rattle.agreement.specs.BarrierLaws.{logged, at-most-one}
-use Rattle.agreement.specs.LiftScope.{Textures, mapAnswer}
-use Rattle.agreement.specs.LiftTracker.{Tracks}
-use Rattle.agreement.specs.LiftCalls.{Words, Stepped, Good, stepped, opened}
+use Rattle.agreement.specs.TrackerLaws.{Known, Clear, ClearHeld, ClearGiven, UnknownNonzero, KnownEnd, FitEnds, KnownO, KnownGiven}
+use Rattle.agreement.specs.{TrackerLaws.{clear-known, updated, inserted-ends, insert-clear}, BarrierLaws.{logged, at-most-one}}
+use Rattle.agreement.specs.{LiftScope.{Textures, mapAnswer}, LiftTracker.Tracks, LiftCalls.{Words, Stepped, Good, stepped, opened}}
 
 measured : (h : Head) (i : ℕ) (sh : Extent) → Passed (textureChecks h i sh) → Measured sh
 measured h i sh t =

@@ -1,34 +1,20 @@
 -- No strict assertion fires in any of the six calls on well-formed sets.
-use mathlib.Core.Bool.{Bool, true, false, _&&_, not}
-use mathlib.Core.List.{List, [], _∷_, map}
-use mathlib.Core.Option.{Option, none, some}
-use mathlib.Core.Path.{_≡_, refl}
-use Prim.Native.Nat.{ℕ, suc, _+_, _≤_}
-use native.Mathlib.Omega.{arith}
-use lib.Dec.{eqb}
-use lib.ListN.{length, getElem?, List·getD-map}
-use borrow.Author.Tests.{not-false, lt-ltb, ltb-true}
-use Rattle.model.specs.declared.Extent.{Extent}
-use Rattle.model.specs.declared.Refusal.{Refusal}
-use Rattle.model.specs.declared.Selector.{Selector}
-use Rattle.model.specs.declared.UsageFlags.{UsageFlags}
-use Rattle.model.specs.Base.{if_then_else_, every, each, eachAt, All}
-use Rattle.model.specs.Representation.{Ends}
+use Rattle.model.specs.Prelude.{ℕ, suc, _+_, _≤_, arith, _≡_, refl, Bool, true, false, _&&_, not, Option, none, some, List, [], _∷_, map}
+use Rattle.model.specs.Prelude.{eqb, length, getElem?, List·getD-map, not-false, lt-ltb, ltb-true}
+use Rattle.model.specs.declared.{Extent.Extent, Refusal.Refusal, Selector.Selector, UsageFlags.UsageFlags}
+use Rattle.model.specs.{Base.{if_then_else_, every, each, eachAt, All}, Representation.Ends}
 use Rattle.model.specs.Sets.{Numbers, Slot, Set, Tracker, headOf, ownExtent, emptySlot, slotAt}
 use Rattle.model.specs.Refusals.{ownedChecks, sparseChecks, singleRefusal, setRefusal, sparseRefusal}
-use Rattle.model.specs.Calls.{noEnds, Call, callMergeSingle, callMergeUsageScope, callSetSingle, callSetFromUsageScope, callSetFromTracker, callSetAndRemoveSparse, Sets}
-use Rattle.model.specs.Texture.{Held, Given, ranged, fromUse, fromHeld}
-use Rattle.model.specs.BoolLaws.{by-test, both}
-use Rattle.model.specs.ListLaws.{all-left, all-right, elem-of}
-use Rattle.model.specs.CheckLaws.{passed, Passed}
-use Rattle.agreement.specs.Grid.{Grid, Named, namedUse, namedAll, grid}
-use Rattle.agreement.specs.Shared.{gridOf, gridEnds, entriesAt, gridAt}
+use Rattle.model.specs.Calls.{noEnds, Call, callMergeSingle, callMergeUsageScope, callSetSingle, callSetFromUsageScope, callSetFromTracker}
+use Rattle.model.specs.{Calls.{callSetAndRemoveSparse, Sets}, Texture.{Held, Given, ranged, fromUse, fromHeld}, BoolLaws.{by-test, both}}
+use Rattle.model.specs.{ListLaws.{all-left, all-right, elem-of}, CheckLaws.{passed, Passed}}
+use Rattle.agreement.specs.{Grid.{Grid, Named, namedUse, namedAll, grid}, Shared.{gridOf, gridEnds, entriesAt, gridAt}}
 use Rattle.agreement.specs.WellFormedSets.{Word, GivenWord}
-use Rattle.agreement.specs.Asserts.{scopeAsserts, trackerAsserts, inBounds, unlessRefused, eachOwned, setAsserts, listedInBounds, sparseAsserts, ifThere, ifBoth, callAsserts}
-use Rattle.agreement.specs.Fits.{SlotFits, SetFits, SetsFit}
-use Rattle.agreement.specs.SlotLaws.{slot-fits, At, single-at, flags-same, each-owned}
-use Rattle.agreement.specs.LiftTracker.{each-listed}
-use Rattle.agreement.specs.WellLaws.{FitW, FitEW, GivesW, PairsW, scopes-well, trackers-well, fit-out, ends-out, well-good, WellTracker, WellScope, TakenW, trackerAfter, scopeAfter}
+use Rattle.agreement.specs.Asserts.{scopeAsserts, trackerAsserts, inBounds, unlessRefused, eachOwned, setAsserts, listedInBounds}
+use Rattle.agreement.specs.{Asserts.{sparseAsserts, ifThere, ifBoth, callAsserts}, Fits.{SlotFits, SetFits, SetsFit}}
+use Rattle.agreement.specs.{SlotLaws.{slot-fits, At, single-at, flags-same, each-owned}, LiftTracker.each-listed}
+use Rattle.agreement.specs.WellLaws.{FitW, FitEW, GivesW, PairsW, scopes-well, trackers-well, fit-out, ends-out, well-good}
+use Rattle.agreement.specs.WellLaws.{WellTracker, WellScope, TakenW, trackerAfter, scopeAfter}
 use Rattle.agreement.specs.AssertLaws.{asserts-fit, insert-holds, mip-holds, spread-holds}
 
 -- ---- one index of a scope, and of a tracker

@@ -1,39 +1,22 @@
 -- No strict assertion about pieces, states and UNKNOWN fires where a well-formed texture is inserted, merged or updated.
-use mathlib.Core.Bool.{true, not, Bool, false, _&&_}
-use mathlib.Core.List.{List, [], _∷_, _++_, map, append-assoc, append-nil}
-use mathlib.Core.Option.{none, some}
-use mathlib.Core.Path.{_≡_, refl, sym, ap, _∙_}
-use Prim.Native.Nat.{ℕ, zero, suc, _-_, _+_, _≤_, _<_}
-use native.Mathlib.Decide.{ℕ-discrete}
-use native.Mathlib.Omega.{arith}
-use lib.Dec.{leb, eqb}
-use lib.ListN.{length, replicate, length-replicate, length-append, take, drop, take-append-drop, length-take, length-drop}
-use borrow.Author.Tests.{le-leb, lt-ltb, eqb-false, ne-eqb}
-use Rattle.model.specs.declared.Extent.{Extent}
-use Rattle.model.specs.declared.Range.{Range}
-use Rattle.model.specs.declared.UsageFlags.{UsageFlags}
-use Rattle.model.specs.Base.{every, eachAt, if_then_else_, zip₂, All, AllO}
-use Rattle.model.specs.Flags.{incompatible}
-use Rattle.model.specs.Representation.{select, mipStart, mipEnd, layerStart, layerEnd, full, inMips, Ends}
-use Rattle.model.specs.StateRules.{invalidState}
-use Rattle.model.specs.RangedStates.{layerStates, coalesce, isolate, paint, Tiles}
+use Rattle.model.specs.Prelude.{ℕ, zero, suc, _-_, _+_, _≤_, _<_, ℕ-discrete, arith, _≡_, refl, sym, ap, _∙_, true, not, Bool, false, _&&_}
+use Rattle.model.specs.Prelude.{none, some, List, [], _∷_, _++_, map, append-assoc, append-nil, leb, eqb, length, replicate}
+use Rattle.model.specs.Prelude.{length-replicate, length-append, take, drop, take-append-drop, length-take, length-drop, le-leb, lt-ltb}
+use Rattle.model.specs.Prelude.{eqb-false, ne-eqb}
+use Rattle.model.specs.{declared.{Extent.Extent, Range.Range, UsageFlags.UsageFlags}, Base.{every, eachAt, if_then_else_, zip₂, All, AllO}}
+use Rattle.model.specs.{Flags.incompatible, Representation.{select, mipStart, mipEnd, layerStart, layerEnd, full, inMips, Ends}}
+use Rattle.model.specs.{StateRules.invalidState, RangedStates.{layerStates, coalesce, isolate, paint, Tiles}}
 use Rattle.model.specs.Texture.{Held, single, many, Given, givenSingle, givenMany, Piece, onMips, learnAll, metBy}
 use Rattle.model.specs.ListLaws.{all-every, all-left, all-right, all-join, first-of, zip-append, all-replicate, all-map}
-use Rattle.model.specs.BoolLaws.{both, by-test}
-use Rattle.model.specs.RangeLaws.{tiles-le, isolate-cuts, tiles-length}
-use Rattle.agreement.specs.Grid.{Named, tab, namedRow}
-use Rattle.agreement.specs.Shared.{gridOf}
-use Rattle.agreement.specs.Asserts.{pieceInside, insertAsserts, mipAsserts, spreadAsserts, learnAsserts, learnAllAsserts, noneUnknown, piecesAssert, singleAsserts, startAsserts}
-use Rattle.agreement.specs.PaintLaws.{painted-states, split-left, split-right}
-use Rattle.agreement.specs.MergeLaws.{Tiled}
-use Rattle.agreement.specs.TextureLaws.{Measured, Fit, Gives, gives-one, gives-place, gives-set}
-use Rattle.agreement.specs.UpdateLaws.{mapAt, stepTwo, step-ends, step-starts, endsOf, startsOf, twos, twos-ok, twos-ends, twos-starts, Two, Pair, pair, view, Ok, full-length, after, update-one, updateOne}
-use Rattle.agreement.specs.TrackerLaws.{Known, KnownAll}
-use Rattle.agreement.specs.Fits.{StateFits, HeldFits, unknowns}
-use Rattle.agreement.specs.WellStates.{NamedFit}
-use Rattle.agreement.specs.WellLaws.{ranges-of, FitEW}
-use Rattle.agreement.specs.GridLaws.{thirds}
-use Rattle.agreement.specs.LogRoom.{PieceIn, pieces-in}
+use Rattle.model.specs.{BoolLaws.{both, by-test}, RangeLaws.{tiles-le, isolate-cuts, tiles-length}}
+use Rattle.agreement.specs.{Grid.{Named, tab, namedRow}, Shared.gridOf}
+use Rattle.agreement.specs.Asserts.{pieceInside, insertAsserts, mipAsserts, spreadAsserts, learnAsserts, learnAllAsserts, noneUnknown}
+use Rattle.agreement.specs.{Asserts.{piecesAssert, singleAsserts, startAsserts}, PaintLaws.{painted-states, split-left, split-right}}
+use Rattle.agreement.specs.{MergeLaws.Tiled, TextureLaws.{Measured, Fit, Gives, gives-one, gives-place, gives-set}}
+use Rattle.agreement.specs.UpdateLaws.{mapAt, stepTwo, step-ends, step-starts, endsOf, startsOf, twos, twos-ok, twos-ends}
+use Rattle.agreement.specs.UpdateLaws.{twos-starts, Two, Pair, pair, view, Ok, full-length, after, update-one, updateOne}
+use Rattle.agreement.specs.{TrackerLaws.{Known, KnownAll}, Fits.{StateFits, HeldFits, unknowns}, WellStates.NamedFit}
+use Rattle.agreement.specs.{WellLaws.{ranges-of, FitEW}, GridLaws.thirds, LogRoom.{PieceIn, pieces-in}}
 
 -- ---- a state is named where its piece lies
 tab-at : {A : Type 0} (P : A → Type 0) (f : ℕ → A) (k n j : ℕ) → All P (tab f k n) → k ≤ j → j < k + n → P (f j)

@@ -1,24 +1,14 @@
 -- The strict assertions of the Rust's texture.rs that the six calls reach, as tests over the ranged model; numbers in comments are lines of texture.rs.
 -- (range.rs asserts in its tests alone.) Each test says at least what the assertion says wherever a call reaches it.
-use mathlib.Core.Bool.{Bool, true, false, _&&_, not}
-use mathlib.Core.List.{List, [], _∷_}
-use mathlib.Core.Option.{Option, none, some}
-use Prim.Native.Nat.{ℕ, suc}
-use lib.Dec.{leb, ltb, eqb}
-use lib.ListN.{length, getElem?}
-use Rattle.model.specs.declared.Extent.{Extent}
-use Rattle.model.specs.declared.Range.{Range}
-use Rattle.model.specs.declared.Refusal.{Refusal}
-use Rattle.model.specs.declared.Selector.{Selector}
-use Rattle.model.specs.declared.UsageFlags.{UsageFlags}
-use Rattle.model.specs.Base.{every, if_then_else_}
-use Rattle.model.specs.Representation.{mipStart, mipEnd, layerStart, layerEnd, full, Ends}
-use Rattle.model.specs.Sets.{Slot, Set, Tracker, headOf, slotAt}
-use Rattle.model.specs.Refusals.{singleRefusal, setRefusal, sparseRefusal}
-use Rattle.model.specs.Calls.{noEnds, sparseOne, Sets, Call, callMergeSingle, callMergeUsageScope, callSetSingle, callSetFromUsageScope, callSetFromTracker, callSetAndRemoveSparse}
-use Rattle.model.specs.StateRules.{invalidState}
+use Rattle.model.specs.Prelude.{ℕ, suc, Bool, true, false, _&&_, not, Option, none, some, List, [], _∷_, leb, ltb, eqb, length, getElem?}
+use Rattle.model.specs.declared.{Extent.Extent, Range.Range, Refusal.Refusal, Selector.Selector, UsageFlags.UsageFlags}
+use Rattle.model.specs.{Base.{every, if_then_else_}, Representation.{mipStart, mipEnd, layerStart, layerEnd, full, Ends}}
+use Rattle.model.specs.{Sets.{Slot, Set, Tracker, headOf, slotAt}, Refusals.{singleRefusal, setRefusal, sparseRefusal}}
+use Rattle.model.specs.Calls.{noEnds, sparseOne, Sets, Call, callMergeSingle, callMergeUsageScope, callSetSingle, callSetFromUsageScope}
+use Rattle.model.specs.{Calls.{callSetFromTracker, callSetAndRemoveSparse}, StateRules.invalidState}
 use Rattle.model.specs.RangedStates.{coalesce, isolate, paint}
-use Rattle.model.specs.Texture.{Held, single, many, Given, givenSingle, givenMany, Piece, onMips, learn, learnHeld, metBy, fromHeld, fromUse, ranged}
+use Rattle.model.specs.Texture.{Held, single, many, Given, givenSingle, givenMany, Piece, onMips, learn, learnHeld, metBy, fromHeld}
+use Rattle.model.specs.Texture.{fromUse, ranged}
 
 -- ---- `from_selector_state_iter`: the full range starts at 0 (94, 95), no selector ends past it (100, 101), no state is invalid (105)
 abbrev pub pieceInside : UsageFlags → Selector → Piece → Bool

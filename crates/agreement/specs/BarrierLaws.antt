@@ -1,34 +1,17 @@
 -- One texture in a tracker: the log's entries that hold a subresource are the grid's transition of it.
-use mathlib.Core.Bool.{Bool, true, false, _&&_, and-false, and-eq-true-iff}
-use mathlib.Core.List.{List, [], _∷_, _++_, map, append-nil}
-use mathlib.Core.Option.{Option, none, some}
-use mathlib.Core.Path.{_≡_, refl, sym, ap, _∙_}
-use Prim.Native.Nat.{ℕ, zero, suc, _-_, _+_, _≤_, _<_, min, max}
-use native.Mathlib.Decide.{decLe, decLt}
-use native.Mathlib.Nat.{add-zero, add-suc, suc-add, zero-add}
-use native.Mathlib.Omega.{arith}
-use lib.Dec.{leb, ltb}
-use lib.ListN.{replicate, length, length-replicate, getD, getD-replicate, List·getD-append, List·getD-eq-default}
-use lib.Seq.{getD-append-add}
-use borrow.Author.Tests.{le-leb, lt-ltb, lt-leb, le-ltb, leb-true, ltb-true, ltb-false}
-use Rattle.model.specs.declared.Extent.{Extent}
-use Rattle.model.specs.declared.Range.{Range}
-use Rattle.model.specs.declared.Selector.{Selector}
-use Rattle.model.specs.declared.UsageFlags.{UsageFlags}
-use Rattle.model.specs.Base.{if_then_else_, each, eachAt, zip₂}
-use Rattle.model.specs.Representation.{select, full, inMips, holds}
-use Rattle.model.specs.StateRules.{Move, moveOf}
+use Rattle.model.specs.Prelude.{ℕ, zero, suc, _-_, _+_, _≤_, _<_, min, max, add-zero, add-suc, suc-add, zero-add, decLe, decLt, arith, _≡_}
+use Rattle.model.specs.Prelude.{refl, sym, ap, _∙_, Bool, true, false, _&&_, and-false, and-eq-true-iff, Option, none, some, List, [], _∷_}
+use Rattle.model.specs.Prelude.{_++_, map, append-nil, leb, ltb, replicate, length, length-replicate, getD, getD-replicate}
+use Rattle.model.specs.Prelude.{List·getD-append, List·getD-eq-default, getD-append-add, le-leb, lt-ltb, lt-leb, le-ltb, leb-true, ltb-true}
+use Rattle.model.specs.Prelude.{ltb-false}
+use Rattle.model.specs.declared.{Extent.Extent, Range.Range, Selector.Selector, UsageFlags.UsageFlags}
+use Rattle.model.specs.{Base.{if_then_else_, each, eachAt, zip₂}, Representation.{select, full, inMips, holds}, StateRules.{Move, moveOf}}
 use Rattle.model.specs.RangedStates.{iterFilter, layerStates, Tiles}
 use Rattle.model.specs.Texture.{Held, single, many, Given, givenSingle, givenMany, Piece, Entry, entry, mipEntries, barrier, piecesOf}
-use Rattle.model.specs.Subresources.{everywhere}
-use Rattle.model.specs.ListLaws.{all-at, all-getD, all-weak, map-replicate, each-append}
-use Rattle.model.specs.BoolLaws.{by-test, by-lt}
-use Rattle.model.specs.RangeLaws.{tiles-le, tiles-length}
-use Rattle.agreement.specs.Grid.{Named, tab, band, namedRow, gridBarrier}
-use Rattle.agreement.specs.Shared.{gridOf, toList, entriesAt, gridAt}
-use Rattle.agreement.specs.FilterLaws.{held, held-state, held-filter}
-use Rattle.agreement.specs.RulesAgree.{ruleMove, ruleLog, log-rule}
-use Rattle.agreement.specs.MergeLaws.{Tiled}
+use Rattle.model.specs.{Subresources.everywhere, ListLaws.{all-at, all-getD, all-weak, map-replicate, each-append}}
+use Rattle.model.specs.{BoolLaws.{by-test, by-lt}, RangeLaws.{tiles-le, tiles-length}}
+use Rattle.agreement.specs.{Grid.{Named, tab, band, namedRow, gridBarrier}, Shared.{gridOf, toList, entriesAt, gridAt}}
+use Rattle.agreement.specs.{FilterLaws.{held, held-state, held-filter}, RulesAgree.{ruleMove, ruleLog, log-rule}, MergeLaws.Tiled}
 use Rattle.agreement.specs.Passes.{pieceAt, own-mip, other-mip}
 use Rattle.agreement.specs.TextureLaws.{Fit, Gives, gives-one, gives-place, gives-set, Fills, fills}
 

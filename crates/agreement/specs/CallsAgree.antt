@@ -1,37 +1,20 @@
 -- Texture by texture, and call by call from any well-formed sets: ranged and grid share what demand 3 lists, what is well formed stays so, and both refuse alike.
-use mathlib.Core.Bool.{true, and-eq-true-iff}
-use mathlib.Core.List.{List, [], _∷_}
-use mathlib.Core.Logic.{_↔_}
-use mathlib.Core.Option.{Option, none, some}
-use mathlib.Core.Path.{_≡_, refl, sym, ap, _∙_}
-use Prim.Native.Nat.{_<_, ℕ}
-use native.Mathlib.Omega.{arith}
-use borrow.Author.Tests.{not-true}
-use Rattle.model.specs.declared.Extent.{Extent}
-use Rattle.model.specs.declared.InvalidUse.{InvalidUse}
-use Rattle.model.specs.declared.Refusal.{Refusal}
-use Rattle.model.specs.declared.Selector.{Selector}
-use Rattle.model.specs.declared.UsageFlags.{UsageFlags}
-use Rattle.model.specs.Flags.{flagsFit}
-use Rattle.model.specs.Representation.{Ends}
-use Rattle.model.specs.Refusals.{selectorChecks}
-use Rattle.model.specs.Texture.{Held, insert, merge, update, ranged}
-use Rattle.model.specs.WellFormed.{singleFits, heldFits, endsFit, scopeFits, trackerFits}
-use Rattle.model.specs.CheckLaws.{Passed}
-use Rattle.model.specs.Base.{every, All}
-use Rattle.model.specs.Sets.{Tracker, Opening}
-use Rattle.model.specs.Calls.{Answer, done, refused, inConflict, Call, Sets, step, newly}
+use Rattle.model.specs.Prelude.{_<_, ℕ, arith, _≡_, refl, sym, ap, _∙_, _↔_, true, and-eq-true-iff, Option, none, some, List, [], _∷_}
+use Rattle.model.specs.Prelude.{not-true}
+use Rattle.model.specs.declared.{Extent.Extent, InvalidUse.InvalidUse, Refusal.Refusal, Selector.Selector, UsageFlags.UsageFlags}
+use Rattle.model.specs.{Flags.flagsFit, Representation.Ends, Refusals.selectorChecks, Texture.{Held, insert, merge, update, ranged}}
+use Rattle.model.specs.{WellFormed.{singleFits, heldFits, endsFit, scopeFits, trackerFits}, CheckLaws.Passed, Base.{every, All}}
+use Rattle.model.specs.{Sets.{Tracker, Opening}, Calls.{Answer, done, refused, inConflict, Call, Sets, step, newly}}
 use Rattle.model.specs.ListLaws.{every-all, all-every, all-weak}
 use Rattle.agreement.specs.Grid.{SubresourceConflict, grid}
-use Rattle.agreement.specs.Shared.{Use, ofSelector, ofTexture, rangedUse, gridUse, selectorFits, useFits, TextureShares, toGrids, seenAnswer, Shares, Agree, Demand3, afterCalls}
-use Rattle.agreement.specs.WellFormedSets.{wellFormed, GivenWord}
-use Rattle.agreement.specs.TextureLaws.{Measured}
-use Rattle.agreement.specs.TrackerLaws.{FitEnds}
-use Rattle.agreement.specs.Fits.{HeldFits, EndsFit, SetFits, SetsFit}
-use Rattle.agreement.specs.SlotLaws.{fits-weak}
+use Rattle.agreement.specs.Shared.{Use, ofSelector, ofTexture, rangedUse, gridUse, selectorFits, useFits, TextureShares, toGrids}
+use Rattle.agreement.specs.{Shared.{seenAnswer, Shares, Agree, Demand3, afterCalls}, WellFormedSets.{wellFormed, GivenWord}}
+use Rattle.agreement.specs.{TextureLaws.Measured, TrackerLaws.FitEnds, Fits.{HeldFits, EndsFit, SetFits, SetsFit}, SlotLaws.fits-weak}
 use Rattle.agreement.specs.Agree.{clear-use, twice, FitS, GoodSets, one-step, shares, from-here, opened-grids, use-gives}
 use Rattle.agreement.specs.WellStates.{FlagFacts, sure-flags, use-fits}
-use Rattle.agreement.specs.WellLaws.{FitW, FitEW, GivesW, PairsW, known-flags, scopes-well, trackers-well, held-in, fit-out, ends-in, ends-out, WellScope, WellTracker, WellSets, well-good, call-keeps-well-formed, opened-well-formed}
+use Rattle.agreement.specs.WellLaws.{FitW, FitEW, GivesW, PairsW, known-flags, scopes-well, trackers-well, held-in, fit-out, ends-in}
+use Rattle.agreement.specs.WellLaws.{ends-out, WellScope, WellTracker, WellSets, well-good, call-keeps-well-formed}
+use Rattle.agreement.specs.WellLaws.{opened-well-formed}
 use Rattle.agreement.specs.Decides.{single-to, held-to, held-from, ends-to, ends-from, scope-to, scope-from, tracker-to, tracker-from}
 
 selector-passed : (sh : Extent) (sel : Option Selector) → selectorFits sh sel ≡ true → Passed (selectorChecks sh sel)

@@ -1,43 +1,24 @@
 -- What is proved, in one place: each claim is a statement with the name of its proof. To trust it, read crate `model`, and here Grid (01's grid), Shared
 -- (what the two representations share), WellFormedSets, LogBound, Layers, Asserts and WebGpu; the other modules hold proofs alone.
-use mathlib.Core.Bool.{true, false, _||_}
-use mathlib.Core.List.{List, map, [], _∷_}
-use mathlib.Core.Logic.{_↔_}
-use mathlib.Core.Option.{Option, none, some}
-use mathlib.Core.Path.{_≡_}
-use Prim.Native.Nat.{ℕ, _≤_, _<_}
-use lib.ListN.{length, getElem?}
-use Rattle.model.specs.declared.Extent.{Extent}
-use Rattle.model.specs.declared.Range.{Range}
-use Rattle.model.specs.declared.Refusal.{Refusal}
+use Rattle.model.specs.Prelude.{ℕ, _≤_, _<_, _≡_, _↔_, true, false, _||_, Option, none, some, List, map, [], _∷_, length, getElem?}
 use Rattle.model.specs.declared.Refusal.the-variants.{NoFreeEntry}
-use Rattle.model.specs.declared.Selector.{Selector}
-use Rattle.model.specs.declared.UsageFlags.{UsageFlags}
-use Rattle.model.specs.Base.{every, All}
-use Rattle.model.specs.Flags.{flagsFit}
-use Rattle.model.specs.Representation.{Ends}
-use Rattle.model.specs.Sets.{Slot, Set, Tracker, headOf, Opening}
+use Rattle.model.specs.{declared.{Extent.Extent, Range.Range, Refusal.Refusal, Selector.Selector, UsageFlags.UsageFlags}, Base.{every, All}}
+use Rattle.model.specs.{Flags.flagsFit, Representation.Ends, Sets.{Slot, Set, Tracker, headOf, Opening}}
 use Rattle.model.specs.Refusals.{numberOf, trackerIndex, singleRefusal}
-use Rattle.model.specs.Calls.{Indexed, refused, Call, callMergeSingle, Sets, step, newly}
-use Rattle.model.specs.RangedStates.{Tiles, isolate, listOf}
-use Rattle.model.specs.RangeCalls.{ascends}
-use Rattle.model.specs.Texture.{Held, Entry, ranged}
-use Rattle.model.specs.WellFormed.{scopeFits, trackerFits}
-use Rattle.model.specs.Log.{Log, pending, headCheck, logging}
-use Rattle.model.specs.RangeLaws.{isolate-few}
-use Rattle.agreement.specs.Grid.{grid}
-use Rattle.agreement.specs.Shared.{toGrids, Use, useFits, TextureShares, Shares, Agree, Demand3, afterCalls}
+use Rattle.model.specs.{Calls.{Indexed, refused, Call, callMergeSingle, Sets, step, newly}, RangedStates.{Tiles, isolate, listOf}}
+use Rattle.model.specs.{RangeCalls.ascends, Texture.{Held, Entry, ranged}, WellFormed.{scopeFits, trackerFits}}
+use Rattle.model.specs.{Log.{Log, pending, headCheck, logging}, RangeLaws.isolate-few}
+use Rattle.agreement.specs.{Grid.grid, Shared.{toGrids, Use, useFits, TextureShares, Shares, Agree, Demand3, afterCalls}}
 use Rattle.agreement.specs.WellFormedSets.{wellFormed, Word, GivenWord}
-use Rattle.agreement.specs.LogBound.{entries, namedStates, capacityOf, ownedOf, listed}
-use Rattle.agreement.specs.Layers.{covered, lengths, AddUp}
+use Rattle.agreement.specs.{LogBound.{entries, namedStates, capacityOf, ownedOf, listed}, Layers.{covered, lengths, AddUp}}
 use Rattle.agreement.specs.Asserts.{callAsserts}
-use Rattle.agreement.specs.WebGpu.{Usage, isAttachment, compatibleList, usesFit, Renders, benchFlags, benchBit, wgpuFlags, Storing, Attaching, wgpuBit, Histories, histories, InConflict, Unfit, GivenUsage, NotCompatible}
+use Rattle.agreement.specs.WebGpu.{Usage, isAttachment, compatibleList, usesFit, Renders, benchFlags, benchBit, wgpuFlags, Storing}
+use Rattle.agreement.specs.WebGpu.{Attaching, wgpuBit, Histories, histories, InConflict, Unfit, GivenUsage, NotCompatible}
 use Rattle.agreement.specs.RangeCount.{ranges-few, ascending-few, covered-lengths, scope-adds-up, tracker-adds-up}
-use Rattle.agreement.specs.CallsAgree.{sets-to, opened-fits, call-keeps, call-shares, agrees-from, agrees, refused-alike, always-fit, texture-shares}
-use Rattle.agreement.specs.OwnRefusals.{own-refusals}
-use Rattle.agreement.specs.LogRoom.{entries-written, never-full, owned-few, owned-most, never-full-owned, capacity-few, never-full-capacity, never-15, few-entries}
-use Rattle.agreement.specs.AssertCalls.{calls-assert}
-use Rattle.agreement.specs.FitLaws.{flags-rule}
+use Rattle.agreement.specs.CallsAgree.{sets-to, opened-fits, call-keeps, call-shares, agrees-from, agrees, refused-alike, always-fit}
+use Rattle.agreement.specs.{CallsAgree.texture-shares, OwnRefusals.own-refusals}
+use Rattle.agreement.specs.LogRoom.{entries-written, never-full, owned-few, owned-most, never-full-owned, capacity-few}
+use Rattle.agreement.specs.{LogRoom.{never-full-capacity, never-15, few-entries}, AssertCalls.calls-assert, FitLaws.flags-rule}
 use Rattle.agreement.specs.UsagesJudged.{bench-renders, wgpu-renders, usages-judged, uses-judged}
 
 -- ---- Demand 3 of the definitions: ranged and grid share what it lists after each call of every list, on however many sets

@@ -1,39 +1,22 @@
 -- A single merge conflicts just where the uses of some named subresource, with the given one, do not fit.
-use mathlib.Core.Bool.{Bool, true, false, _&&_, _||_, not, and-eq-true-iff, false≢true}
-use mathlib.Core.List.{List, [], _∷_, _++_, map}
-use mathlib.Core.Option.{Option, none, some, Option·map}
-use mathlib.Core.Path.{_≡_, refl, sym, ap, _∙_}
-use Prim.Native.Nat.{ℕ, zero, suc, _≤_, _<_}
-use native.Mathlib.Omega.{arith}
-use lib.Bits.{bitOr, or-zero-r}
-use lib.Dec.{leb, ltb, eqb}
-use lib.ListN.{replicate, getD, getD-replicate, List·getD-map}
-use borrow.Author.Tests.{not-false, leb-true, ltb-true, ltb-false, le-leb, lt-ltb, not-true}
-use Rattle.model.specs.declared.Extent.{Extent}
-use Rattle.model.specs.declared.Selector.{Selector}
-use Rattle.model.specs.declared.UsageFlags.{UsageFlags}
-use Rattle.model.specs.Base.{if_then_else_, Stop, ruled, orKeep, onward, walk₂, All, AllO}
-use Rattle.model.specs.Flags.{incompatible}
-use Rattle.model.specs.Representation.{inMips, holds, full}
-use Rattle.model.specs.Sets.{Slot, Set, headOf, slotAt}
-use Rattle.model.specs.Refusals.{textureChecks, selectorChecks, stateChecks, singleRefusal}
-use Rattle.model.specs.Calls.{Indexed, answer, mergeSingle}
-use Rattle.model.specs.ListLaws.{all-left, all-right, all-join, all-getD, all-both}
-use Rattle.model.specs.BoolLaws.{neither, by-test}
+use Rattle.model.specs.Prelude.{ℕ, zero, suc, _≤_, _<_, arith, _≡_, refl, sym, ap, _∙_, Bool, true, false, _&&_, _||_, not, and-eq-true-iff}
+use Rattle.model.specs.Prelude.{false≢true, Option, none, some, Option·map, List, [], _∷_, _++_, map, leb, ltb, eqb, bitOr, or-zero-r}
+use Rattle.model.specs.Prelude.{replicate, getD, getD-replicate, List·getD-map, not-false, leb-true, ltb-true, ltb-false, le-leb, lt-ltb}
+use Rattle.model.specs.Prelude.{not-true}
+use Rattle.model.specs.declared.{Extent.Extent, Selector.Selector, UsageFlags.UsageFlags}
+use Rattle.model.specs.{Base.{if_then_else_, Stop, ruled, orKeep, onward, walk₂, All, AllO}, Flags.incompatible}
+use Rattle.model.specs.{Representation.{inMips, holds, full}, Sets.{Slot, Set, headOf, slotAt}}
+use Rattle.model.specs.{Refusals.{textureChecks, selectorChecks, stateChecks, singleRefusal}, Calls.{Indexed, answer, mergeSingle}}
+use Rattle.model.specs.{ListLaws.{all-left, all-right, all-join, all-getD, all-both}, BoolLaws.{neither, by-test}}
 use Rattle.model.specs.CheckLaws.{passed, Passed}
-use Rattle.agreement.specs.Grid.{SubresourceConflict, without, singleUnion, manyUnion, namedUse}
-use Rattle.agreement.specs.WellFormedSets.{Word}
+use Rattle.agreement.specs.{Grid.{SubresourceConflict, without, singleUnion, manyUnion, namedUse}, WellFormedSets.Word}
 use Rattle.agreement.specs.LogBound.{oneIf}
-use Rattle.agreement.specs.WebGpu.{History, Histories, usesFit, oneUse, handUse, takeState, takeStates, historyMerge, histories, noHistory, Names, InConflict, Unfit}
-use Rattle.usage.specs.BitLaws.{and-or}
-use Rattle.agreement.specs.WellStates.{use-all}
-use Rattle.agreement.specs.FitLaws.{UseFits, unionOf, fits-union}
+use Rattle.agreement.specs.WebGpu.{History, Histories, usesFit, oneUse, handUse, takeState, takeStates, historyMerge, histories}
+use Rattle.agreement.specs.{WebGpu.{noHistory, Names, InConflict, Unfit}, WellStates.use-all, FitLaws.{UseFits, unionOf, fits-union}}
 use Rattle.agreement.specs.HistoryLaws.{Tied, Clear, TiedHeld, joined-union, without-clear, use-state, one-use, hand-all}
-use Rattle.agreement.specs.Fits.{SetFits}
-use Rattle.agreement.specs.SlotLaws.{slot-fits}
-use Rattle.agreement.specs.GridLaws.{GridAll, all-of}
-use Rattle.agreement.specs.BarrierLaws.{everywhere-at}
+use Rattle.agreement.specs.{Fits.SetFits, SlotLaws.slot-fits, GridLaws.{GridAll, all-of}, BarrierLaws.everywhere-at}
 use Rattle.agreement.specs.LogRoom.{use-named, namedAt, isNamed}
+use Rattle.usage.specs.BitLaws.{and-or}
 
 abbrev has : {C : Type 0} → Option C → Bool
 has none = false

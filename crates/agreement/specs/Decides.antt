@@ -1,30 +1,15 @@
 -- The test of a well-formed set (model, WellFormed) decides the records that the proofs go by (Fits): both directions, for scopes and for trackers.
-use mathlib.Core.Bool.{Bool, true, false, not, and-eq-true-iff}
-use mathlib.Core.List.{List, [], _∷_, map}
-use mathlib.Core.Path.{_≡_, refl, sym}
-use Prim.Native.Nat.{ℕ, _≤_, _<_}
-use native.Mathlib.Omega.{arith}
-use lib.Bits.{bitAnd}
-use lib.Dec.{eqb}
-use borrow.Author.Tests.{eqb-true, eqb-false, ltb-true, not-true, eq-eqb, ne-eqb, lt-ltb, le-ltb}
-use Rattle.model.specs.declared.Extent.{Extent}
-use Rattle.model.specs.declared.Range.{Range}
-use Rattle.model.specs.declared.UsageFlags.{UsageFlags}
-use Rattle.model.specs.Flags.{meets}
-use Rattle.model.specs.Representation.{Ends}
-use Rattle.model.specs.Sets.{Numbers, Slot, Set, Tracker, outside}
-use Rattle.model.specs.Refusals.{extentOutside}
-use Rattle.model.specs.RangedStates.{Tiles}
-use Rattle.model.specs.Texture.{Held, single, many}
-use Rattle.model.specs.Subresources.{subresources}
-use Rattle.model.specs.WellFormed.{stateFits, singleFits, rangesFit, heldFits, sameTest, all₂, sameUnknown, endsFit, slotFits, setFits, scopeFits, trackerFits}
-use Rattle.model.specs.ListLaws.{every-all, all-every}
-use Rattle.model.specs.BoolLaws.{by-test, neither, both, and-left, and-right, false-not}
-use Rattle.model.specs.CheckLaws.{inside}
+use Rattle.model.specs.Prelude.{ℕ, _≤_, _<_, arith, _≡_, refl, sym, Bool, true, false, not, and-eq-true-iff, List, [], _∷_, map, eqb}
+use Rattle.model.specs.Prelude.{bitAnd, eqb-true, eqb-false, ltb-true, not-true, eq-eqb, ne-eqb, lt-ltb, le-ltb}
+use Rattle.model.specs.{declared.{Extent.Extent, Range.Range, UsageFlags.UsageFlags}, Flags.meets, Representation.Ends}
+use Rattle.model.specs.{Sets.{Numbers, Slot, Set, Tracker, outside}, Refusals.extentOutside, RangedStates.Tiles}
+use Rattle.model.specs.{Texture.{Held, single, many}, Subresources.subresources}
+use Rattle.model.specs.WellFormed.{stateFits, singleFits, rangesFit, heldFits, sameTest, all₂, sameUnknown, endsFit, slotFits, setFits}
+use Rattle.model.specs.{WellFormed.{scopeFits, trackerFits}, ListLaws.{every-all, all-every}}
+use Rattle.model.specs.{BoolLaws.{by-test, neither, both, and-left, and-right, false-not}, CheckLaws.inside, Base.All}
 use Rattle.agreement.specs.Shared.{gridOf}
 use Rattle.agreement.specs.Fits.{StateFits, SingleFits, MipFits, HeldFits, unknowns, EndsFit, ExtentFits, SlotFits, SetFits}
 use Rattle.agreement.specs.WellStates.{no-meet}
-use Rattle.model.specs.Base.{All}
 
 -- ---- a state
 meets-apart : (a b : ℕ) → bitAnd a b ≡ 0 → not (meets a b) ≡ true

@@ -1,20 +1,11 @@
 -- The claims of CallsAgree and LogRoom for each of the six calls by itself, on what it is handed.
-use mathlib.Core.Bool.{true, _&&_}
-use mathlib.Core.List.{List, [], _∷_}
-use mathlib.Core.Option.{Option}
-use mathlib.Core.Path.{_≡_}
-use Prim.Native.Nat.{ℕ, _≤_}
-use Rattle.model.specs.declared.Extent.{Extent}
-use Rattle.model.specs.declared.Selector.{Selector}
-use Rattle.model.specs.Sets.{Set, Tracker, capacity}
-use Rattle.model.specs.Refusals.{trackerIndex}
-use Rattle.model.specs.Calls.{callMergeSingle, callMergeUsageScope, callSetSingle, callSetFromUsageScope, callSetFromTracker, callSetAndRemoveSparse, mergeSingle, mergeUsageScope, setSingle, setFromUsageScope, setFromTracker, setAndRemoveSparse, Sets, step}
-use Rattle.model.specs.Texture.{Held, ranged}
-use Rattle.model.specs.WellFormed.{scopeFits, trackerFits}
+use Rattle.model.specs.Prelude.{ℕ, _≤_, _≡_, true, _&&_, Option, List, [], _∷_}
+use Rattle.model.specs.{declared.{Extent.Extent, Selector.Selector}, Sets.{Set, Tracker, capacity}, Refusals.trackerIndex}
+use Rattle.model.specs.Calls.{callMergeSingle, callMergeUsageScope, callSetSingle, callSetFromUsageScope, callSetFromTracker}
+use Rattle.model.specs.Calls.{callSetAndRemoveSparse, mergeSingle, mergeUsageScope, setSingle, setFromUsageScope, setFromTracker}
+use Rattle.model.specs.{Calls.{setAndRemoveSparse, Sets, step}, Texture.{Held, ranged}, WellFormed.{scopeFits, trackerFits}}
 use Rattle.model.specs.BoolLaws.{and-left, and-right}
-use Rattle.agreement.specs.WellFormedSets.{Word}
-use Rattle.agreement.specs.LogBound.{entries, ownedStates}
-use Rattle.agreement.specs.CallsAgree.{call-keeps}
+use Rattle.agreement.specs.{WellFormedSets.Word, LogBound.{entries, ownedStates}, CallsAgree.call-keeps}
 use Rattle.agreement.specs.LogRoom.{owned-few, capacity-few}
 
 -- the sets that a call is handed, and no others

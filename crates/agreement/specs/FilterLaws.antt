@@ -1,18 +1,8 @@
 -- The transitions of a subresource: of the entries over ranges that tile, those that hold it are the one of its range.
-use mathlib.Core.Bool.{false, _&&_, and-false}
-use mathlib.Core.List.{List, [], _∷_, _++_, append-nil}
-use mathlib.Core.Path.{_≡_, refl, sym, _∙_}
-use Prim.Native.Nat.{ℕ, _-_, _+_, _≤_, _<_, min, max}
-use native.Mathlib.Decide.{decLe, decLt}
-use native.Mathlib.Omega.{arith}
-use lib.Dec.{leb, ltb}
-use lib.ListN.{replicate, length, length-replicate, getD, getD-replicate, List·getD-append}
-use lib.Seq.{getD-append-add}
-use borrow.Author.Tests.{le-leb, lt-ltb, lt-leb, le-ltb, ltb-true, ltb-false}
-use Rattle.model.specs.declared.Range.{Range}
-use Rattle.model.specs.Base.{if_then_else_, each}
-use Rattle.model.specs.RangedStates.{iterFilter, layerStates, Tiles}
-use Rattle.model.specs.BoolLaws.{by-test}
+use Rattle.model.specs.Prelude.{ℕ, _-_, _+_, _≤_, _<_, min, max, decLe, decLt, arith, _≡_, refl, sym, _∙_, false, _&&_, and-false, List, []}
+use Rattle.model.specs.Prelude.{_∷_, _++_, append-nil, leb, ltb, replicate, length, length-replicate, getD, getD-replicate}
+use Rattle.model.specs.Prelude.{List·getD-append, getD-append-add, le-leb, lt-ltb, lt-leb, le-ltb, ltb-true, ltb-false}
+use Rattle.model.specs.{declared.Range.Range, Base.{if_then_else_, each}, RangedStates.{iterFilter, layerStates, Tiles}, BoolLaws.by-test}
 
 -- what f makes of the ranges that hold layer l
 abbrev pub held : {A : Type 0} → (ℕ → List A) → ℕ → List Range → List A

@@ -1,18 +1,12 @@
 -- Uses fit just where their union is compatible; and the usage flags' rule beside WebGPU's own.
-use mathlib.Core.Bool.{Bool, true, false, _&&_, _||_, not, and-eq-true-iff}
-use mathlib.Core.List.{List, [], _∷_, _++_, map}
-use mathlib.Core.Path.{_≡_, refl, sym, ap, _∙_}
-use Prim.Native.Nat.{ℕ, _<_}
-use native.Mathlib.Omega.{arith}
-use lib.Bits.{bitAnd, bitOr, or-zero-l, or-zero-r, or-comm, or-self, or-lt}
-use lib.Count.{onesIn}
-use lib.Dec.{eqb}
-use borrow.Author.Tests.{eqb-true, eqb-false, eq-eqb, ne-eqb}
-use Rattle.model.specs.declared.UsageFlags.{UsageFlags}
-use Rattle.model.specs.Base.{every, All}
-use Rattle.model.specs.Flags.{meets, oneBit, incompatible}
-use Rattle.agreement.specs.WebGpu.{Renders, Usage, input, constant, storage, storageRead, attachment, attachmentRead, reads, isStorage, isAttachment, oneElement, compatibleList, sameBit, usesFit}
+use Rattle.model.specs.Prelude.{ℕ, _<_, arith, _≡_, refl, sym, ap, _∙_, Bool, true, false, _&&_, _||_, not, and-eq-true-iff, List, [], _∷_}
+use Rattle.model.specs.Prelude.{_++_, map, eqb, bitAnd, bitOr, or-zero-l, or-zero-r, or-comm, or-self, or-lt, eqb-true, eqb-false, eq-eqb}
+use Rattle.model.specs.Prelude.{ne-eqb}
+use Rattle.model.specs.{declared.UsageFlags.UsageFlags, Base.{every, All}, Flags.{meets, oneBit, incompatible}}
+use Rattle.agreement.specs.WebGpu.{Renders, Usage, input, constant, storage, storageRead, attachment, attachmentRead, reads}
+use Rattle.agreement.specs.WebGpu.{isStorage, isAttachment, oneElement, compatibleList, sameBit, usesFit}
 use Rattle.usage.specs.BitLaws.{and-or, or-zero, or-assoc, in-one-bit}
+use lib.Count.{onesIn}
 
 -- a use as it passes the checks: of sixteen bits, nonzero, without UNKNOWN
 pub record UseFits (p : UsageFlags) (st : ℕ) : Type 0 where

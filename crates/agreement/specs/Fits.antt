@@ -1,21 +1,8 @@
 -- Well-formed sets as records, field by field: what the proofs go by. Decides proves that the test of model (WellFormed) decides them.
-use mathlib.Core.Bool.{Bool, true, false}
-use mathlib.Core.List.{List, map}
-use mathlib.Core.Path.{_≡_}
-use Prim.Native.Nat.{ℕ, _≤_, _<_}
-use lib.Bits.{bitAnd}
-use lib.Dec.{eqb}
-use lib.ListN.{length}
-use Rattle.model.specs.declared.Extent.{Extent}
-use Rattle.model.specs.declared.Range.{Range}
-use Rattle.model.specs.declared.UsageFlags.{UsageFlags}
-use Rattle.model.specs.Flags.{incompatible, flagsFit}
-use Rattle.model.specs.Representation.{Ends}
-use Rattle.model.specs.Sets.{Numbers, Slot, Set, Tracker, numbersFit}
-use Rattle.model.specs.Calls.{Sets}
-use Rattle.model.specs.RangedStates.{Tiles}
-use Rattle.model.specs.Texture.{Held, single, many, ranged}
-use Rattle.model.specs.Base.{All}
+use Rattle.model.specs.Prelude.{ℕ, _≤_, _<_, _≡_, Bool, true, false, List, map, eqb, bitAnd, length}
+use Rattle.model.specs.{declared.{Extent.Extent, Range.Range, UsageFlags.UsageFlags}, Flags.{incompatible, flagsFit}, Representation.Ends}
+use Rattle.model.specs.{Sets.{Numbers, Slot, Set, Tracker, numbersFit}, Calls.Sets, RangedStates.Tiles}
+use Rattle.model.specs.{Texture.{Held, single, many, ranged}, Base.All}
 use Rattle.agreement.specs.Shared.{gridOf}
 
 -- "states nonzero, compatible, without COMPLEX", of sixteen bits

@@ -1,19 +1,10 @@
 -- The grid model: 01, "Sheet rules". Each comment quotes the words of 01 that a definition renders; 01's words for it are: sheet for the grid, cell for a
 -- subresource, mark for the flag `single`, whole and parted for Single and Many, clash for a conflict, shape for an extent.
-use mathlib.Core.Bool.{Bool, true, false, _&&_, not}
-use mathlib.Core.List.{List, [], _∷_, _++_, map}
-use mathlib.Core.Option.{Option, none, some}
-use Prim.Native.Nat.{ℕ, zero, suc, _-_}
-use lib.Bits.{bitAnd, bitOr, bitXor}
-use lib.Dec.{eqb}
-use lib.ListN.{replicate}
-use Rattle.model.specs.declared.Extent.{Extent}
-use Rattle.model.specs.declared.Selector.{Selector}
-use Rattle.model.specs.declared.UsageFlags.{UsageFlags}
-use Rattle.model.specs.Base.{if_then_else_, Stop, fine, ruled, orKeep, walk₂, zip₂, zip₃}
-use Rattle.model.specs.Flags.{incompatible}
-use Rattle.model.specs.Representation.{layerStart, layerEnd, isFull, inMips, Ends, Representation}
-use Rattle.model.specs.StateRules.{Move}
+use Rattle.model.specs.Prelude.{ℕ, zero, suc, _-_, Bool, true, false, _&&_, not, Option, none, some, List, [], _∷_, _++_, map, eqb, bitAnd}
+use Rattle.model.specs.Prelude.{bitOr, bitXor, replicate}
+use Rattle.model.specs.declared.{Extent.Extent, Selector.Selector, UsageFlags.UsageFlags}
+use Rattle.model.specs.{Base.{if_then_else_, Stop, fine, ruled, orKeep, walk₂, zip₂, zip₃}, Flags.incompatible}
+use Rattle.model.specs.{Representation.{layerStart, layerEnd, isFull, inMips, Ends, Representation}, StateRules.Move}
 use Rattle.model.specs.Subresources.{everywhere}
 
 -- ---- A texture: "a mark where a texture is held whole", and "one state for each mip and layer (a cell)", mip by mip

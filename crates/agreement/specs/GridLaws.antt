@@ -1,12 +1,7 @@
 -- Lists of rows: what holds of every subresource of a grid, and grids that are made from another.
-use mathlib.Core.List.{List, [], _∷_, map, _++_}
-use mathlib.Core.Path.{_≡_, refl, ap, _∙_, sym}
-use lib.ListN.{replicate, length, take, drop, take-append-drop, length-take, length-drop}
-use Prim.Native.Nat.{ℕ, suc, _-_, _≤_}
-use native.Mathlib.Omega.{arith}
-use Rattle.model.specs.declared.Extent.{Extent}
-use Rattle.model.specs.Base.{zip₂, Stop, fine, walk₂, All}
-use Rattle.model.specs.Subresources.{everywhere}
+use Rattle.model.specs.Prelude.{ℕ, suc, _-_, _≤_, arith, _≡_, refl, ap, _∙_, sym, List, [], _∷_, map, _++_, replicate, length, take, drop}
+use Rattle.model.specs.Prelude.{take-append-drop, length-take, length-drop}
+use Rattle.model.specs.{declared.Extent.Extent, Base.{zip₂, Stop, fine, walk₂, All}, Subresources.everywhere}
 use Rattle.model.specs.ListLaws.{all-map, all-replicate, map-replicate}
 
 pub all-of : {A : Type 0} (P : A → Type 0) → ((x : A) → P x) → (s : List A) → All P s

@@ -1,41 +1,21 @@
 -- Scopes with their histories: their states are the grid's, and each subresource's state less UNKNOWN is the union of the uses that it has taken.
-use mathlib.Core.Bool.{Bool, true, false, _||_, false≢true}
-use mathlib.Core.List.{List, [], _∷_, _++_, map}
-use mathlib.Core.Option.{Option, none, some, Option·map}
-use mathlib.Core.Path.{_≡_, refl, sym, ap, ap₂, _∙_}
-use Prim.Native.Nat.{ℕ, zero, suc, _-_, _+_, _*_, _/_, _%_}
-use native.Mathlib.Omega.{arith}
-use lib.Arith.{bin-ind}
-use lib.Bits.{and-step, or-step, and-le-r, bitAnd, bitOr, and-comm, and-self, or-zero-r}
-use lib.Dec.{eqb}
-use lib.ListN.{getD}
-use borrow.Author.Tests.{eqb-true, eqb-false, not-false}
-use Rattle.model.specs.declared.Extent.{Extent}
-use Rattle.model.specs.declared.Selector.{Selector}
-use Rattle.model.specs.declared.UsageFlags.{UsageFlags}
-use Rattle.model.specs.Base.{if_then_else_, Stop, ruled, orKeep, onward, walk₂, All, AllO}
-use Rattle.model.specs.Flags.{meets, incompatible, flagsFit}
-use Rattle.model.specs.Representation.{Ends}
-use Rattle.model.specs.Sets.{Head}
-use Rattle.model.specs.Refusals.{textureChecks, selectorChecks, stateChecks, singleRefusal}
-use Rattle.model.specs.StateRules.{less}
-use Rattle.model.specs.ListLaws.{all-right, all-join}
-use Rattle.model.specs.BoolLaws.{neither, by-test₂}
-use Rattle.model.specs.CheckLaws.{passed}
-use Rattle.agreement.specs.Grid.{Grid, Named, SubresourceConflict, without, singleUnion, manyUnion, uniteState, uniteStates, namedOr, namedUse, namedAll, gridInsert, gridMerge, gridBarrier, gridUpdate, grid}
-use Rattle.agreement.specs.Shared.{gridAt}
+use Rattle.model.specs.Prelude.{ℕ, zero, suc, _-_, _+_, _*_, _/_, _%_, arith, _≡_, refl, sym, ap, ap₂, _∙_, Bool, true, false, _||_}
+use Rattle.model.specs.Prelude.{false≢true, Option, none, some, Option·map, List, [], _∷_, _++_, map, eqb, and-step, or-step, and-le-r}
+use Rattle.model.specs.Prelude.{bitAnd, bitOr, and-comm, and-self, or-zero-r, getD, eqb-true, eqb-false, not-false}
+use Rattle.model.specs.declared.{Extent.Extent, Selector.Selector, UsageFlags.UsageFlags}
+use Rattle.model.specs.{Base.{if_then_else_, Stop, ruled, orKeep, onward, walk₂, All, AllO}, Flags.{meets, incompatible, flagsFit}}
+use Rattle.model.specs.{Representation.Ends, Sets.Head, Refusals.{textureChecks, selectorChecks, stateChecks, singleRefusal}}
+use Rattle.model.specs.{StateRules.less, ListLaws.{all-right, all-join}, BoolLaws.{neither, by-test₂}, CheckLaws.passed}
+use Rattle.agreement.specs.Grid.{Grid, Named, SubresourceConflict, without, singleUnion, manyUnion, uniteState, uniteStates, namedOr}
+use Rattle.agreement.specs.{Grid.{namedUse, namedAll, gridInsert, gridMerge, gridBarrier, gridUpdate, grid}, Shared.gridAt}
 use Rattle.agreement.specs.WellFormedSets.{Word}
-use Rattle.agreement.specs.WebGpu.{History, Histories, HandedIn, oneUse, handUse, handAll, historyInsert, takeState, takeStates, historyMerge, statesOf, named, bare, histories}
+use Rattle.agreement.specs.WebGpu.{History, Histories, HandedIn, oneUse, handUse, handAll, historyInsert, takeState, takeStates}
+use Rattle.agreement.specs.{WebGpu.{historyMerge, statesOf, named, bare, histories}, WalkLaws.Sim, RulesAgree.less-without}
+use Rattle.agreement.specs.{LiftScope.Textures, LiftTracker.Tracks, WellStates.{FlagFacts, walk₂-all, use-all, sure-flags}}
+use Rattle.agreement.specs.{FitLaws.{UseFits, unionOf, union-append}, BarrierLaws.at-most-one}
+use Rattle.agreement.specs.{GridLaws.{GridAll, grid-map, grid-everywhere, grid-square, grid-back}, Agree.full-grid}
 use Rattle.usage.specs.BitLaws.{and-or, or-zero, or-half, or-odd}
-use Rattle.agreement.specs.WalkLaws.{Sim}
-use Rattle.agreement.specs.RulesAgree.{less-without}
-use Rattle.agreement.specs.LiftScope.{Textures}
-use Rattle.agreement.specs.LiftTracker.{Tracks}
-use Rattle.agreement.specs.WellStates.{FlagFacts, walk₂-all, use-all, sure-flags}
-use Rattle.agreement.specs.FitLaws.{UseFits, unionOf, union-append}
-use Rattle.agreement.specs.BarrierLaws.{at-most-one}
-use Rattle.agreement.specs.GridLaws.{GridAll, grid-map, grid-everywhere, grid-square, grid-back}
-use Rattle.agreement.specs.Agree.{full-grid}
+use lib.Arith.{bin-ind}
 
 -- ---- less UNKNOWN
 less-half : (u s : ℕ) → less u s / 2 ≡ less (u / 2) (s / 2)

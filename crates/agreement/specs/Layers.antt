@@ -1,13 +1,6 @@
 -- The layers of a list of ranges: how many they are, and those that it covers; and a texture whose ranges add up, mip by mip, to its layers.
-use mathlib.Core.Bool.{Bool, false, _&&_, _||_}
-use mathlib.Core.List.{List, [], _∷_}
-use mathlib.Core.Path.{_≡_}
-use Prim.Native.Nat.{ℕ, _+_, _-_}
-use lib.Dec.{leb, ltb}
-use Rattle.model.specs.declared.Extent.{Extent}
-use Rattle.model.specs.declared.Range.{Range}
-use Rattle.model.specs.Texture.{Held, single, many}
-use Rattle.model.specs.Base.{All}
+use Rattle.model.specs.Prelude.{ℕ, _+_, _-_, _≡_, Bool, false, _&&_, _||_, List, [], _∷_, leb, ltb}
+use Rattle.model.specs.{declared.{Extent.Extent, Range.Range}, Texture.{Held, single, many}, Base.All}
 use Rattle.agreement.specs.LogBound.{sumFrom, oneIf}
 
 -- a layer lies in a range of the list

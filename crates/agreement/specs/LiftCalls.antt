@@ -1,25 +1,13 @@
 -- From one texture to any list of calls on any sets, for any two representations.
-use mathlib.Core.Bool.{true}
-use mathlib.Core.List.{List, [], _∷_, _++_, map}
-use mathlib.Core.Option.{Option, none, some, Option·map}
-use mathlib.Core.Path.{_≡_, refl, ap, _∙_}
-use Prim.Native.Nat.{ℕ, _≤_}
-use native.Mathlib.Omega.{arith}
-use lib.Dec.{eqb}
-use lib.ListN.{length, set, getElem?}
-use Rattle.model.specs.declared.Extent.{Extent}
-use Rattle.model.specs.declared.Refusal.{Refusal}
-use Rattle.model.specs.declared.UsageFlags.{UsageFlags}
-use Rattle.model.specs.Base.{if_then_else_, each, All, AllO}
-use Rattle.model.specs.Representation.{Representation, Ends}
-use Rattle.model.specs.Sets.{Set, Tracker, Opening, openSet, openTracker}
-use Rattle.model.specs.Refusals.{opens}
-use Rattle.model.specs.Calls.{Answer, CallResult, Call, callMergeSingle, callMergeUsageScope, callSetSingle, callSetFromUsageScope, callSetFromTracker, callSetAndRemoveSparse, Sets, step, newly, into, withScopes, withTrackers, nothing, with₁, with₂, setAndRemoveSparse}
-use Rattle.model.specs.StateRules.{Move}
-use Rattle.model.specs.BoolLaws.{by-test₂}
+use Rattle.model.specs.Prelude.{ℕ, _≤_, arith, _≡_, refl, ap, _∙_, true, Option, none, some, Option·map, List, [], _∷_, _++_, map, eqb}
+use Rattle.model.specs.Prelude.{length, set, getElem?}
+use Rattle.model.specs.{declared.{Extent.Extent, Refusal.Refusal, UsageFlags.UsageFlags}, Base.{if_then_else_, each, All, AllO}}
+use Rattle.model.specs.{Representation.{Representation, Ends}, Sets.{Set, Tracker, Opening, openSet, openTracker}, Refusals.opens}
+use Rattle.model.specs.Calls.{Answer, CallResult, Call, callMergeSingle, callMergeUsageScope, callSetSingle, callSetFromUsageScope}
+use Rattle.model.specs.Calls.{callSetFromTracker, callSetAndRemoveSparse, Sets, step, newly, into, withScopes, withTrackers, nothing, with₁}
+use Rattle.model.specs.{Calls.{with₂, setAndRemoveSparse}, StateRules.Move, BoolLaws.by-test₂}
 use Rattle.model.specs.ListLaws.{all-set, all-elem, elem-map, set-map}
-use Rattle.agreement.specs.Shared.{afterCalls, ofIndex}
-use Rattle.agreement.specs.Fits.{SetFits}
+use Rattle.agreement.specs.{Shared.{afterCalls, ofIndex}, Fits.SetFits}
 use Rattle.agreement.specs.SlotLaws.{imageSet, imageEnds, imageTracker, open-image, open-fits}
 use Rattle.agreement.specs.LiftScope.{Textures, Matches, mapAnswer, single-sim, scope-sim}
 use Rattle.agreement.specs.LiftTracker.{Tracks, MatchesT, plain, single-set, from-set, sparse-set}

@@ -1,25 +1,13 @@
 -- From one texture to the sets of any two representations: where the rules for a texture agree, the two merges do.
-use mathlib.Core.Bool.{true}
-use mathlib.Core.List.{List, [], _∷_}
-use mathlib.Core.Option.{Option, none, some, Option·map}
-use mathlib.Core.Path.{_≡_, refl, ap, _∙_}
-use Prim.Native.Nat.{ℕ, suc}
-use lib.ListN.{set}
-use Rattle.model.specs.declared.Extent.{Extent}
-use Rattle.model.specs.declared.Selector.{Selector}
-use Rattle.model.specs.declared.UsageFlags.{UsageFlags}
-use Rattle.model.specs.Base.{Stop, walk₂, All}
-use Rattle.model.specs.Flags.{flagsFit}
-use Rattle.model.specs.Representation.{Representation}
-use Rattle.model.specs.Sets.{Numbers, Slot, Set, Head, headOf, slotAt, withSlots}
+use Rattle.model.specs.Prelude.{ℕ, suc, _≡_, refl, ap, _∙_, true, Option, none, some, Option·map, List, [], _∷_, set}
+use Rattle.model.specs.{declared.{Extent.Extent, Selector.Selector, UsageFlags.UsageFlags}, Base.{Stop, walk₂, All}, Flags.flagsFit}
+use Rattle.model.specs.{Representation.Representation, Sets.{Numbers, Slot, Set, Head, headOf, slotAt, withSlots}}
 use Rattle.model.specs.Refusals.{singleRefusal, setRefusal}
-use Rattle.model.specs.Calls.{owning, Indexed, Answer, done, refused, inConflict, answer, CallResult, mergeSlot, mergeGiven, mergeSingle, mergeUsageScope}
-use Rattle.model.specs.BoolLaws.{by-test₂}
-use Rattle.model.specs.ListLaws.{set-map}
-use Rattle.agreement.specs.Shared.{gridSlots}
-use Rattle.agreement.specs.WalkLaws.{Sim, Sims, onward-sim, onward-all, walk-length}
-use Rattle.agreement.specs.Fits.{SlotFits, SetFits}
-use Rattle.agreement.specs.SlotLaws.{unless-by₂, imageSlot, imageSet, extents-image, slot-image, slot-fits, put-slots, put-slot, At, single-at, flags-same, each-owned}
+use Rattle.model.specs.Calls.{owning, Indexed, Answer, done, refused, inConflict, answer, CallResult, mergeSlot, mergeGiven, mergeSingle}
+use Rattle.model.specs.{Calls.mergeUsageScope, BoolLaws.by-test₂, ListLaws.set-map}
+use Rattle.agreement.specs.{Shared.gridSlots, WalkLaws.{Sim, Sims, onward-sim, onward-all, walk-length}, Fits.{SlotFits, SetFits}}
+use Rattle.agreement.specs.SlotLaws.{unless-by₂, imageSlot, imageSet, extents-image, slot-image, slot-fits, put-slots, put-slot, At}
+use Rattle.agreement.specs.SlotLaws.{single-at, flags-same, each-owned}
 
 abbrev mapConflict : {C D : Type 0} → (C → D) → Indexed C → Indexed D
 mapConflict cl c = record { index = c .index; what = cl (c .what) }

@@ -1,31 +1,17 @@
 -- From one texture to the trackers of any two representations: the four tracker calls, with the transitions of each subresource.
-use mathlib.Core.Bool.{Bool, true, false, false≢true, true≢false}
-use mathlib.Core.List.{List, [], _∷_, _++_, append-nil}
-use mathlib.Core.Option.{Option, none, some}
-use mathlib.Core.Path.{_≡_, refl, sym, ap, _∙_}
-use Prim.Native.Nat.{ℕ, zero, suc, _≤_}
-use native.Mathlib.Omega.{arith}
-use lib.Dec.{eqb, leb}
-use lib.ListN.{length, getD, set, List·getD-map}
-use lib.Seq.{getD-set-other}
-use borrow.Author.Tests.{eqb-true, not-false, ne-eqb, lt-leb, leb-false}
-use Rattle.model.specs.declared.Extent.{Extent}
-use Rattle.model.specs.declared.Refusal.{Refusal}
-use Rattle.model.specs.declared.Selector.{Selector}
-use Rattle.model.specs.declared.UsageFlags.{UsageFlags}
-use Rattle.model.specs.Base.{each, over₂, eachAt₂, All}
-use Rattle.model.specs.Flags.{flagsFit}
-use Rattle.model.specs.Representation.{Representation, Ends}
+use Rattle.model.specs.Prelude.{ℕ, zero, suc, _≤_, arith, _≡_, refl, sym, ap, _∙_, Bool, true, false, false≢true, true≢false, Option, none}
+use Rattle.model.specs.Prelude.{some, List, [], _∷_, _++_, append-nil, eqb, leb, length, getD, set, List·getD-map, getD-set-other, eqb-true}
+use Rattle.model.specs.Prelude.{not-false, ne-eqb, lt-leb, leb-false}
+use Rattle.model.specs.declared.{Extent.Extent, Refusal.Refusal, Selector.Selector, UsageFlags.UsageFlags}
+use Rattle.model.specs.{Base.{each, over₂, eachAt₂, All}, Flags.flagsFit, Representation.{Representation, Ends}}
 use Rattle.model.specs.Sets.{Numbers, Slot, Set, Tracker, Head, headOf, ownExtent, emptySlot, slotAt, withSlots, withTracker}
 use Rattle.model.specs.Refusals.{sparseChecks, textureChecks, ownedChecks, singleRefusal, setRefusal, sparseRefusal}
-use Rattle.model.specs.Calls.{owning, Indexed, Answer, done, refused, CallResult, setSlot, logSlot, setSingle, setGiven, logGiven, setFrom, sparseAll, setAndRemoveSparse, noEnds}
-use Rattle.model.specs.StateRules.{Move}
-use Rattle.model.specs.BoolLaws.{by-test, by-test₂, by-eq}
-use Rattle.model.specs.ListLaws.{all-weak, all-left, all-right, set-map, each-append}
-use Rattle.model.specs.CheckLaws.{Passed, passed, same-flags}
-use Rattle.agreement.specs.Shared.{ofIndex, gridSlots}
-use Rattle.agreement.specs.Fits.{SlotFits, SetFits}
-use Rattle.agreement.specs.SlotLaws.{unless-by₂, imageSlot, imageSet, imageEnds, imageTracker, extents-image, slot-image, no-owner, slot-fits, put-slots, put-slot, At, texture-at, single-at, flags-same, each-owned}
+use Rattle.model.specs.Calls.{owning, Indexed, Answer, done, refused, CallResult, setSlot, logSlot, setSingle, setGiven, logGiven, setFrom}
+use Rattle.model.specs.{Calls.{sparseAll, setAndRemoveSparse, noEnds}, StateRules.Move, BoolLaws.{by-test, by-test₂, by-eq}}
+use Rattle.model.specs.{ListLaws.{all-weak, all-left, all-right, set-map, each-append}, CheckLaws.{Passed, passed, same-flags}}
+use Rattle.agreement.specs.{Shared.{ofIndex, gridSlots}, Fits.{SlotFits, SetFits}}
+use Rattle.agreement.specs.SlotLaws.{unless-by₂, imageSlot, imageSet, imageEnds, imageTracker, extents-image, slot-image, no-owner}
+use Rattle.agreement.specs.SlotLaws.{slot-fits, put-slots, put-slot, At, texture-at, single-at, flags-same, each-owned}
 
 -- ---- logs
 -- two logs tell the same of each subresource, at most one transition each, and only of the indices in `has`

@@ -1,16 +1,8 @@
 -- How many entries a call adds to the log, and how many subresources it names; demand 3: "Before each call the logs are emptied and given a free entry for every cell.".
-use mathlib.Core.Bool.{Bool, true, false}
-use mathlib.Core.List.{List, [], _∷_}
-use mathlib.Core.Option.{Option, none, some}
-use Prim.Native.Nat.{ℕ, zero, suc, _+_, _*_}
-use lib.Dec.{eqb}
-use lib.ListN.{length, getElem?}
-use Rattle.model.specs.declared.Extent.{Extent}
-use Rattle.model.specs.Base.{if_then_else_}
-use Rattle.model.specs.Representation.{holds}
-use Rattle.model.specs.Sets.{Slot, Set, Tracker, capacity}
-use Rattle.model.specs.Calls.{Indexed, Sets, Call, callMergeSingle, callMergeUsageScope, callSetSingle, callSetFromUsageScope, callSetFromTracker, callSetAndRemoveSparse}
-use Rattle.model.specs.Texture.{Held, Entry, ranged}
+use Rattle.model.specs.Prelude.{ℕ, zero, suc, _+_, _*_, Bool, true, false, Option, none, some, List, [], _∷_, eqb, length, getElem?}
+use Rattle.model.specs.{declared.Extent.Extent, Base.if_then_else_, Representation.holds, Sets.{Slot, Set, Tracker, capacity}}
+use Rattle.model.specs.Calls.{Indexed, Sets, Call, callMergeSingle, callMergeUsageScope, callSetSingle, callSetFromUsageScope}
+use Rattle.model.specs.{Calls.{callSetFromTracker, callSetAndRemoveSparse}, Texture.{Held, Entry, ranged}}
 
 -- f k + f (k + 1) + .., n of them
 abbrev pub sumFrom : (ℕ → ℕ) → ℕ → ℕ → ℕ

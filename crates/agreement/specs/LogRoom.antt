@@ -1,46 +1,30 @@
 -- The entries that one call adds are no more than the subresources that it names, nor than those that its tracker owns, so a log with a free entry for each never refuses it.
-use mathlib.Core.Bool.{Bool, true, false, _&&_, and-eq-true-iff, false≢true, true≢false}
-use mathlib.Core.List.{List, [], _∷_, _++_, map}
-use mathlib.Core.Option.{Option, none, some}
-use mathlib.Core.Path.{_≡_, refl, _∙_, sym, ap}
-use Prim.Native.Nat.{ℕ, zero, suc, _+_, _*_, _≤_, _<_}
-use native.Mathlib.Decide.{ℕ-discrete}
-use native.Mathlib.Nat.{le-trans, zero-add, mul-le-mul, mul-assoc, suc-mul}
-use native.Mathlib.Omega.{arith}
-use lib.Dec.{ltb, eqb}
-use lib.ListN.{length, getD, set, getElem?, length-append, length-map}
-use borrow.Author.Tests.{le-leb, lt-ltb, ltb-true, eq-eqb, ne-eqb, not-false, ltb-false, le-ltb}
-use Rattle.model.specs.declared.Extent.{Extent}
-use Rattle.model.specs.declared.InvalidUse.{InvalidUse}
-use Rattle.model.specs.declared.Range.{Range}
+use Rattle.model.specs.Prelude.{ℕ, zero, suc, _+_, _*_, _≤_, _<_, le-trans, zero-add, mul-le-mul, mul-assoc, suc-mul, ℕ-discrete, arith}
+use Rattle.model.specs.Prelude.{_≡_, refl, _∙_, sym, ap, Bool, true, false, _&&_, and-eq-true-iff, false≢true, true≢false, Option, none}
+use Rattle.model.specs.Prelude.{some, List, [], _∷_, _++_, map, ltb, eqb, length, getD, set, getElem?, length-append, length-map, le-leb}
+use Rattle.model.specs.Prelude.{lt-ltb, ltb-true, eq-eqb, ne-eqb, not-false, ltb-false, le-ltb}
 use Rattle.model.specs.declared.Refusal.the-variants.{NoFreeEntry}
-use Rattle.model.specs.declared.Selector.{Selector}
-use Rattle.model.specs.declared.UsageFlags.{UsageFlags}
-use Rattle.model.specs.Base.{if_then_else_, eachAt₂, zip₂, All}
-use Rattle.model.specs.Representation.{select, full, inMips, holds, Ends}
-use Rattle.model.specs.StateRules.{Move, moveOf}
-use Rattle.model.specs.RangedStates.{iterFilter, Tiles}
-use Rattle.model.specs.Texture.{Held, single, many, Given, givenSingle, givenMany, Piece, Entry, entry, mipEntries, barrier, ranged, fromUse, fromHeld}
-use Rattle.model.specs.ListLaws.{all-each, all-eachAt, elem-of}
-use Rattle.model.specs.BoolLaws.{by-test, by-test₂, neither}
-use Rattle.model.specs.RangeLaws.{tiles-le}
-use Rattle.model.specs.Sets.{Numbers, Slot, Set, Tracker, headOf, emptySlot, slotAt, capacity}
+use Rattle.model.specs.declared.{Extent.Extent, InvalidUse.InvalidUse, Range.Range, Selector.Selector, UsageFlags.UsageFlags}
+use Rattle.model.specs.{Base.{if_then_else_, eachAt₂, zip₂, All}, Representation.{select, full, inMips, holds, Ends}}
+use Rattle.model.specs.{StateRules.{Move, moveOf}, RangedStates.{iterFilter, Tiles}}
+use Rattle.model.specs.Texture.{Held, single, many, Given, givenSingle, givenMany, Piece, Entry, entry, mipEntries, barrier, ranged}
+use Rattle.model.specs.{Texture.{fromUse, fromHeld}, ListLaws.{all-each, all-eachAt, elem-of}, BoolLaws.{by-test, by-test₂, neither}}
+use Rattle.model.specs.{RangeLaws.tiles-le, Sets.{Numbers, Slot, Set, Tracker, headOf, emptySlot, slotAt, capacity}}
 use Rattle.model.specs.Refusals.{singleRefusal, setRefusal, sparseRefusal, check}
-use Rattle.model.specs.Calls.{Indexed, CallResult, setSlot, logSlot, setSingle, logGiven, setFrom, noEnds, sparseAll, setAndRemoveSparse, Call, callMergeSingle, callMergeUsageScope, callSetSingle, callSetFromUsageScope, callSetFromTracker, callSetAndRemoveSparse, Sets, into, with₁, with₂, withScopes, withTrackers, mergeSingle, mergeUsageScope, step, Answer, done, refused, inConflict}
-use Rattle.model.specs.CheckLaws.{passed}
+use Rattle.model.specs.Calls.{Indexed, CallResult, setSlot, logSlot, setSingle, logGiven, setFrom, noEnds, sparseAll, setAndRemoveSparse}
+use Rattle.model.specs.Calls.{Call, callMergeSingle, callMergeUsageScope, callSetSingle, callSetFromUsageScope, callSetFromTracker}
+use Rattle.model.specs.Calls.{callSetAndRemoveSparse, Sets, into, with₁, with₂, withScopes, withTrackers, mergeSingle, mergeUsageScope}
+use Rattle.model.specs.{Calls.{step, Answer, done, refused, inConflict}, CheckLaws.passed}
 use Rattle.model.specs.Log.{Log, pendingOf, pending, headCheck, unlessLogged, refusalOf, added, logging}
 use Rattle.agreement.specs.Grid.{Named, Grid, namedTransition, gridBarrier, namedUse, namedAll, grid, tab, namedRow}
-use Rattle.agreement.specs.Shared.{entriesAt, gridOf, gridEnds, toList, gridAt}
-use Rattle.agreement.specs.WellFormedSets.{Word, GivenWord, wellFormed}
-use Rattle.agreement.specs.LogBound.{sumFrom, oneIf, countStates, allStates, entries, slotStates, ownedStates, listed, listedStates, ofScope, ofTracker, namedStates, ownedOf, trackerCapacity, capacityOf}
+use Rattle.agreement.specs.{Shared.{entriesAt, gridOf, gridEnds, toList, gridAt}, WellFormedSets.{Word, GivenWord, wellFormed}}
+use Rattle.agreement.specs.LogBound.{sumFrom, oneIf, countStates, allStates, entries, slotStates, ownedStates, listed, listedStates}
+use Rattle.agreement.specs.LogBound.{ofScope, ofTracker, namedStates, ownedOf, trackerCapacity, capacityOf}
 use Rattle.agreement.specs.TextureLaws.{Measured, Fit, Gives, gives-place, gives-set}
-use Rattle.agreement.specs.BarrierLaws.{lookup-place, orNone, at-most-one}
-use Rattle.agreement.specs.Fits.{SlotFits, SetFits, SetsFit, EndsFit}
-use Rattle.agreement.specs.SlotLaws.{unless-by, slot-fits, At, single-at, flags-same, each-owned}
-use Rattle.agreement.specs.LiftTracker.{each-listed}
-use Rattle.agreement.specs.WellLaws.{FitW, FitEW, PairsW, trackers-well, well-good, WellTracker, WellScope, TakenW, trackerAfter, scopeAfter}
-use Rattle.agreement.specs.CallsAgree.{sets-to}
-use Rattle.agreement.specs.OwnRefusals.{own-refusals}
+use Rattle.agreement.specs.{BarrierLaws.{lookup-place, orNone, at-most-one}, Fits.{SlotFits, SetFits, SetsFit, EndsFit}}
+use Rattle.agreement.specs.{SlotLaws.{unless-by, slot-fits, At, single-at, flags-same, each-owned}, LiftTracker.each-listed}
+use Rattle.agreement.specs.WellLaws.{FitW, FitEW, PairsW, trackers-well, well-good, WellTracker, WellScope, TakenW, trackerAfter}
+use Rattle.agreement.specs.{WellLaws.scopeAfter, CallsAgree.sets-to, OwnRefusals.own-refusals}
 
 -- ---- sums
 sum-add : (f g : ℕ → ℕ) (k n : ℕ) → sumFrom (λ i. f i + g i) k n ≡ sumFrom f k n + sumFrom g k n

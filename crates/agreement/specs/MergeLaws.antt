@@ -1,23 +1,12 @@
 -- One use merged into a Many texture: the ranges and the grid's subresources go the same way.
-use mathlib.Core.Bool.{Bool, true, false}
-use mathlib.Core.List.{List, [], _∷_, _++_}
-use mathlib.Core.Option.{Option, none, some, Option·map}
-use mathlib.Core.Path.{_≡_, refl, _∙_}
-use Prim.Native.Nat.{ℕ, zero, suc, _-_, _+_, _≤_, _<_}
-use native.Mathlib.Omega.{arith}
-use lib.ListN.{replicate, length, length-replicate, replicate-append-replicate}
-use Rattle.model.specs.declared.Extent.{Extent}
-use Rattle.model.specs.declared.InvalidUse.{InvalidUse}
-use Rattle.model.specs.declared.Range.{Range}
-use Rattle.model.specs.declared.UsageFlags.{UsageFlags}
+use Rattle.model.specs.Prelude.{ℕ, zero, suc, _-_, _+_, _≤_, _<_, arith, _≡_, refl, _∙_, Bool, true, false, Option, none, some, Option·map}
+use Rattle.model.specs.Prelude.{List, [], _∷_, _++_, replicate, length, length-replicate, replicate-append-replicate}
+use Rattle.model.specs.declared.{Extent.Extent, InvalidUse.InvalidUse, Range.Range, UsageFlags.UsageFlags}
 use Rattle.model.specs.Base.{if_then_else_, Stop, fine, stopped, ruled, andThen, onward, walk, walk₂, All}
-use Rattle.model.specs.Representation.{select, inMips}
-use Rattle.model.specs.StateRules.{uniteKnown}
-use Rattle.model.specs.RangedStates.{Cut, isolate, inState, layerStates, Tiles}
+use Rattle.model.specs.{Representation.{select, inMips}, StateRules.uniteKnown, RangedStates.{Cut, isolate, inState, layerStates, Tiles}}
 use Rattle.model.specs.Texture.{Piece, invalidUse, mergeRange, mergeMip, settled}
 use Rattle.model.specs.RangeLaws.{Same, coalesce-same, Cuts, isolate-cuts, tiles-le, states-append, tiles-append, tiles-length}
-use Rattle.agreement.specs.Grid.{SubresourceConflict, uniteState, band, namedRow}
-use Rattle.agreement.specs.Shared.{firstOf}
+use Rattle.agreement.specs.{Grid.{SubresourceConflict, uniteState, band, namedRow}, Shared.firstOf}
 use Rattle.agreement.specs.WalkLaws.{joinStop, walk-append, RunsOf, row-parts-of, unnamed-of}
 
 -- ---- equal subresources that are given one state

@@ -1,13 +1,7 @@
 -- An opening that is not refused has numbers and flags that fit.
-use mathlib.Core.Bool.{Bool, true, false, not, false≢true}
-use mathlib.Core.Option.{Option, some}
-use mathlib.Core.Path.{_≡_, refl}
-use Rattle.model.specs.declared.Refusal.{Refusal}
-use Rattle.model.specs.declared.Refusal.the-variants.{NumbersOutOfLimits, FlagsBreakRule}
-use Rattle.model.specs.Base.{if_then_else_}
-use Rattle.model.specs.Flags.{flagsFit}
-use Rattle.model.specs.Sets.{Opening, numbersFit}
-use Rattle.model.specs.Refusals.{firstFailing, openingRefusal, accepted, opens}
+use Rattle.model.specs.Prelude.{_≡_, refl, Bool, true, false, not, false≢true, Option, some}
+use Rattle.model.specs.{declared.Refusal.Refusal, declared.Refusal.the-variants.{NumbersOutOfLimits, FlagsBreakRule}, Base.if_then_else_}
+use Rattle.model.specs.{Flags.flagsFit, Sets.{Opening, numbersFit}, Refusals.{firstFailing, openingRefusal, accepted, opens}}
 
 first-two : (a b : Bool) (more : Option Refusal)
     → accepted (if not a then some NumbersOutOfLimits else if not b then some FlagsBreakRule else more) ≡ true → (a ≡ true) × (b ≡ true)

@@ -1,23 +1,14 @@
 -- None of the six calls refuses with 1 to 5, 14 or 15: 1 to 3 are of an opening, 4, 5 and 15 of what a call is handed, and 14 is of the calls on ranges.
-use mathlib.Core.List.{List, [], _∷_, _++_}
-use mathlib.Core.Option.{Option, none, some}
-use mathlib.Core.Path.{_≡_, refl, subst}
-use Prim.Native.Nat.{ℕ, suc}
-use lib.Dec.{eqb}
-use lib.ListN.{getElem?, getD}
-use mathlib.Core.Bool.{false}
-use Rattle.agreement.specs.LogBound.{listed}
-use Rattle.model.specs.declared.Extent.{Extent}
-use Rattle.model.specs.declared.Refusal.{Refusal}
-use Rattle.model.specs.declared.Selector.{Selector}
-use Rattle.model.specs.declared.UsageFlags.{UsageFlags}
-use Rattle.model.specs.Base.{each, eachAt, walk₂, All}
-use Rattle.model.specs.Representation.{Representation, Ends}
-use Rattle.model.specs.Sets.{Set, Tracker, Head, headOf, slotAt}
-use Rattle.model.specs.Refusals.{Check, firstFailing, numberOf, textureChecks, selectorChecks, stateChecks, ownedChecks, sparseChecks, singleRefusal, setRefusal, sparseRefusal}
-use Rattle.model.specs.Calls.{Indexed, Answer, done, refused, inConflict, answer, CallResult, unless, Result, Sets, into, with₁, with₂, Call, callMergeSingle, callMergeUsageScope, callSetSingle, callSetFromUsageScope, callSetFromTracker, callSetAndRemoveSparse, mergeSlot, mergeGiven, setFrom, sparseAll, step}
-use Rattle.model.specs.ListLaws.{all-join}
+use Rattle.model.specs.Prelude.{ℕ, suc, _≡_, refl, subst, false, Option, none, some, List, [], _∷_, _++_, eqb, getElem?, getD}
+use Rattle.model.specs.declared.{Extent.Extent, Refusal.Refusal, Selector.Selector, UsageFlags.UsageFlags}
+use Rattle.model.specs.{Base.{each, eachAt, walk₂, All}, Representation.{Representation, Ends}, Sets.{Set, Tracker, Head, headOf, slotAt}}
+use Rattle.model.specs.Refusals.{Check, firstFailing, numberOf, textureChecks, selectorChecks, stateChecks, ownedChecks, sparseChecks}
+use Rattle.model.specs.Refusals.{singleRefusal, setRefusal, sparseRefusal}
+use Rattle.model.specs.Calls.{Indexed, Answer, done, refused, inConflict, answer, CallResult, unless, Result, Sets, into, with₁, with₂}
+use Rattle.model.specs.Calls.{Call, callMergeSingle, callMergeUsageScope, callSetSingle, callSetFromUsageScope, callSetFromTracker}
+use Rattle.model.specs.{Calls.{callSetAndRemoveSparse, mergeSlot, mergeGiven, setFrom, sparseAll, step}, ListLaws.all-join}
 use Rattle.model.specs.BoolLaws.{by-test}
+use Rattle.agreement.specs.LogBound.{listed}
 
 abbrev Own : Refusal → Type 0
 Own r = listed (numberOf r) (1 ∷ 2 ∷ 3 ∷ 4 ∷ 5 ∷ 14 ∷ 15 ∷ []) ≡ false

@@ -1,19 +1,10 @@
 -- `paint`: the layers a .. e of ranges that tile take one state; and what the start's ranges of a mip learn where the end's are UNKNOWN.
-use mathlib.Core.Bool.{true, false}
-use mathlib.Core.List.{List, [], _∷_, _++_, map, append-assoc}
-use mathlib.Core.Path.{_≡_, refl, sym, ap, _∙_}
-use Prim.Native.Nat.{ℕ, _-_, _+_, _≤_, _<_, zero, suc}
-use native.Mathlib.Omega.{arith}
-use lib.Dec.{eqb}
-use lib.ListN.{replicate, replicate-append-replicate, length, take, drop, length-replicate, length-append, take-append-drop, length-take, length-drop}
-use lib.Seq.{take-at, drop-at}
-use Rattle.model.specs.declared.Range.{Range}
-use Rattle.model.specs.RangedStates.{coalesce, isolate, inState, paint, layerStates, Tiles}
+use Rattle.model.specs.Prelude.{ℕ, _-_, _+_, _≤_, _<_, zero, suc, arith, _≡_, refl, sym, ap, _∙_, true, false, List, [], _∷_, _++_, map}
+use Rattle.model.specs.Prelude.{append-assoc, eqb, replicate, replicate-append-replicate, length, take, drop, length-replicate}
+use Rattle.model.specs.Prelude.{length-append, take-append-drop, length-take, length-drop, take-at, drop-at}
+use Rattle.model.specs.{declared.Range.Range, RangedStates.{coalesce, isolate, inState, paint, layerStates, Tiles}}
 use Rattle.model.specs.RangeLaws.{isolate-cuts, coalesce-same, tiles-le, states-append, tiles-append, tiles-length}
-use Rattle.model.specs.Base.{if_then_else_, zip₂}
-use Rattle.model.specs.Texture.{learn}
-use Rattle.model.specs.BoolLaws.{by-test}
-use Rattle.model.specs.ListLaws.{zip-append}
+use Rattle.model.specs.{Base.{if_then_else_, zip₂}, Texture.learn, BoolLaws.by-test, ListLaws.zip-append}
 
 -- one list cut at one place in two ways
 pub split-left : (x y x′ y′ : List ℕ) → length x ≡ length x′ → x ++ y ≡ x′ ++ y′ → x ≡ x′

@@ -1,25 +1,15 @@
 -- Passes over a texture's mips, one for each piece that is handed in, are one walk over its subresources: for any S that holds a mip, seen as a list by `view`, with Ok for what holds of it.
-use mathlib.Core.Bool.{Bool, true, false, _&&_}
-use mathlib.Core.List.{List, [], _∷_, _++_, map, append-assoc, append-nil, map-append}
-use mathlib.Core.Option.{Option, none, some, Option·map}
-use mathlib.Core.Path.{_≡_, refl, sym, ap, _∙_}
-use Prim.Native.Nat.{ℕ, zero, suc, _-_, _+_, _≤_, _<_}
-use native.Mathlib.Omega.{arith}
-use lib.Dec.{leb, ltb}
-use lib.ListN.{replicate, length, length-replicate, length-append, take, drop, take-append-drop, length-take}
-use borrow.Author.Tests.{le-leb, lt-ltb, le-ltb, leb-true}
-use Rattle.model.specs.declared.Extent.{Extent}
-use Rattle.model.specs.declared.Range.{Range}
+use Rattle.model.specs.Prelude.{ℕ, zero, suc, _-_, _+_, _≤_, _<_, arith, _≡_, refl, sym, ap, _∙_, Bool, true, false, _&&_, Option, none}
+use Rattle.model.specs.Prelude.{some, Option·map, List, [], _∷_, _++_, map, append-assoc, append-nil, map-append, leb, ltb, replicate}
+use Rattle.model.specs.Prelude.{length, length-replicate, length-append, take, drop, take-append-drop, length-take, le-leb, lt-ltb, le-ltb}
+use Rattle.model.specs.Prelude.{leb-true}
+use Rattle.model.specs.declared.{Extent.Extent, Range.Range}
 use Rattle.model.specs.Base.{if_then_else_, eachAt, Stop, fine, andThen, passes, onward, walk, walk₂, All}
-use Rattle.model.specs.Representation.{select, inMips}
-use Rattle.model.specs.RangedStates.{layerStates, Tiles}
-use Rattle.model.specs.Texture.{Piece, piecesOf}
-use Rattle.model.specs.ListLaws.{all-left, all-right, all-join, all-both}
-use Rattle.model.specs.RangeLaws.{tiles-le}
+use Rattle.model.specs.{Representation.{select, inMips}, RangedStates.{layerStates, Tiles}, Texture.{Piece, piecesOf}}
+use Rattle.model.specs.{ListLaws.{all-left, all-right, all-join, all-both}, RangeLaws.tiles-le}
 use Rattle.agreement.specs.Grid.{band, tab, namedRow}
-use Rattle.agreement.specs.WalkLaws.{joinStop, walk-append, walk-length, walk-none, Sim, lockstep, unnamed-of, row-parts-of, RunsOf, GridsOf}
-use Rattle.agreement.specs.MergeLaws.{Tiled, one-pass}
-use Rattle.agreement.specs.GridLaws.{thirds}
+use Rattle.agreement.specs.WalkLaws.{joinStop, walk-append, walk-length, walk-none, Sim, lockstep, unnamed-of, row-parts-of, RunsOf}
+use Rattle.agreement.specs.{WalkLaws.GridsOf, MergeLaws.{Tiled, one-pass}, GridLaws.thirds}
 
 abbrev pub pieceAt : ℕ → Range → Piece
 pieceAt k r = record { selector = select k (suc k) (r .start) (r .end); state = r .state }

@@ -1,20 +1,8 @@
 -- Passes over the mips of ranged states: the general laws (Passes) where a mip is seen by its states and its ranges tile all layers.
-use mathlib.Core.List.{List, [], _∷_, map}
-use mathlib.Core.Option.{Option, some}
-use mathlib.Core.Path.{_≡_, refl}
-use Prim.Native.Nat.{ℕ, _≤_, _<_}
-use native.Mathlib.Omega.{arith}
-use lib.ListN.{length}
-use Rattle.model.specs.declared.Extent.{Extent}
-use Rattle.model.specs.declared.InvalidUse.{InvalidUse}
-use Rattle.model.specs.declared.Range.{Range}
-use Rattle.model.specs.Base.{Stop, passes, walk, All}
-use Rattle.model.specs.RangedStates.{layerStates, Tiles}
-use Rattle.model.specs.Texture.{Piece, piecesOf}
-use Rattle.model.specs.RangeLaws.{tiles-length}
-use Rattle.agreement.specs.Grid.{SubresourceConflict, uniteState, uniteStates, tab, namedRow}
-use Rattle.agreement.specs.Shared.{firstOf}
-use Rattle.agreement.specs.WalkLaws.{GridsOf}
+use Rattle.model.specs.Prelude.{ℕ, _≤_, _<_, arith, _≡_, refl, Option, some, List, [], _∷_, map, length}
+use Rattle.model.specs.{declared.{Extent.Extent, InvalidUse.InvalidUse, Range.Range}, Base.{Stop, passes, walk, All}}
+use Rattle.model.specs.{RangedStates.{layerStates, Tiles}, Texture.{Piece, piecesOf}, RangeLaws.tiles-length}
+use Rattle.agreement.specs.{Grid.{SubresourceConflict, uniteState, uniteStates, tab, namedRow}, Shared.firstOf, WalkLaws.GridsOf}
 use Rattle.agreement.specs.MergeLaws.{Tiled}
 use Rattle.agreement.specs.Passes
 

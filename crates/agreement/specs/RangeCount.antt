@@ -1,29 +1,11 @@
 -- "A strip's ranges never outnumber the layers it covers", also between `isolate` and `coalesce`.
-use mathlib.Core.Bool.{true, false, _&&_}
-use mathlib.Core.List.{List, [], _∷_}
-use mathlib.Core.Path.{_≡_, refl, _∙_}
-use Prim.Native.Nat.{ℕ, zero, suc, _+_, _-_, _≤_, _<_}
-use native.Mathlib.Omega.{arith}
-use lib.Dec.{leb, ltb}
-use lib.ListN.{length}
-use borrow.Author.Tests.{leb-true, ltb-true, lt-leb, le-leb, lt-ltb, le-ltb}
-use Rattle.model.specs.declared.Extent.{Extent}
-use Rattle.model.specs.declared.Range.{Range}
-use Rattle.model.specs.declared.UsageFlags.{UsageFlags}
-use Rattle.model.specs.Representation.{Ends}
-use Rattle.model.specs.Sets.{Slot, Set, Tracker}
-use Rattle.model.specs.RangedStates.{Tiles}
-use Rattle.model.specs.RangeCalls.{ascends}
-use Rattle.model.specs.Texture.{Held, single, many}
-use Rattle.model.specs.WellFormed.{scopeFits, trackerFits}
-use Rattle.model.specs.ListLaws.{all-weak}
-use Rattle.model.specs.BoolLaws.{and-left, and-right}
-use Rattle.model.specs.RangeLaws.{tiles-count}
-use Rattle.agreement.specs.LogBound.{sumFrom, oneIf}
-use Rattle.agreement.specs.Layers.{covers, covered, lengths, AddUp}
-use Rattle.agreement.specs.Fits.{HeldFits, EndsFit, MipFits, SlotFits}
-use Rattle.agreement.specs.Decides.{scope-to, tracker-to}
-use Rattle.model.specs.Base.{All}
+use Rattle.model.specs.Prelude.{ℕ, zero, suc, _+_, _-_, _≤_, _<_, arith, _≡_, refl, _∙_, true, false, _&&_, List, [], _∷_, leb, ltb, length}
+use Rattle.model.specs.Prelude.{leb-true, ltb-true, lt-leb, le-leb, lt-ltb, le-ltb}
+use Rattle.model.specs.{declared.{Extent.Extent, Range.Range, UsageFlags.UsageFlags}, Representation.Ends, Sets.{Slot, Set, Tracker}}
+use Rattle.model.specs.{RangedStates.Tiles, RangeCalls.ascends, Texture.{Held, single, many}, WellFormed.{scopeFits, trackerFits}}
+use Rattle.model.specs.{ListLaws.all-weak, BoolLaws.{and-left, and-right}, RangeLaws.tiles-count, Base.All}
+use Rattle.agreement.specs.{LogBound.{sumFrom, oneIf}, Layers.{covers, covered, lengths, AddUp}}
+use Rattle.agreement.specs.{Fits.{HeldFits, EndsFit, MipFits, SlotFits}, Decides.{scope-to, tracker-to}}
 
 pub ranges-few : (s : List Range) (w : ℕ) → Tiles 0 s w → length s ≤ w
 ranges-few s w t = omega (arith, tiles-count s 0 w t)

@@ -1,20 +1,10 @@
 -- The grid's rules are the ranged model's. Below here the proofs go by the ranged model's rules, on both sides.
-use mathlib.Core.Bool.{Bool, true, false, _&&_, _||_, not}
-use mathlib.Core.List.{List}
-use mathlib.Core.Option.{Option, none, some}
-use mathlib.Core.Path.{_≡_, refl, ap, _∙_, fun-ext}
-use Prim.Native.Nat.{ℕ}
-use native.Mathlib.Omega.{arith}
-use lib.Bits.{bitAnd, bitOr, and-comm, and-le-l, xor-add-and}
-use lib.Dec.{eqb}
-use borrow.Author.Tests.{eqb-true}
-use Rattle.model.specs.declared.Extent.{Extent}
-use Rattle.model.specs.declared.UsageFlags.{UsageFlags}
-use Rattle.model.specs.Base.{if_then_else_, Stop, orKeep, zip₂, zip₃}
-use Rattle.model.specs.Flags.{incompatible}
-use Rattle.model.specs.Representation.{Ends}
-use Rattle.model.specs.StateRules.{Move, invalidState, skipBarrier, less, unite, uniteKnown, moveOf, endAfter}
-use Rattle.agreement.specs.Grid.{Grid, Named, SubresourceConflict, uniteStates, without, singleUnion, manyUnion, skipped, transition, endState, startState, namedTransition, namedEnd, namedStart, gridMerge, gridBarrier, gridUpdate}
+use Rattle.model.specs.Prelude.{ℕ, arith, _≡_, refl, ap, _∙_, fun-ext, Bool, true, false, _&&_, _||_, not, Option, none, some, List, eqb}
+use Rattle.model.specs.Prelude.{bitAnd, bitOr, and-comm, and-le-l, xor-add-and, eqb-true}
+use Rattle.model.specs.{declared.{Extent.Extent, UsageFlags.UsageFlags}, Base.{if_then_else_, Stop, orKeep, zip₂, zip₃}, Flags.incompatible}
+use Rattle.model.specs.{Representation.Ends, StateRules.{Move, invalidState, skipBarrier, less, unite, uniteKnown, moveOf, endAfter}}
+use Rattle.agreement.specs.Grid.{Grid, Named, SubresourceConflict, uniteStates, without, singleUnion, manyUnion, skipped, transition}
+use Rattle.agreement.specs.Grid.{endState, startState, namedTransition, namedEnd, namedStart, gridMerge, gridBarrier, gridUpdate}
 use Rattle.usage.specs.BitLaws.{and-absorb}
 
 -- ---- one state

@@ -1,26 +1,15 @@
 -- What the ranged and the grid representation share: of one texture, after one call, and demand 3, after each call of a list on sets newly opened alike.
-use mathlib.Core.Bool.{Bool, true, false, _&&_, not}
-use mathlib.Core.List.{List, [], _∷_, map}
-use mathlib.Core.Option.{Option, none, some, Option·map}
-use mathlib.Core.Path.{_≡_}
-use Prim.Native.Nat.{ℕ, _≤_}
-use lib.Dec.{eqb}
-use lib.ListN.{getD, length}
-use Rattle.model.specs.declared.Extent.{Extent}
-use Rattle.model.specs.declared.InvalidUse.{InvalidUse}
-use Rattle.model.specs.declared.Selector.{Selector}
-use Rattle.model.specs.declared.UsageFlags.{UsageFlags}
-use Rattle.model.specs.Base.{if_then_else_, each}
-use Rattle.model.specs.Representation.{mipStart, layerStart, holds, Ends, Representation}
-use Rattle.model.specs.Sets.{Slot, Set, Tracker, Opening}
-use Rattle.model.specs.Refusals.{selectorEmpty, selectorPast}
-use Rattle.model.specs.Calls.{Indexed, Answer, done, refused, inConflict, CallResult, Call, Sets, step, newly}
-use Rattle.model.specs.StateRules.{Move}
+use Rattle.model.specs.Prelude.{ℕ, _≤_, _≡_, Bool, true, false, _&&_, not, Option, none, some, Option·map, List, [], _∷_, map, eqb, getD}
+use Rattle.model.specs.Prelude.{length}
+use Rattle.model.specs.declared.{Extent.Extent, InvalidUse.InvalidUse, Selector.Selector, UsageFlags.UsageFlags}
+use Rattle.model.specs.{Base.{if_then_else_, each}, Representation.{mipStart, layerStart, holds, Ends, Representation}}
+use Rattle.model.specs.{Sets.{Slot, Set, Tracker, Opening}, Refusals.{selectorEmpty, selectorPast}}
+use Rattle.model.specs.{Calls.{Indexed, Answer, done, refused, inConflict, CallResult, Call, Sets, step, newly}, StateRules.Move}
 use Rattle.model.specs.RangedStates.{layerStates}
 use Rattle.model.specs.Texture.{Held, single, many, Given, fromUse, fromHeld, insert, merge, Entry, barrier, update, ranged}
-use Rattle.model.specs.Subresources.{subresources}
-use Rattle.model.specs.WellFormed.{singleFits, heldFits, endsFit}
-use Rattle.agreement.specs.Grid.{Grid, Named, namedUse, namedAll, gridInsert, SubresourceConflict, gridMerge, gridBarrier, gridUpdate, grid}
+use Rattle.model.specs.{Subresources.subresources, WellFormed.{singleFits, heldFits, endsFit}}
+use Rattle.agreement.specs.Grid.{Grid, Named, namedUse, namedAll, gridInsert, SubresourceConflict, gridMerge, gridBarrier, gridUpdate}
+use Rattle.agreement.specs.Grid.{grid}
 
 -- ---- The ranged representation, seen as a grid: "In the range keeper a cell has the state of the range with its layer, or of its whole texture."
 unfoldable pub gridOf : Extent → Held → Grid

@@ -1,27 +1,15 @@
 -- A set slot by slot: what the checks tell of an index, what holds of every slot, and the set seen through a view of what its slots hold.
-use mathlib.Core.Bool.{true, false, false≢true}
-use mathlib.Core.List.{List, [], _∷_, _++_, map}
-use mathlib.Core.Option.{Option, none, some}
-use mathlib.Core.Path.{_≡_, refl, sym, ap, _∙_}
-use Prim.Native.Nat.{ℕ, suc, _+_}
-use native.Mathlib.Nat.{zero-add, add-suc, suc-add, add-zero}
-use lib.ListN.{length, length-set, length-replicate, replicate, getD, set, List·getD-map}
-use borrow.Author.Tests.{not-false}
-use Rattle.model.specs.declared.Extent.{Extent}
-use Rattle.model.specs.declared.Refusal.{Refusal}
-use Rattle.model.specs.declared.Selector.{Selector}
-use Rattle.model.specs.declared.UsageFlags.{UsageFlags}
-use Rattle.model.specs.Base.{eachAt, All}
+use Rattle.model.specs.Prelude.{ℕ, suc, _+_, zero-add, add-suc, suc-add, add-zero, _≡_, refl, sym, ap, _∙_, true, false, false≢true, Option}
+use Rattle.model.specs.Prelude.{none, some, List, [], _∷_, _++_, map, length, length-set, length-replicate, replicate, getD, set}
+use Rattle.model.specs.Prelude.{List·getD-map, not-false}
+use Rattle.model.specs.{declared.{Extent.Extent, Refusal.Refusal, Selector.Selector, UsageFlags.UsageFlags}, Base.{eachAt, All}}
 use Rattle.model.specs.Representation.{Ends}
 use Rattle.model.specs.Sets.{Numbers, Slot, Set, Tracker, Head, Opening, headOf, ownExtent, emptySlot, slotAt, outside, withSlots, openSet}
 use Rattle.model.specs.Refusals.{textureChecks, ownedChecks, selectorChecks, stateChecks, singleRefusal, setRefusal, opens}
-use Rattle.model.specs.Calls.{CallResult, unless, turnedAway}
-use Rattle.model.specs.BoolLaws.{neither}
+use Rattle.model.specs.{Calls.{CallResult, unless, turnedAway}, BoolLaws.neither}
 use Rattle.model.specs.ListLaws.{all-weak, all-left, all-right, all-getD, all-set, all-replicate, map-replicate}
 use Rattle.model.specs.CheckLaws.{Passed, passed, inside, own-extent, same-flags}
-use Rattle.agreement.specs.Shared.{gridSlots}
-use Rattle.agreement.specs.Fits.{ExtentFits, SlotFits, SetFits}
-use Rattle.agreement.specs.OpeningLaws.{opened-numbers, opened-fits}
+use Rattle.agreement.specs.{Shared.gridSlots, Fits.{ExtentFits, SlotFits, SetFits}, OpeningLaws.{opened-numbers, opened-fits}}
 
 -- ---- a call and its refusal
 pub unless-by : {C L X : Type 0} (P : CallResult C L X → Type 0) (o : Option Refusal) {was : X} {out : CallResult C L X}

@@ -1,35 +1,19 @@
 -- One texture in a scope: the ranged model's insert and merge are the grid's.
-use mathlib.Core.Bool.{Bool, true, false}
-use mathlib.Core.List.{List, [], _∷_, _++_, map, append-nil}
-use mathlib.Core.Option.{Option, none, some, Option·map}
-use mathlib.Core.Path.{_≡_, refl, sym, ap, _∙_}
-use Prim.Native.Nat.{ℕ, zero, suc, _-_, _+_, _≤_, _<_}
-use native.Mathlib.Decide.{decLt}
-use native.Mathlib.Omega.{arith}
-use lib.ListN.{replicate, length, length-replicate, length-append, length-map}
-use borrow.Author.Tests.{le-leb, lt-ltb, lt-leb}
-use Rattle.model.specs.declared.Extent.{Extent}
-use Rattle.model.specs.declared.InvalidUse.{InvalidUse}
-use Rattle.model.specs.declared.Range.{Range}
-use Rattle.model.specs.declared.Selector.{Selector}
-use Rattle.model.specs.declared.UsageFlags.{UsageFlags}
+use Rattle.model.specs.Prelude.{ℕ, zero, suc, _-_, _+_, _≤_, _<_, decLt, arith, _≡_, refl, sym, ap, _∙_, Bool, true, false, Option, none}
+use Rattle.model.specs.Prelude.{some, Option·map, List, [], _∷_, _++_, map, append-nil, replicate, length, length-replicate, length-append}
+use Rattle.model.specs.Prelude.{length-map, le-leb, lt-ltb, lt-leb}
+use Rattle.model.specs.declared.{Extent.Extent, InvalidUse.InvalidUse, Range.Range, Selector.Selector, UsageFlags.UsageFlags}
 use Rattle.model.specs.Base.{if_then_else_, eachAt, Stop, fine, stopped, ruled, orKeep, andThen, passes, onward, walk, walk₂, zip₂, All}
-use Rattle.model.specs.Representation.{select, full, inMips}
-use Rattle.model.specs.StateRules.{unite, uniteKnown}
+use Rattle.model.specs.{Representation.{select, full, inMips}, StateRules.{unite, uniteKnown}}
 use Rattle.model.specs.RangedStates.{range, coalesce, paint, layerStates, Tiles}
-use Rattle.model.specs.Texture.{Held, single, many, Given, givenSingle, givenMany, Piece, invalidUse, piecesOf, onMips, freshMips, paintAll, insert, mergeMip, mergeEvery, spreadPiece, merge}
-use Rattle.model.specs.Subresources.{everywhere}
-use Rattle.model.specs.ListLaws.{all-join, all-replicate, map-replicate}
-use Rattle.model.specs.BoolLaws.{by-test, by-test₂}
-use Rattle.model.specs.RangeLaws.{tiles-length}
+use Rattle.model.specs.Texture.{Held, single, many, Given, givenSingle, givenMany, Piece, invalidUse, piecesOf, onMips, freshMips, paintAll}
+use Rattle.model.specs.{Texture.{insert, mergeMip, mergeEvery, spreadPiece, merge}, Subresources.everywhere}
+use Rattle.model.specs.{ListLaws.{all-join, all-replicate, map-replicate}, BoolLaws.{by-test, by-test₂}, RangeLaws.tiles-length}
 use Rattle.agreement.specs.Grid.{Named, SubresourceConflict, uniteState, uniteStates, tab, namedRow, namedOr, gridInsert, gridMerge}
-use Rattle.agreement.specs.Shared.{firstOf, gridOf}
-use Rattle.agreement.specs.WalkLaws.{Sim, lockstep, walk-length}
-use Rattle.agreement.specs.PaintLaws.{paint-states, painted-states}
+use Rattle.agreement.specs.{Shared.{firstOf, gridOf}, WalkLaws.{Sim, lockstep, walk-length}, PaintLaws.{paint-states, painted-states}}
 use Rattle.agreement.specs.RulesAgree.{ruleMerge, merge-rule}
 use Rattle.agreement.specs.MergeLaws.{Runs, Tiled, ranges-sim, run-sim, overRanges, row-parts, row-united, row-conflict, settled-same}
-use Rattle.agreement.specs.Passes.{pieceAt}
-use Rattle.agreement.specs.PieceLaws.{Pass, GridsAll, set-passes, place-pass}
+use Rattle.agreement.specs.{Passes.pieceAt, PieceLaws.{Pass, GridsAll, set-passes, place-pass}}
 use Rattle.agreement.specs.GridLaws.{all-of, map-everywhere, grid-walks}
 
 abbrev pub Measured : Extent → Type 0

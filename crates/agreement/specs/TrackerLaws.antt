@@ -1,35 +1,19 @@
 -- One texture in a tracker: what holds of it, and that insert and update keep it and are the grid's.
-use mathlib.Core.Bool.{true, false}
-use mathlib.Core.List.{List, [], _∷_, map, append-nil}
-use mathlib.Core.Option.{Option, none, some}
-use mathlib.Core.Path.{_≡_, refl, sym, ap, _∙_}
-use Prim.Native.Nat.{ℕ, zero, suc, _-_}
-use native.Mathlib.Omega.{arith}
-use lib.Bits.{bitAnd, and-self}
-use lib.Dec.{eqb}
-use lib.ListN.{replicate, length, length-replicate, length-map}
-use borrow.Author.Tests.{ne-eqb, eqb-false}
-use Rattle.model.specs.declared.Extent.{Extent}
-use Rattle.model.specs.declared.InvalidUse.{InvalidUse}
-use Rattle.model.specs.declared.Range.{Range}
-use Rattle.model.specs.declared.UsageFlags.{UsageFlags}
-use Rattle.model.specs.Base.{if_then_else_, zip₂, zip₃, Stop, fine, passes, walk, All}
-use Rattle.model.specs.Representation.{inMips, Ends}
-use Rattle.model.specs.StateRules.{endAfter}
+use Rattle.model.specs.Prelude.{ℕ, zero, suc, _-_, arith, _≡_, refl, sym, ap, _∙_, true, false, Option, none, some, List, [], _∷_, map}
+use Rattle.model.specs.Prelude.{append-nil, eqb, bitAnd, and-self, replicate, length, length-replicate, length-map, ne-eqb, eqb-false}
+use Rattle.model.specs.declared.{Extent.Extent, InvalidUse.InvalidUse, Range.Range, UsageFlags.UsageFlags}
+use Rattle.model.specs.{Base.{if_then_else_, zip₂, zip₃, Stop, fine, passes, walk, All}, Representation.{inMips, Ends}, StateRules.endAfter}
 use Rattle.model.specs.RangedStates.{range, coalesce, paint, layerStates, Tiles}
-use Rattle.model.specs.Texture.{Held, single, many, Given, givenSingle, givenMany, Piece, freshMips, spreadEnd, learnAll, updateAll, update, insert}
-use Rattle.model.specs.Subresources.{everywhere}
-use Rattle.model.specs.ListLaws.{all-replicate, all-map}
-use Rattle.model.specs.BoolLaws.{by-test}
+use Rattle.model.specs.Texture.{Held, single, many, Given, givenSingle, givenMany, Piece, freshMips, spreadEnd, learnAll, updateAll, update}
+use Rattle.model.specs.{Texture.insert, Subresources.everywhere, ListLaws.{all-replicate, all-map}, BoolLaws.by-test}
 use Rattle.model.specs.RangeLaws.{tiles-length}
-use Rattle.agreement.specs.Grid.{Named, uniteState, namedOr, gridInsert}
-use Rattle.agreement.specs.Shared.{gridOf}
-use Rattle.agreement.specs.PaintLaws.{painted-states, learned, learn-states}
-use Rattle.agreement.specs.RulesAgree.{ruleEnd, ruleStart}
-use Rattle.agreement.specs.MergeLaws.{Tiled, row-united}
-use Rattle.agreement.specs.PieceLaws.{Pass}
-use Rattle.agreement.specs.TextureLaws.{Measured, Fit, Gives, gives-one, gives-place, gives-set, many-pass, fills, all-same, all-cur, mips-states, mips-tiled, walk-fine, grids-length, inserted}
-use Rattle.agreement.specs.UpdateLaws.{Dims, updated-pairs, update-many, update-single, twos, twos-ends, twos-starts, endsOf, startsOf, runAll, Two, Ok}
+use Rattle.agreement.specs.{Grid.{Named, uniteState, namedOr, gridInsert}, Shared.gridOf}
+use Rattle.agreement.specs.{PaintLaws.{painted-states, learned, learn-states}, RulesAgree.{ruleEnd, ruleStart}}
+use Rattle.agreement.specs.{MergeLaws.{Tiled, row-united}, PieceLaws.Pass}
+use Rattle.agreement.specs.TextureLaws.{Measured, Fit, Gives, gives-one, gives-place, gives-set, many-pass, fills, all-same, all-cur}
+use Rattle.agreement.specs.TextureLaws.{mips-states, mips-tiled, walk-fine, grids-length, inserted}
+use Rattle.agreement.specs.UpdateLaws.{Dims, updated-pairs, update-many, update-single, twos, twos-ends, twos-starts, endsOf}
+use Rattle.agreement.specs.UpdateLaws.{startsOf, runAll, Two, Ok}
 use Rattle.agreement.specs.GridLaws.{all-of, grid-map, grid-everywhere, grid-zip, grid-walks}
 
 -- ---- what holds

@@ -1,32 +1,15 @@
 -- A Many texture in a tracker, its start and its end side by side: an update of both is the grid's.
-use mathlib.Core.Bool.{true, false, Bool}
-use mathlib.Core.List.{List, [], _∷_, _++_, map, map-append}
-use mathlib.Core.Option.{Option, none, some}
-use mathlib.Core.Path.{_≡_, refl, sym, ap, _∙_}
-use Prim.Native.Nat.{ℕ, zero, suc, _-_, _≤_, _<_}
-use native.Mathlib.Omega.{arith}
-use lib.Dec.{eqb}
-use lib.ListN.{replicate, length, length-replicate, length-map}
-use Rattle.model.specs.declared.Extent.{Extent}
-use Rattle.model.specs.declared.InvalidUse.{InvalidUse}
-use Rattle.model.specs.declared.Range.{Range}
-use Rattle.model.specs.declared.UsageFlags.{UsageFlags}
-use Rattle.model.specs.Base.{if_then_else_, zip₂, Stop, fine, walk₂, zip₃, passes, walk, All}
-use Rattle.model.specs.Representation.{inMips}
-use Rattle.model.specs.StateRules.{endAfter}
+use Rattle.model.specs.Prelude.{ℕ, zero, suc, _-_, _≤_, _<_, arith, _≡_, refl, sym, ap, _∙_, true, false, Bool, Option, none, some, List}
+use Rattle.model.specs.Prelude.{[], _∷_, _++_, map, map-append, eqb, replicate, length, length-replicate, length-map}
+use Rattle.model.specs.declared.{Extent.Extent, InvalidUse.InvalidUse, Range.Range, UsageFlags.UsageFlags}
+use Rattle.model.specs.{Base.{if_then_else_, zip₂, Stop, fine, walk₂, zip₃, passes, walk, All}, Representation.inMips, StateRules.endAfter}
 use Rattle.model.specs.RangedStates.{coalesce, isolate, paint, layerStates, Tiles}
 use Rattle.model.specs.Texture.{Piece, learn, single, many, givenMany, onMips, learnAll, metBy, updateAll, learnHeld, Held}
-use Rattle.model.specs.BoolLaws.{by-test, by-test₂}
-use Rattle.model.specs.ListLaws.{zip-append, all-map}
-use Rattle.model.specs.RangeLaws.{isolate-cuts, tiles-length}
-use Rattle.agreement.specs.Grid.{SubresourceConflict, Named}
-use Rattle.agreement.specs.Shared.{firstOf}
-use Rattle.agreement.specs.WalkLaws.{walk-length, GridsOf}
+use Rattle.model.specs.{BoolLaws.{by-test, by-test₂}, ListLaws.{zip-append, all-map}, RangeLaws.{isolate-cuts, tiles-length}}
+use Rattle.agreement.specs.{Grid.{SubresourceConflict, Named}, Shared.firstOf, WalkLaws.{walk-length, GridsOf}}
 use Rattle.agreement.specs.GridLaws.{all-of, all-zip, grid-walks}
 use Rattle.agreement.specs.PaintLaws.{painted-states, split-left, split-right, learned, learn-states}
-use Rattle.agreement.specs.RulesAgree.{startAfter, ruleEnd, ruleStart}
-use Rattle.agreement.specs.MergeLaws.{Tiled}
-use Rattle.agreement.specs.Passes.{Pass}
+use Rattle.agreement.specs.{RulesAgree.{startAfter, ruleEnd, ruleStart}, MergeLaws.Tiled, Passes.Pass}
 use Rattle.agreement.specs.TextureLaws.{Gives, gives-place, gives-set, fills}
 use Rattle.agreement.specs.Passes
 

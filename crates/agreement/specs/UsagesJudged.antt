@@ -1,43 +1,28 @@
 -- The WebGPU rule after every list of calls: single merges conflict just where the uses of some named subresource do not fit, and the same in the specification's own usages.
-use mathlib.Core.Bool.{true, _||_, false≢true}
-use mathlib.Core.List.{List, [], _∷_, _++_, map}
-use mathlib.Core.Logic.{_↔_}
-use mathlib.Core.Option.{Option, none, some, Option·map}
-use mathlib.Core.Path.{_≡_, refl, sym, ap, _∙_, subst}
-use Prim.Native.Nat.{ℕ, zero, suc}
-use native.Mathlib.Omega.{arith}
-use lib.Bits.{bitAnd}
-use lib.Count.{onesIn}
-use lib.ListN.{getElem?, getD}
-use Rattle.model.specs.declared.Extent.{Extent}
-use Rattle.model.specs.declared.Selector.{Selector}
-use Rattle.model.specs.declared.UsageFlags.{UsageFlags}
-use Rattle.model.specs.Sets.{Set, Head, headOf, Opening, slotAt}
+use Rattle.model.specs.Prelude.{ℕ, zero, suc, arith, _≡_, refl, sym, ap, _∙_, subst, _↔_, true, _||_, false≢true, Option, none, some}
+use Rattle.model.specs.Prelude.{Option·map, List, [], _∷_, _++_, map, bitAnd, getElem?, getD}
+use Rattle.model.specs.{declared.{Extent.Extent, Selector.Selector, UsageFlags.UsageFlags}, Sets.{Set, Head, headOf, Opening, slotAt}}
 use Rattle.model.specs.Refusals.{trackerIndex, singleRefusal}
-use Rattle.model.specs.Calls.{Answer, done, refused, inConflict, Call, callMergeSingle, Sets, step, newly, mergeSingle, callMergeUsageScope, callSetSingle, callSetFromUsageScope, callSetFromTracker, callSetAndRemoveSparse}
-use Rattle.model.specs.Texture.{ranged, Held}
-use Rattle.model.specs.ListLaws.{elem-map, all-weak, all-join, all-elem, all-getD}
-use Rattle.model.specs.Base.{Stop, orKeep, every, All, AllO}
-use Rattle.model.specs.BoolLaws.{by-test}
-use Rattle.model.specs.Flags.{meets, oneBit}
+use Rattle.model.specs.Calls.{Answer, done, refused, inConflict, Call, callMergeSingle, Sets, step, newly, mergeSingle, callMergeUsageScope}
+use Rattle.model.specs.{Calls.{callSetSingle, callSetFromUsageScope, callSetFromTracker, callSetAndRemoveSparse}, Texture.{ranged, Held}}
+use Rattle.model.specs.{ListLaws.{elem-map, all-weak, all-join, all-elem, all-getD}, Base.{Stop, orKeep, every, All, AllO}}
+use Rattle.model.specs.{BoolLaws.by-test, Flags.{meets, oneBit}}
 use Rattle.agreement.specs.Grid.{grid, Grid, SubresourceConflict, namedOr, namedUse, singleUnion, manyUnion, gridBarrier}
 use Rattle.agreement.specs.Shared.{gridScope, toGrids, gridOf, firstOf, entriesAt, gridAt, afterCalls, itself}
 use Rattle.agreement.specs.WellFormedSets.{Word, GivenWord}
-use Rattle.agreement.specs.WebGpu.{Histories, histories, InConflict, Unfit, History, HandedIn, named, statesOf, handUse, historyInsert, takeStates, historyMerge, MergeGiven, Usage, input, constant, storage, storageRead, attachment, attachmentRead, reads, isAttachment, compatibleList, usesFit, Renders, benchFlags, benchBit, wgpuFlags, Storing, writeOnly, readWrite, atomic, storingBit, Attaching, colorTarget, depthStencilWrite, attachingBit, wgpuBit, noHistory, usesAt, Rendered, GivenUsage, NotCompatible}
-use Rattle.agreement.specs.GridLaws.{GridAll, grid-map}
-use Rattle.agreement.specs.TrackerLaws.{FitEnds}
-use Rattle.agreement.specs.BarrierLaws.{at-most-one}
-use Rattle.agreement.specs.Fits.{SetFits}
-use Rattle.agreement.specs.SlotLaws.{imageSet, head-image, slot-fits}
-use Rattle.agreement.specs.LiftScope.{mapAnswer, Textures}
-use Rattle.agreement.specs.LiftTracker.{Tracks}
+use Rattle.agreement.specs.WebGpu.{Histories, histories, InConflict, Unfit, History, HandedIn, named, statesOf, handUse}
+use Rattle.agreement.specs.WebGpu.{historyInsert, takeStates, historyMerge, MergeGiven, Usage, input, constant, storage, storageRead}
+use Rattle.agreement.specs.WebGpu.{attachment, attachmentRead, reads, isAttachment, compatibleList, usesFit, Renders, benchFlags}
+use Rattle.agreement.specs.WebGpu.{benchBit, wgpuFlags, Storing, writeOnly, readWrite, atomic, storingBit, Attaching, colorTarget}
+use Rattle.agreement.specs.WebGpu.{depthStencilWrite, attachingBit, wgpuBit, noHistory, usesAt, Rendered, GivenUsage, NotCompatible}
+use Rattle.agreement.specs.{GridLaws.{GridAll, grid-map}, TrackerLaws.FitEnds, BarrierLaws.at-most-one, Fits.SetFits}
+use Rattle.agreement.specs.{SlotLaws.{imageSet, head-image, slot-fits}, LiftScope.{mapAnswer, Textures}, LiftTracker.Tracks}
 use Rattle.agreement.specs.LiftCalls.{Words, Good, imageSets, stepped, ran}
-use Rattle.agreement.specs.Agree.{FitS, GivesC, Pairs, scope-facts, tracker-facts, one-step, no-word, WordP}
-use Rattle.agreement.specs.WellStates.{use-all}
-use Rattle.agreement.specs.WellLaws.{all-words}
-use Rattle.agreement.specs.FitLaws.{flags-rule}
-use Rattle.agreement.specs.HistoryLaws.{TiedHeld, TiedGiven, AnyEnds, SameHanded, plainView, history-scopes, history-trackers, blankOf, takes-keep, hand-all, pass-all}
-use Rattle.agreement.specs.ConflictLaws.{conflict-unfit}
+use Rattle.agreement.specs.{Agree.{FitS, GivesC, Pairs, scope-facts, tracker-facts, one-step, no-word, WordP}, WellStates.use-all}
+use Rattle.agreement.specs.{WellLaws.all-words, FitLaws.flags-rule}
+use Rattle.agreement.specs.HistoryLaws.{TiedHeld, TiedGiven, AnyEnds, SameHanded, plainView, history-scopes, history-trackers}
+use Rattle.agreement.specs.{HistoryLaws.{blankOf, takes-keep, hand-all, pass-all}, ConflictLaws.conflict-unfit}
+use lib.Count.{onesIn}
 
 abbrev same : SubresourceConflict → SubresourceConflict
 same c = c

@@ -1,13 +1,7 @@
 -- Walks that stop: two of them in step, and one over two lists in parts.
-use mathlib.Core.List.{List, [], _∷_, _++_, map}
-use mathlib.Core.Option.{Option, none, some, Option·map}
-use mathlib.Core.Path.{_≡_, refl}
-use Prim.Native.Nat.{ℕ, zero, suc, _+_, _-_, _≤_}
-use native.Mathlib.Nat.{add-suc, suc-add, add-zero}
-use native.Mathlib.Omega.{arith}
-use lib.ListN.{length, replicate, length-replicate}
-use Rattle.model.specs.Base.{Stop, fine, onward, walk, walk₂, All}
-use Rattle.model.specs.ListLaws.{all-weak}
+use Rattle.model.specs.Prelude.{ℕ, zero, suc, _+_, _-_, _≤_, add-suc, suc-add, add-zero, arith, _≡_, refl, Option, none, some, Option·map}
+use Rattle.model.specs.Prelude.{List, [], _∷_, _++_, map, length, replicate, length-replicate}
+use Rattle.model.specs.{Base.{Stop, fine, onward, walk, walk₂, All}, ListLaws.all-weak}
 use Rattle.agreement.specs.Grid.{tab, band}
 
 pub onward-all : {A C : Type 0} (P : A → Type 0) (x : A) (o : Option C) (was : List A) (w : Stop C (List A))

@@ -1,23 +1,13 @@
 -- The rule of the WebGPU specification (W3C) for the uses of one subresource within a usage scope, and the uses that each subresource of a scope has taken
 -- and keeps. The specification's words below are of its text of 2025, section 3.4, "Resource Usages" and "Synchronization" (usage scopes), written down
 -- without the document at hand, and held against an implementation: tests/webgpu, docs/DIFFERENCES.md.
-use mathlib.Core.Bool.{Bool, true, false, _&&_, _||_, not}
-use mathlib.Core.List.{List, [], _∷_, _++_, map}
-use mathlib.Core.Option.{Option, none, some, Option·map}
-use mathlib.Core.Path.{_≡_}
-use Prim.Native.Nat.{ℕ, _+_, _≤_, _<_}
-use lib.Bits.{bitAnd}
-use lib.Dec.{eqb}
-use lib.ListN.{getD}
-use Rattle.model.specs.declared.Extent.{Extent}
-use Rattle.model.specs.declared.Selector.{Selector}
-use Rattle.model.specs.declared.UsageFlags.{UsageFlags}
-use Rattle.model.specs.Base.{if_then_else_, every, Stop, fine, ruled, orKeep, walk₂}
-use Rattle.model.specs.Flags.{meets, oneBit}
-use Rattle.model.specs.Representation.{Ends, Representation}
-use Rattle.model.specs.Sets.{Set, slotAt}
-use Rattle.model.specs.Calls.{Answer, done, refused, inConflict, Call, callMergeSingle, callMergeUsageScope, callSetSingle, callSetFromUsageScope, callSetFromTracker, callSetAndRemoveSparse}
-use Rattle.model.specs.StateRules.{Move}
+use Rattle.model.specs.Prelude.{ℕ, _+_, _≤_, _<_, _≡_, Bool, true, false, _&&_, _||_, not, Option, none, some, Option·map, List, [], _∷_}
+use Rattle.model.specs.Prelude.{_++_, map, eqb, bitAnd, getD}
+use Rattle.model.specs.declared.{Extent.Extent, Selector.Selector, UsageFlags.UsageFlags}
+use Rattle.model.specs.{Base.{if_then_else_, every, Stop, fine, ruled, orKeep, walk₂}, Flags.{meets, oneBit}}
+use Rattle.model.specs.{Representation.{Ends, Representation}, Sets.{Set, slotAt}}
+use Rattle.model.specs.Calls.{Answer, done, refused, inConflict, Call, callMergeSingle, callMergeUsageScope, callSetSingle}
+use Rattle.model.specs.{Calls.{callSetFromUsageScope, callSetFromTracker, callSetAndRemoveSparse}, StateRules.Move}
 use Rattle.agreement.specs.Grid.{Grid, Named, SubresourceConflict, namedUse, namedOr, singleUnion, manyUnion, gridBarrier, gridUpdate}
 
 -- ---- "Resource Usages": "An internal usage is one of the following: input, constant, storage, storage-read, attachment, attachment-read"

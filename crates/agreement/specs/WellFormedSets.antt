@@ -1,10 +1,8 @@
 -- Well-formed sets of the ranged model, by model's tests of a scope and of a tracker (01: sound), and calls whose given state has sixteen bits.
-use mathlib.Core.Bool.{Bool, _&&_}
-use Prim.Native.Nat.{ℕ, _<_}
+use Rattle.model.specs.Prelude.{ℕ, _<_, Bool, _&&_}
 use Rattle.model.specs.Base.{every}
-use Rattle.model.specs.Calls.{Sets, Call, callMergeSingle, callMergeUsageScope, callSetSingle, callSetFromUsageScope, callSetFromTracker, callSetAndRemoveSparse}
-use Rattle.model.specs.Texture.{ranged}
-use Rattle.model.specs.WellFormed.{scopeFits, trackerFits}
+use Rattle.model.specs.Calls.{Sets, Call, callMergeSingle, callMergeUsageScope, callSetSingle, callSetFromUsageScope, callSetFromTracker}
+use Rattle.model.specs.{Calls.callSetAndRemoveSparse, Texture.ranged, WellFormed.{scopeFits, trackerFits}}
 
 -- every scope and every tracker is well formed
 abbrev pub wellFormed : Sets ranged → Bool

@@ -1,44 +1,23 @@
 -- Every call keeps every set well formed.
-use mathlib.Core.Bool.{_||_}
-use mathlib.Core.List.{List, [], _∷_, _++_, map}
-use mathlib.Core.Option.{Option, none}
-use mathlib.Core.Path.{_≡_, refl, sym, ap, _∙_, subst}
-use Prim.Native.Nat.{ℕ, _-_}
-use native.Mathlib.Omega.{arith}
-use lib.Bits.{bitAnd}
-use lib.Dec.{eqb}
-use lib.ListN.{replicate}
-use borrow.Author.Tests.{eqb-true, eqb-false, not-false, ne-eqb}
-use Rattle.model.specs.declared.Extent.{Extent}
-use Rattle.model.specs.declared.Range.{Range}
-use Rattle.model.specs.declared.Selector.{Selector}
-use Rattle.model.specs.declared.UsageFlags.{UsageFlags}
-use Rattle.model.specs.Flags.{meets}
-use Rattle.model.specs.Representation.{Ends}
-use Rattle.model.specs.Sets.{Set, Tracker, Head, Opening}
-use Rattle.model.specs.Refusals.{textureChecks, selectorChecks, stateChecks, singleRefusal}
-use Rattle.model.specs.Calls.{Call, callMergeSingle, callMergeUsageScope, callSetSingle, callSetFromUsageScope, callSetFromTracker, callSetAndRemoveSparse, Sets, step, newly}
-use Rattle.model.specs.RangedStates.{layerStates, Tiles}
-use Rattle.model.specs.Texture.{Held, single, many, Given, ranged}
-use Rattle.model.specs.Subresources.{everywhere}
-use Rattle.model.specs.ListLaws.{all-weak, all-right, all-join, all-left, all-replicate, first-of, unlike-lists}
-use Rattle.model.specs.BoolLaws.{neither}
-use Rattle.model.specs.CheckLaws.{passed}
-use Rattle.agreement.specs.Grid.{Grid, Named, grid, namedOr}
-use Rattle.agreement.specs.Shared.{firstOf, gridOf, entriesAt, gridAt}
-use Rattle.agreement.specs.WellFormedSets.{Word, GivenWord}
-use Rattle.usage.specs.BitLaws.{bit-nonzero}
-use Rattle.agreement.specs.TextureLaws.{Measured, Fit}
+use Rattle.model.specs.Prelude.{ℕ, _-_, arith, _≡_, refl, sym, ap, _∙_, subst, _||_, Option, none, List, [], _∷_, _++_, map, eqb, bitAnd}
+use Rattle.model.specs.Prelude.{replicate, eqb-true, eqb-false, not-false, ne-eqb}
+use Rattle.model.specs.{declared.{Extent.Extent, Range.Range, Selector.Selector, UsageFlags.UsageFlags}, Flags.meets, Representation.Ends}
+use Rattle.model.specs.{Sets.{Set, Tracker, Head, Opening}, Refusals.{textureChecks, selectorChecks, stateChecks, singleRefusal}}
+use Rattle.model.specs.Calls.{Call, callMergeSingle, callMergeUsageScope, callSetSingle, callSetFromUsageScope, callSetFromTracker}
+use Rattle.model.specs.{Calls.{callSetAndRemoveSparse, Sets, step, newly}, RangedStates.{layerStates, Tiles}}
+use Rattle.model.specs.{Texture.{Held, single, many, Given, ranged}, Subresources.everywhere}
+use Rattle.model.specs.{ListLaws.{all-weak, all-right, all-join, all-left, all-replicate, first-of, unlike-lists}, BoolLaws.neither}
+use Rattle.model.specs.{CheckLaws.passed, Base.All}
+use Rattle.agreement.specs.{Grid.{Grid, Named, grid, namedOr}, Shared.{firstOf, gridOf, entriesAt, gridAt}}
+use Rattle.agreement.specs.{WellFormedSets.{Word, GivenWord}, TextureLaws.{Measured, Fit}}
 use Rattle.agreement.specs.TrackerLaws.{Known, KnownAll, KnownEnd, FitEnds, ClearHeld, clear-known, UnknownNonzero}
-use Rattle.agreement.specs.SlotLaws.{fits-weak}
-use Rattle.agreement.specs.LiftScope.{Textures}
-use Rattle.agreement.specs.LiftTracker.{Tracks, t₁, s₁, Taken}
-use Rattle.agreement.specs.LiftCalls.{Words, stepped, opened}
-use Rattle.agreement.specs.Agree.{FitS, GivesC, Pairs, scope-facts, tracker-facts}
+use Rattle.agreement.specs.{SlotLaws.fits-weak, LiftScope.Textures, LiftTracker.{Tracks, t₁, s₁, Taken}}
+use Rattle.agreement.specs.{LiftCalls.{Words, stepped, opened}, Agree.{FitS, GivesC, Pairs, scope-facts, tracker-facts}}
 use Rattle.agreement.specs.Fits.{StateFits, MipFits, HeldFits, unknowns, EndsFit, SetFits, SetsFit}
-use Rattle.agreement.specs.WellStates.{FlagFacts, sure-flags, StatesFit, NamedFit, merge-fits, insert-fits, update-end-fits, update-start-fits, grid-alike, use-fits, pass-fits, insert-back}
+use Rattle.agreement.specs.WellStates.{FlagFacts, sure-flags, StatesFit, NamedFit, merge-fits, insert-fits, update-end-fits}
+use Rattle.agreement.specs.WellStates.{update-start-fits, grid-alike, use-fits, pass-fits, insert-back}
 use Rattle.agreement.specs.GridLaws.{GridAll, grid-everywhere}
-use Rattle.model.specs.Base.{All}
+use Rattle.usage.specs.BitLaws.{bit-nonzero}
 
 pub known-flags : (p : UsageFlags) → FlagFacts p → UnknownNonzero p
 known-flags p s = bit-nonzero 16 (p .unknown) (s .unknown-bit)

@@ -1,30 +1,17 @@
 -- The rules for one subresource keep its state well formed, and so do the grid's merge, insert and update.
-use mathlib.Core.Bool.{Bool, true, false, _&&_, not, and-eq-true-iff}
-use mathlib.Core.List.{List, [], _∷_, map}
-use mathlib.Core.Option.{Option, none, some}
-use mathlib.Core.Path.{_≡_, refl, sym, _∙_}
-use Prim.Native.Nat.{ℕ, zero, suc, _-_, _<_}
-use native.Mathlib.Omega.{arith}
-use lib.Bits.{bitAnd, bitOr, or-lt}
-use lib.Count.{onesIn}
-use lib.Dec.{ltb, eqb}
-use lib.ListN.{replicate}
-use borrow.Author.Tests.{eqb-true, eqb-false, ltb-true, not-true, not-false}
-use Rattle.model.specs.declared.Extent.{Extent}
-use Rattle.model.specs.declared.Selector.{Selector}
-use Rattle.model.specs.declared.UsageFlags.{UsageFlags}
+use Rattle.model.specs.Prelude.{ℕ, zero, suc, _-_, _<_, arith, _≡_, refl, sym, _∙_, Bool, true, false, _&&_, not, and-eq-true-iff, Option}
+use Rattle.model.specs.Prelude.{none, some, List, [], _∷_, map, ltb, eqb, bitAnd, bitOr, or-lt, replicate, eqb-true, eqb-false, ltb-true}
+use Rattle.model.specs.Prelude.{not-true, not-false}
+use Rattle.model.specs.declared.{Extent.Extent, Selector.Selector, UsageFlags.UsageFlags}
 use Rattle.model.specs.Base.{if_then_else_, Stop, ruled, orKeep, walk₂, zip₂, zip₃, All, AllO}
-use Rattle.model.specs.Flags.{incompatible, meets, oneBit, isBit, apart, flagsFit}
-use Rattle.model.specs.Representation.{inMips}
-use Rattle.model.specs.StateRules.{less}
-use Rattle.model.specs.ListLaws.{all-join, all-replicate, unlike-lists}
-use Rattle.model.specs.BoolLaws.{by-test}
-use Rattle.agreement.specs.Grid.{Grid, Named, SubresourceConflict, without, singleUnion, manyUnion, endState, startState, uniteState, uniteStates, namedEnd, namedStart, namedOr, gridMerge, gridInsert, tab, namedRow, namedUse, namedAll}
-use Rattle.usage.specs.BitLaws.{and-or, or-zero, split-bits, bit-nonzero, bits-apart}
-use Rattle.agreement.specs.WalkLaws.{onward-all}
-use Rattle.agreement.specs.RulesAgree.{less-without}
-use Rattle.agreement.specs.Fits.{StateFits, unknowns}
+use Rattle.model.specs.{Flags.{incompatible, meets, oneBit, isBit, apart, flagsFit}, Representation.inMips, StateRules.less}
+use Rattle.model.specs.{ListLaws.{all-join, all-replicate, unlike-lists}, BoolLaws.by-test}
+use Rattle.agreement.specs.Grid.{Grid, Named, SubresourceConflict, without, singleUnion, manyUnion, endState, startState, uniteState}
+use Rattle.agreement.specs.Grid.{uniteStates, namedEnd, namedStart, namedOr, gridMerge, gridInsert, tab, namedRow, namedUse, namedAll}
+use Rattle.agreement.specs.{WalkLaws.onward-all, RulesAgree.less-without, Fits.{StateFits, unknowns}}
 use Rattle.agreement.specs.GridLaws.{GridAll, grid-map, grid-everywhere, grid-zip, grid-back}
+use Rattle.usage.specs.BitLaws.{and-or, or-zero, split-bits, bit-nonzero, bits-apart}
+use lib.Count.{onesIn}
 
 -- ---- usage flags that open
 pub record FlagFacts (p : UsageFlags) : Type 0 where

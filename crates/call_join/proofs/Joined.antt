@@ -1,38 +1,20 @@
 -- `set_from` and the calls: from what the code found and changed to the contract.
-use Prim.Native.Nat.{ℕ, _/_, _≤_}
-use mathlib.Core.Path.{_≡_, refl, sym, ap, subst, _∙_}
-use mathlib.Core.Bool.{Bool, true}
-use mathlib.Core.List.{List}
-use mathlib.Core.Option.{Option, none, some}
-use lib.ListN.{length, getD}
-use Rattle.model.specs.declared.InvalidUse.{InvalidUse}
-use Rattle.model.specs.declared.LogHead.{LogHead}
-use Rattle.model.specs.declared.Refusal.{Refusal}
-use Rattle.model.specs.Base.{eachAt₂, over₂}
-use Rattle.model.specs.Representation.{Ends}
-use Rattle.model.specs.Log.{pending}
-use Rattle.model.specs.Sets.{Head, Tracker, capacity, Slot, withTracker, headOf}
-use Rattle.model.specs.Refusals.{setRefusal}
+use Rattle.model.specs.Prelude.{ℕ, _/_, _≤_, _≡_, refl, sym, ap, subst, _∙_, Bool, true, Option, none, some, List, length, getD}
+use Rattle.model.specs.{declared.{InvalidUse.InvalidUse, LogHead.LogHead, Refusal.Refusal, Answered.Answered}, Base.{eachAt₂, over₂}}
+use Rattle.model.specs.{Representation.Ends, Log.pending, Sets.{Head, Tracker, capacity, Slot, withTracker, headOf}, Refusals.setRefusal}
 use Rattle.model.specs.Calls.{CallResult, Indexed, done, unless, setFrom, setGiven, logGiven, setFromUsageScope, setFromTracker}
-use Rattle.model.specs.Texture.{Held, Entry, fromHeld, ranged}
-use Rattle.model.specs.WellFormed.{scopeFits, trackerFits, wellFormedScope, wellFormedTracker}
-use Rattle.agreement.specs.LogRoom.{entries-written}
-use Rattle.agreement.specs.EachCall.{set-from-usage-scope-room, set-from-tracker-room}
-use Rattle.set_storage.specs.Storage.{numbersOf, flagsOf, startHalf, endHalf, heldOf, slotWith, scopeOf, trackerOf, listFrom, maskAt, texturesAt}
-use Rattle.set_storage.specs.Stays.{ownedBy}
-use Rattle.set_checks.specs.Head.{headIn, tracker-head, head-is}
-use Rattle.set_checks.specs.Sets.{SetTold}
-use Rattle.model.specs.declared.Verdict.the-variants as verdict
-use Rattle.set_checks.specs.Passed.{set-passed}
-use Rattle.set_ready.specs.Tested.{TrackerTested}
-use Rattle.model.specs.declared.Answered.{Answered}
-use Rattle.texture_track.specs.Tracked.{Tracked, Changes, away-own, changes-tracked}
-use Rattle.log_head.specs.Log.{headWithin, refusedWith}
-use Rattle.texture_track.specs.GivenSlot.{pairOf, passStart, passEnd}
-use Rattle.call_join.specs.Lists.{over-same, each-same}
-use Rattle.call_join.specs.Join.{GivenTested, Joins, joinCall, givenOf, joinedEntries, joinedTracker}
-use Rattle.call_join.proofs.Logs.{entries-model}
+use Rattle.model.specs.{Texture.{Held, Entry, fromHeld, ranged}, WellFormed.{scopeFits, trackerFits, wellFormedScope, wellFormedTracker}}
 use Rattle.model.specs.BoolLaws.{and-left}
+use Rattle.agreement.specs.{LogRoom.entries-written, EachCall.{set-from-usage-scope-room, set-from-tracker-room}}
+use Rattle.set_storage.specs.Storage.{numbersOf, flagsOf, startHalf, endHalf, heldOf, slotWith, scopeOf, trackerOf, listFrom, maskAt}
+use Rattle.set_storage.specs.{Storage.texturesAt, Stays.ownedBy}
+use Rattle.set_checks.specs.{Head.{headIn, tracker-head, head-is}, Sets.SetTold, Passed.set-passed}
+use Rattle.set_ready.specs.Tested.{TrackerTested}
+use Rattle.texture_track.specs.{Tracked.{Tracked, Changes, away-own, changes-tracked}, GivenSlot.{pairOf, passStart, passEnd}}
+use Rattle.log_head.specs.Log.{headWithin, refusedWith}
+use Rattle.call_join.specs.{Lists.{over-same, each-same}, Join.{GivenTested, Joins, joinCall, givenOf, joinedEntries, joinedTracker}}
+use Rattle.call_join.proofs.Logs.{entries-model}
+use Rattle.model.specs.declared.Verdict.the-variants as verdict
 
 -- ---- `set_from`
 -- what a tracker's call gives

@@ -1,22 +1,11 @@
 -- `log_set`: what the loop asks for, and that the entries of every index are the model's.
-use Prim.Native.Nat.{ℕ, _≤_, _<_}
-use native.Mathlib.Omega.{arith}
-use mathlib.Core.Bool.{Bool, true, false}
-use mathlib.Core.List.{List, []}
-use mathlib.Core.Path.{_≡_, refl}
-use lib.ListN.{getD}
-use Rattle.model.specs.Base.{if_then_else_, eachAt₂}
-use Rattle.model.specs.Calls.{logGiven, logSlot}
-use Rattle.model.specs.Log.{pending, pendingOf}
-use Rattle.model.specs.Texture.{ranged}
+use Rattle.model.specs.Prelude.{ℕ, _≤_, _<_, arith, _≡_, refl, Bool, true, false, List, [], getD}
+use Rattle.model.specs.{Base.{if_then_else_, eachAt₂}, Calls.{logGiven, logSlot}, Log.{pending, pendingOf}, Texture.ranged}
 use Rattle.set_storage.specs.Storage.{flagsOf, extentOf, ownedOf, slotWith, trackerOf, maskAt, texturesAt, trackerSlot}
 use Rattle.texture_barrier.specs.Adds.{entriesAt}
-use Rattle.set_ready.specs.Half.{tracker-texture}
-use Rattle.texture_track.specs.Slot.{slot-pending}
-use Rattle.call_join.specs.Join.{Joins, LogsSet, givenOf, joinedEntries, start-given}
-use Rattle.call_join.specs.Lists.{each-list}
-use Rattle.texture_track.specs.GivenSlot.{pairOf, passStart, passEnd, endEntries, givenEntries}
-use Rattle.set_ready.specs.Given.{givenAt}
+use Rattle.set_ready.specs.{Half.tracker-texture, Given.givenAt}
+use Rattle.texture_track.specs.{Slot.slot-pending, GivenSlot.{pairOf, passStart, passEnd, endEntries, givenEntries}}
+use Rattle.call_join.specs.{Join.{Joins, LogsSet, givenOf, joinedEntries, start-given}, Lists.each-list}
 
 -- ---- What the loop asks for: every index is ready
 module _ {t s e : List ℕ} {from to : ℕ} {g a b : List ℕ} (w : Joins t s e from to g a b) where

@@ -1,22 +1,11 @@
 -- `set_slots`: turn by turn the next slot becomes the model's, and at the end the view is.
-use Prim.Native.Nat.{ℕ, _+_, _≤_, _<_}
-use native.Mathlib.Omega.{arith}
-use mathlib.Core.Path.{_≡_, sym, ap, subst, _∙_}
-use mathlib.Core.List.{List}
-use lib.ListN.{getD}
-use Rattle.model.specs.declared.UsageFlags.{UsageFlags}
-use Rattle.model.specs.Representation.{Ends}
-use Rattle.model.specs.Sets.{Numbers, Slot, withTracker}
-use Rattle.model.specs.Calls.{setGiven}
+use Rattle.model.specs.Prelude.{ℕ, _+_, _≤_, _<_, arith, _≡_, sym, ap, subst, _∙_, List, getD}
+use Rattle.model.specs.{declared.UsageFlags.UsageFlags, Representation.Ends, Sets.{Numbers, Slot, withTracker}, Calls.setGiven}
 use Rattle.model.specs.Texture.{Held, ranged}
-use Rattle.set_storage.specs.Storage.{flagsOf, endsOf, slotWith, trackerOf, texturesAt, trackerSlot}
-use Rattle.set_storage.specs.Stays.{onlyOwned, ownedBy}
-use Rattle.set_ready.specs.Named.{within}
-use Rattle.set_ready.specs.Half.{HeadStays, tracker-keeps, numbers-stay, flags-stay}
-use Rattle.set_ready.specs.Walked.{walked-next, over-end}
+use Rattle.set_storage.specs.{Storage.{flagsOf, endsOf, slotWith, trackerOf, texturesAt, trackerSlot}, Stays.{onlyOwned, ownedBy}}
+use Rattle.set_ready.specs.{Named.within, Half.{HeadStays, tracker-keeps, numbers-stay, flags-stay}, Walked.{walked-next, over-end}}
 use Rattle.set_ready.specs.SetWalk.{slotsBy, TrackerWalked, tracker-start, left-ready, tracker-turn, walked-view}
-use Rattle.texture_track.specs.Slot.{SlotSet}
-use Rattle.texture_track.specs.GivenSlot.{SetsAt, pairOf, passStart, passEnd, slotAfter}
+use Rattle.texture_track.specs.{Slot.SlotSet, GivenSlot.{SetsAt, pairOf, passStart, passEnd, slotAfter}}
 use Rattle.call_join.specs.Join.{Joins, SetsAll, start-given, end-given}
 
 -- a rule for slots

@@ -1,13 +1,7 @@
 -- THE CONTRACTS of the calls over a whole set, of what is lent, and a primed name for what they leave. The given set g is only read.
-use Prim.Native.Nat.{ℕ}
-use mathlib.Core.Bool.{_&&_}
-use mathlib.Core.List.{List}
-use Rattle.model.specs.declared.Answered.{Answered}
-use Rattle.model.specs.declared.LogHead.{LogHead}
-use Rattle.model.specs.Calls.{setFromUsageScope, setFromTracker}
-use Rattle.model.specs.Texture.{ranged}
-use Rattle.set_storage.specs.Lent.{LentScope, LentTracker, scopeIn, trackerIn, scopeTest, trackerTest}
-use Rattle.set_storage.specs.Stays.{ownedBy}
+use Rattle.model.specs.Prelude.{ℕ, _&&_, List}
+use Rattle.model.specs.{declared.{Answered.Answered, LogHead.LogHead}, Calls.{setFromUsageScope, setFromTracker}, Texture.ranged}
+use Rattle.set_storage.specs.{Lent.{LentScope, LentTracker, scopeIn, trackerIn, scopeTest, trackerTest}, Stays.ownedBy}
 use Rattle.texture_track.specs.Tracked.{TrackerCall}
 
 -- `set_from_usage_scope`

@@ -1,26 +1,14 @@
 -- A whole given set and a tracker: what the test and the checks have shown, and the contracts of the loops over every index.
-use Prim.Native.Nat.{ℕ, _≤_, _<_}
-use mathlib.Core.Path.{_≡_, refl, sym, _∙_}
-use mathlib.Core.Bool.{true}
-use mathlib.Core.List.{List}
-use lib.ListN.{getD}
-use Rattle.model.specs.declared.InvalidUse.{InvalidUse}
-use Rattle.model.specs.declared.UsageFlags.{UsageFlags}
-use Rattle.model.specs.declared.PendingTransition.{PendingTransition}
-use Rattle.model.specs.Base.{over₂}
-use Rattle.model.specs.Representation.{Ends}
-use Rattle.model.specs.Sets.{Slot, Set, Tracker, withTracker}
-use Rattle.model.specs.Calls.{CallResult, setGiven, setFrom}
+use Rattle.model.specs.Prelude.{ℕ, _≤_, _<_, _≡_, refl, sym, _∙_, true, List, getD}
+use Rattle.model.specs.{declared.{InvalidUse.InvalidUse, UsageFlags.UsageFlags, PendingTransition.PendingTransition}, Base.over₂}
+use Rattle.model.specs.{Representation.Ends, Sets.{Slot, Set, Tracker, withTracker}, Calls.{CallResult, setGiven, setFrom}}
 use Rattle.model.specs.Texture.{Held, Entry, ranged}
 use Rattle.set_storage.specs.Storage.{numbersOf, flagsOf, extentOf, ownedOf, startHalf, endHalf, setWith, trackerOf, maskAt, texturesAt}
-use Rattle.set_storage.specs.Stays.{ownedBy, TrackerFrame}
-use Rattle.set_storage.specs.Frames.{Measured}
+use Rattle.set_storage.specs.{Stays.{ownedBy, TrackerFrame}, Frames.Measured}
 use Rattle.texture_barrier.specs.Adds.{entriesAt}
 use Rattle.set_checks.specs.Passed.{SetPassed}
 use Rattle.agreement.specs.Fits.{ExtentFits}
-use Rattle.set_ready.specs.Named.{within}
-use Rattle.set_ready.specs.Tested.{HalfFits, half-fits, ScopeTested, TrackerTested}
-use Rattle.set_ready.specs.Given.{HalfGiven}
+use Rattle.set_ready.specs.{Named.within, Tested.{HalfFits, half-fits, ScopeTested, TrackerTested}, Given.HalfGiven}
 use Rattle.texture_track.specs.GivenSlot.{LogsAt, pairOf, passStart, passEnd, givenEntries}
 use Rattle.log_head.specs.UpTo.{upTo}
 

@@ -1,10 +1,6 @@
 -- Two lists side by side, made position by position: what the model's walks over them give.
-use Prim.Native.Nat.{ℕ, zero, suc, _+_, _≤_, _<_}
-use native.Mathlib.Omega.{arith}
-use mathlib.Core.Path.{_≡_, refl, sym, ap, _∙_}
-use mathlib.Core.List.{List, [], _∷_, _++_, append-assoc, append-nil}
-use Rattle.model.specs.Base.{each, eachAt₂, over₂}
-use Rattle.model.specs.ListLaws.{each-append}
+use Rattle.model.specs.Prelude.{ℕ, zero, suc, _+_, _≤_, _<_, arith, _≡_, refl, sym, ap, _∙_, List, [], _∷_, _++_, append-assoc, append-nil}
+use Rattle.model.specs.{Base.{each, eachAt₂, over₂}, ListLaws.each-append}
 use Rattle.set_storage.specs.Storage.{listFrom}
 use Rattle.log_head.specs.UpTo.{upTo}
 

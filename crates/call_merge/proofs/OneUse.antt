@@ -1,41 +1,21 @@
 -- `merge_single`, and any merge that is turned away: from what the code found to the contract.
-use Prim.Native.Nat.{ℕ, _<_}
-use mathlib.Core.Path.{_≡_, refl, sym, ap, subst, _∙_}
-use mathlib.Core.Bool.{Bool, true, false, false≢true}
-use mathlib.Core.List.{List}
-use mathlib.Core.Option.{Option, none, some}
-use lib.ListN.{getD, set}
-use Rattle.model.specs.declared.UsageFlags.{UsageFlags}
-use Rattle.model.specs.declared.Extent.{Extent}
-use Rattle.model.specs.declared.Selection.{Selection}
-use Rattle.model.specs.declared.InvalidUse.{InvalidUse}
-use Rattle.model.specs.declared.Refusal.{Refusal}
+use Rattle.model.specs.Prelude.{ℕ, _<_, _≡_, refl, sym, ap, subst, _∙_, Bool, true, false, false≢true, Option, none, some, List, getD, set}
 use Rattle.model.specs.declared.Refusal.the-variants.{NotWellFormed}
-use Rattle.model.specs.declared.Outcome.{Outcome}
-use Rattle.model.specs.declared.Outcome.the-variants as outcome
-use Rattle.model.specs.Base.{Stop}
-use Rattle.model.specs.Sets.{Slot, Set, Head, slotAt, withSlots, emptySlot}
+use Rattle.model.specs.declared.{UsageFlags.UsageFlags, Extent.Extent, Selection.Selection, InvalidUse.InvalidUse, Refusal.Refusal}
+use Rattle.model.specs.{declared.Outcome.Outcome, Base.Stop, Sets.{Slot, Set, Head, slotAt, withSlots, emptySlot}}
 use Rattle.model.specs.Refusals.{firstFailing, singleRefusal}
 use Rattle.model.specs.Calls.{Indexed, CallResult, answer, turnedAway, unless, mergeSlot, mergeSingle}
-use Rattle.model.specs.Log.{isRefused, outcomeOf, merging}
-use Rattle.model.specs.Texture.{Held, single, Entry, fromUse, ranged}
-use Rattle.set_storage.specs.Storage.{flagsOf, scopeOf, startHalf, texturesAt, scopeSlot}
-use Rattle.set_storage.specs.Stays.{only, keeps-refl, keeps-more}
+use Rattle.model.specs.{Log.{isRefused, outcomeOf, merging}, Texture.{Held, single, Entry, fromUse, ranged}}
+use Rattle.set_storage.specs.{Storage.{flagsOf, scopeOf, startHalf, texturesAt, scopeSlot}, Stays.{only, keeps-refl, keeps-more}}
 use Rattle.set_storage.specs.Lists.{list-at}
 use Rattle.texture_merge.specs.declared.Stopped.{Stopped}
 use Rattle.set_checks.specs.Head.{selectorOf, useRefusal, scope-head, UseTold}
-use Rattle.model.specs.declared.Verdict.the-variants as verdict
 use Rattle.set_checks.specs.Passed.{StatePassed, use-passed, texture-passed, state-passed}
-use Rattle.set_ready.specs.Tested.{ScopeTested}
-use Rattle.set_ready.specs.Half.{HalfReady, scope-texture}
-use Rattle.call_merge.specs.Met.{toldOf}
-use Rattle.set_ready.specs.Named.{within}
-use Rattle.call_merge.specs.declared.single.Use.{Use}
-use Rattle.call_merge.specs.Merged.{Merged}
-use Rattle.set_ready.specs.Checked.{TakenUse}
-use Rattle.call_merge.specs.Slot.{SlotMerged, scope-view}
-use Rattle.call_merge.specs.Single.{UseIs}
+use Rattle.set_ready.specs.{Tested.ScopeTested, Half.{HalfReady, scope-texture}, Named.within, Checked.TakenUse}
+use Rattle.call_merge.specs.{declared.single.Use.Use, Met.toldOf, Merged.Merged, Slot.{SlotMerged, scope-view}, Single.UseIs}
 use Rattle.call_merge.specs.Scope.{SlotsMerged}
+use Rattle.model.specs.declared.Outcome.the-variants as outcome
+use Rattle.model.specs.declared.Verdict.the-variants as verdict
 
 -- ---- The test of the sets comes first
 abbrev pub ScopeResult : Type 0

@@ -1,27 +1,14 @@
 -- `merge_usage_scope`: from what the code found to the contract.
-use Prim.Native.Nat.{ℕ}
-use mathlib.Core.Path.{_≡_, ap, _∙_}
-use mathlib.Core.Bool.{Bool, true}
-use mathlib.Core.List.{List}
-use mathlib.Core.Option.{Option, none, some}
-use Rattle.model.specs.declared.UsageFlags.{UsageFlags}
-use Rattle.model.specs.declared.Refusal.{Refusal}
-use Rattle.model.specs.declared.Outcome.{Outcome}
-use Rattle.model.specs.declared.Outcome.the-variants as outcome
-use Rattle.model.specs.Sets.{Head, headOf}
-use Rattle.model.specs.Refusals.{setRefusal}
-use Rattle.model.specs.Calls.{unless, mergeUsageScope}
-use Rattle.model.specs.Texture.{ranged}
-use Rattle.set_storage.specs.Storage.{flagsOf, scopeOf}
-use Rattle.set_storage.specs.Stays.{ownedBy, keeps-more}
-use Rattle.set_checks.specs.Head.{headIn, scope-head}
-use Rattle.set_checks.specs.Sets.{SetTold}
-use Rattle.model.specs.declared.Verdict.the-variants as verdict
-use Rattle.set_checks.specs.Passed.{set-passed}
+use Rattle.model.specs.Prelude.{ℕ, _≡_, ap, _∙_, Bool, true, Option, none, some, List}
+use Rattle.model.specs.{declared.{UsageFlags.UsageFlags, Refusal.Refusal, Outcome.Outcome}, Sets.{Head, headOf}, Refusals.setRefusal}
+use Rattle.model.specs.{Calls.{unless, mergeUsageScope}, Texture.ranged}
+use Rattle.set_storage.specs.{Storage.{flagsOf, scopeOf}, Stays.{ownedBy, keeps-more}}
+use Rattle.set_checks.specs.{Head.{headIn, scope-head}, Sets.SetTold, Passed.set-passed}
 use Rattle.set_ready.specs.Tested.{ScopeTested}
-use Rattle.call_merge.specs.Merged.{Merged}
-use Rattle.call_merge.specs.Scope.{mergedSlots, SlotsReady, SlotsMerged}
+use Rattle.call_merge.specs.{Merged.Merged, Scope.{mergedSlots, SlotsReady, SlotsMerged}}
 use Rattle.call_merge.proofs.OneUse.{walked, went, away}
+use Rattle.model.specs.declared.Outcome.the-variants as outcome
+use Rattle.model.specs.declared.Verdict.the-variants as verdict
 
 -- ---- The model's call
 module _ (t r g l : List ℕ) where

@@ -1,31 +1,16 @@
 -- The walk of `merge_slots` over the textures of a given scope: the scope on the way, what a lap asks for, and what it leaves.
-use Prim.Native.Nat.{ℕ, _+_, _≤_, _<_}
-use native.Mathlib.Omega.{arith}
-use mathlib.Core.Path.{_≡_, refl, sym, ap, subst, _∙_}
-use mathlib.Core.Bool.{Bool, true, false}
-use mathlib.Core.List.{List}
-use mathlib.Core.Option.{Option, none, some}
-use lib.ListN.{getD}
-use Rattle.model.specs.declared.UsageFlags.{UsageFlags}
-use Rattle.model.specs.declared.InvalidUse.{InvalidUse}
-use Rattle.model.specs.declared.Outcome.the-variants as outcome
-use Rattle.model.specs.Base.{Stop, fine}
-use Rattle.model.specs.Refusals.{trackerIndex}
-use Rattle.model.specs.Sets.{Numbers, Slot}
-use Rattle.model.specs.Calls.{Indexed, answer, mergeGiven}
-use Rattle.model.specs.Log.{outcomeOf}
-use Rattle.model.specs.Texture.{Held, ranged}
-use Rattle.set_storage.specs.Storage.{numbersOf, flagsOf, extentOf, ownedOf, startHalf, heldOf, slotWith, scopeOf, listFrom, texturesAt, scopeSlot}
-use Rattle.set_storage.specs.Stays.{onlyOwned, ownedBy, keeps-refl, keeps-then, keeps-more, ScopeFrame}
-use Rattle.texture_merge.specs.declared.Stopped.{Stopped}
-use Rattle.texture_merge.specs.declared.Stopped.the-variants.{Nowhere, At}
+use Rattle.model.specs.Prelude.{ℕ, _+_, _≤_, _<_, arith, _≡_, refl, sym, ap, subst, _∙_, Bool, true, false, Option, none, some, List, getD}
+use Rattle.model.specs.{declared.{UsageFlags.UsageFlags, InvalidUse.InvalidUse}, Base.{Stop, fine}, Refusals.trackerIndex}
+use Rattle.model.specs.{Sets.{Numbers, Slot}, Calls.{Indexed, answer, mergeGiven}, Log.outcomeOf, Texture.{Held, ranged}}
+use Rattle.set_storage.specs.Storage.{numbersOf, flagsOf, extentOf, ownedOf, startHalf, heldOf, slotWith, scopeOf, listFrom, texturesAt}
+use Rattle.set_storage.specs.{Storage.scopeSlot, Stays.{onlyOwned, ownedBy, keeps-refl, keeps-then, keeps-more, ScopeFrame}}
+use Rattle.texture_merge.specs.{declared.Stopped.Stopped, declared.Stopped.the-variants.{Nowhere, At}}
 use Rattle.set_ready.specs.Given.{HalfGiven, owned-given}
 use Rattle.set_ready.specs.Half.{HalfReady, HeadStays, scope-keeps, numbers-stay, flags-stay, measured-stays, scope-still}
-use Rattle.call_merge.specs.Met.{indexed, metAt}
-use Rattle.set_ready.specs.Walked.{Walked, walked-start, walked-next, walk-end, walk-stop}
-use Rattle.set_ready.specs.SetWalk.{set-view}
-use Rattle.call_merge.specs.Slot.{OwnedReady, SlotMerged, scope-named, scope-rest}
+use Rattle.set_ready.specs.{Walked.{Walked, walked-start, walked-next, walk-end, walk-stop}, SetWalk.set-view}
+use Rattle.call_merge.specs.{Met.{indexed, metAt}, Slot.{OwnedReady, SlotMerged, scope-named, scope-rest}}
 use Rattle.call_merge.specs.Scope.{mergedSlots, SlotsReady, SlotsMerged}
+use Rattle.model.specs.declared.Outcome.the-variants as outcome
 
 -- what the given scope makes of texture j, where it met no conflict
 abbrev Became : UsageFlags → List ℕ → List ℕ → ℕ → Slot Held → Slot Held → Type 0

@@ -1,14 +1,8 @@
 -- THE CONTRACTS of the calls that merge into a scope, of what is lent, and a primed name for what they leave.
-use Prim.Native.Nat.{ℕ}
-use mathlib.Core.Bool.{_&&_}
-use Rattle.model.specs.declared.Extent.{Extent}
-use Rattle.model.specs.declared.Outcome.{Outcome}
-use Rattle.model.specs.declared.Selection.{Selection}
-use Rattle.model.specs.declared.TrackerIndex.{TrackerIndex}
-use Rattle.model.specs.Calls.{mergeSingle, mergeUsageScope}
-use Rattle.model.specs.Texture.{ranged}
-use Rattle.set_storage.specs.Lent.{LentScope, scopeIn, scopeTest}
-use Rattle.set_storage.specs.Stays.{only, ownedBy}
+use Rattle.model.specs.Prelude.{ℕ, _&&_}
+use Rattle.model.specs.declared.{Extent.Extent, Outcome.Outcome, Selection.Selection, TrackerIndex.TrackerIndex}
+use Rattle.model.specs.{Calls.{mergeSingle, mergeUsageScope}, Texture.ranged}
+use Rattle.set_storage.specs.{Lent.{LentScope, scopeIn, scopeTest}, Stays.{only, ownedBy}}
 use Rattle.set_checks.specs.Head.{selectorOf}
 use Rattle.call_merge.specs.Merged.{Merged}
 

@@ -1,16 +1,8 @@
 -- THE CONTRACT of a merge into a scope: the answer, and the content of what was lent.
-use Prim.Native.Nat.{ℕ}
-use mathlib.Core.Path.{_≡_}
-use mathlib.Core.Bool.{Bool, true}
-use mathlib.Core.List.{List}
-use Rattle.model.specs.declared.InvalidUse.{InvalidUse}
-use Rattle.model.specs.declared.Outcome.{Outcome}
-use Rattle.model.specs.Sets.{Set}
-use Rattle.model.specs.Calls.{CallResult}
-use Rattle.model.specs.Log.{isRefused, outcomeOf, merging}
+use Rattle.model.specs.Prelude.{ℕ, _≡_, Bool, true, List}
+use Rattle.model.specs.{declared.{InvalidUse.InvalidUse, Outcome.Outcome}, Sets.Set, Calls.CallResult, Log.{isRefused, outcomeOf, merging}}
 use Rattle.model.specs.Texture.{Held, Entry}
-use Rattle.set_storage.specs.Storage.{numbersOf, scopeOf}
-use Rattle.set_storage.specs.Stays.{ScopeFrame}
+use Rattle.set_storage.specs.{Storage.{numbersOf, scopeOf}, Stays.ScopeFrame}
 use Rattle.set_ready.specs.Named.{within}
 
 -- `fits` says whether every set that was handed in is well formed, `m` is the model's call, and `named` are the indices that the call

@@ -1,12 +1,7 @@
 -- What a merge answers, by what its walk over textures met.
-use mathlib.Core.Option.{Option, Option·map}
-use Prim.Native.Nat.{ℕ}
-use Rattle.model.specs.declared.InvalidUse.{InvalidUse}
-use Rattle.model.specs.declared.Outcome.{Outcome}
-use Rattle.model.specs.Calls.{Indexed, answer}
-use Rattle.model.specs.Log.{outcomeOf}
-use Rattle.texture_merge.specs.declared.Stopped.{Stopped}
-use Rattle.texture_merge.specs.Walks.{stoppedOf}
+use Rattle.model.specs.Prelude.{ℕ, Option, Option·map}
+use Rattle.model.specs.{declared.{InvalidUse.InvalidUse, Outcome.Outcome}, Calls.{Indexed, answer}, Log.outcomeOf}
+use Rattle.texture_merge.specs.{declared.Stopped.Stopped, Walks.stoppedOf}
 
 -- a conflict at index i
 abbrev pub indexed : ℕ → InvalidUse → Indexed InvalidUse

@@ -1,17 +1,8 @@
 -- Every texture of a given scope, merged into a scope: what is asked for, and the contract of the walk.
-use Prim.Native.Nat.{ℕ}
-use mathlib.Core.Path.{_≡_}
-use mathlib.Core.List.{List}
-use Rattle.model.specs.declared.UsageFlags.{UsageFlags}
-use Rattle.model.specs.declared.InvalidUse.{InvalidUse}
-use Rattle.model.specs.declared.Outcome.{Outcome}
-use Rattle.model.specs.Base.{Stop, walk₂}
-use Rattle.model.specs.Sets.{Slot, withSlots}
-use Rattle.model.specs.Calls.{Indexed, answer, mergeGiven}
-use Rattle.model.specs.Log.{outcomeOf}
-use Rattle.model.specs.Texture.{Held, ranged}
-use Rattle.set_storage.specs.Storage.{numbersOf, flagsOf, scopeOf}
-use Rattle.set_storage.specs.Stays.{ScopeFrame}
+use Rattle.model.specs.Prelude.{ℕ, _≡_, List}
+use Rattle.model.specs.{declared.{UsageFlags.UsageFlags, InvalidUse.InvalidUse, Outcome.Outcome}, Base.{Stop, walk₂}}
+use Rattle.model.specs.{Sets.{Slot, withSlots}, Calls.{Indexed, answer, mergeGiven}, Log.outcomeOf, Texture.{Held, ranged}}
+use Rattle.set_storage.specs.{Storage.{numbersOf, flagsOf, scopeOf}, Stays.ScopeFrame}
 use Rattle.set_checks.specs.Passed.{SetPassed}
 use Rattle.set_ready.specs.Tested.{ScopeTested}
 

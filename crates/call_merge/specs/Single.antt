@@ -1,18 +1,9 @@
 -- What a selection names of a texture.
-use Prim.Native.Nat.{ℕ, _<_}
-use native.Mathlib.Omega.{arith}
-use mathlib.Core.Path.{_≡_, refl, sym, _∙_}
-use mathlib.Core.Bool.{Bool, true}
-use mathlib.Core.Option.{none}
-use Rattle.model.specs.declared.Extent.{Extent}
-use Rattle.model.specs.declared.Selector.{Selector}
-use Rattle.model.specs.declared.Selection.{Selection}
-use Rattle.model.specs.declared.Selection.the-variants.{Full, Part}
-use Rattle.model.specs.Representation.{isFull, full}
-use Rattle.model.specs.Texture.{fromUse}
+use Rattle.model.specs.Prelude.{ℕ, _<_, arith, _≡_, refl, sym, _∙_, Bool, true, none}
+use Rattle.model.specs.{declared.Selection.the-variants.{Full, Part}, declared.{Extent.Extent, Selector.Selector, Selection.Selection}}
+use Rattle.model.specs.{Representation.{isFull, full}, Texture.fromUse}
 use Rattle.texture_merge.specs.Uses.{useOf}
-use Rattle.set_checks.specs.Head.{selectorOf, selectorRefusal}
-use Rattle.set_checks.specs.Passed.{SelectorPassed, selector-passed}
+use Rattle.set_checks.specs.{Head.{selectorOf, selectorRefusal}, Passed.{SelectorPassed, selector-passed}}
 use Rattle.set_ready.specs.Checked.{full-is}
 use Rattle.call_merge.specs.declared.single.Use.{Use}
 

@@ -1,26 +1,12 @@
 -- One texture of a scope: what is asked for, and the contract of a merge into it.
-use Prim.Native.Nat.{ℕ, _<_}
-use mathlib.Core.Path.{_≡_, refl, ap, subst}
-use mathlib.Core.List.{List}
-use mathlib.Core.Option.{Option·map}
-use lib.ListN.{getD, set}
-use borrow.Author.Tests.{ne-eqb, eq-eqb}
-use Rattle.model.specs.declared.UsageFlags.{UsageFlags}
-use Rattle.model.specs.declared.Extent.{Extent}
-use Rattle.model.specs.declared.InvalidUse.{InvalidUse}
-use Rattle.model.specs.Base.{Stop, fine}
-use Rattle.model.specs.Sets.{Numbers, Slot, withSlots}
-use Rattle.model.specs.Calls.{Indexed, mergeSlot}
-use Rattle.model.specs.Texture.{Held, Given, insert, merge, ranged}
+use Rattle.model.specs.Prelude.{ℕ, _<_, _≡_, refl, ap, subst, Option·map, List, getD, set, ne-eqb, eq-eqb}
+use Rattle.model.specs.{declared.{UsageFlags.UsageFlags, Extent.Extent, InvalidUse.InvalidUse}, Base.{Stop, fine}}
+use Rattle.model.specs.{Sets.{Numbers, Slot, withSlots}, Calls.{Indexed, mergeSlot}, Texture.{Held, Given, insert, merge, ranged}}
 use Rattle.set_storage.specs.Storage.{numbersOf, extentOf, startHalf, heldOf, slotWith, scopeOf, ownedAt, texturesAt, scopeSlot}
-use Rattle.set_storage.specs.Frames.{Measured}
-use Rattle.set_storage.specs.Stays.{only, keeps-refl, keeps-then, keeps-more, ScopeFrame}
+use Rattle.set_storage.specs.{Frames.Measured, Stays.{only, keeps-refl, keeps-then, keeps-more, ScopeFrame}}
 use Rattle.set_storage.specs.Slots.{SlotFrame, HalfBecomes, ownWords, scope-slots, scope-half, scope-own, half-low}
-use Rattle.texture_merge.specs.declared.Stopped.{Stopped}
-use Rattle.texture_merge.specs.declared.Stopped.the-variants.{Nowhere}
-use Rattle.texture_merge.specs.Uses.{HalfMerged}
-use Rattle.set_ready.specs.Half.{HalfReady, half-held}
-use Rattle.set_ready.specs.Given.{HalfGiven, WhereOwned}
+use Rattle.texture_merge.specs.{declared.Stopped.Stopped, declared.Stopped.the-variants.Nowhere, Uses.HalfMerged}
+use Rattle.set_ready.specs.{Half.{HalfReady, half-held}, Given.{HalfGiven, WhereOwned}}
 use Rattle.set_ready.specs.Owned.{own-numbers, own-textured, now-owned, owned-reads, slot-becomes, slot-other}
 use Rattle.call_merge.specs.Met.{indexed, metAt}
 

@@ -1,29 +1,14 @@
 -- The view of a table that was written by opening: no index is owned, and each state is UNINITIALIZED.
-use Prim.Native.Nat.{ℕ, zero, suc, _≤_, _<_}
-use native.Mathlib.Omega.{arith}
-use mathlib.Core.Path.{_≡_, refl, sym, ap, _∙_}
-use mathlib.Core.Bool.{Bool, true, not, _&&_, false≢true}
-use mathlib.Core.List.{List, [], _∷_}
-use mathlib.Core.Option.{Option, none}
-use lib.Dec.{eqb, ltb}
-use lib.ListN.{length, getD, set, replicate, drop, length-set, length-drop, length-replicate, getD-replicate}
-use lib.Seq.{getD-set-same, getD-set-other, ext-getD, sets-eq}
-use borrow.Author.Tests.{eq-eqb}
-use Rattle.model.specs.declared.UsageFlags.{UsageFlags}
-use Rattle.model.specs.declared.Refusal.{Refusal}
-use Rattle.model.specs.declared.Outcome.{Outcome}
-use Rattle.model.specs.Base.{if_then_else_}
-use Rattle.model.specs.Flags.{isBit, meets, apart, flagsFit}
-use Rattle.model.specs.Sets.{Numbers, Opening, emptySlot, openSet, openTracker}
-use Rattle.model.specs.Refusals.{firstFailing, openingRefusal, accepted, opens}
-use Rattle.model.specs.Log.{verdict}
-use Rattle.model.specs.Texture.{single}
+use Rattle.model.specs.Prelude.{ℕ, zero, suc, _≤_, _<_, arith, _≡_, refl, sym, ap, _∙_, Bool, true, not, _&&_, false≢true, Option, none}
+use Rattle.model.specs.Prelude.{List, [], _∷_, eqb, ltb, length, getD, set, replicate, drop, length-set, length-drop, length-replicate}
+use Rattle.model.specs.Prelude.{getD-replicate, getD-set-same, getD-set-other, ext-getD, sets-eq, eq-eqb}
+use Rattle.model.specs.{declared.{UsageFlags.UsageFlags, Refusal.Refusal, Outcome.Outcome}, Base.if_then_else_}
+use Rattle.model.specs.{Flags.{isBit, meets, apart, flagsFit}, Sets.{Numbers, Opening, emptySlot, openSet, openTracker}}
+use Rattle.model.specs.{Refusals.{firstFailing, openingRefusal, accepted, opens}, Log.verdict, Texture.single}
 use Rattle.model.specs.BoolLaws.{and-left, and-right, by-eq, by-lt}
 use Rattle.set_storage.specs.Storage.{numbersOf, flagsOf, startHalf, endHalf, heldOf, endsOf, slotWith, scopeOf, trackerOf, listFrom}
 use Rattle.set_storage.specs.Storage.{texturesAt, mipLimitAt, layerLimitAt, exclusiveAt, uninitializedAt, complexAt, unknownAt, maskAt}
-use Rattle.set_storage.specs.Storage.{ownedAt, mipsAt, layersAt, stateAt, tableLength}
-use Rattle.set_storage.specs.Lists.{list-long, list-at}
-use Rattle.set_storage.specs.Slots.{held-single}
+use Rattle.set_storage.specs.{Storage.{ownedAt, mipsAt, layersAt, stateAt, tableLength}, Lists.{list-long, list-at}, Slots.held-single}
 use Rattle.call_open.specs.Open.{asked, headed, clearedAt, cleared, TableOpened}
 use Rattle.agreement.specs.OpeningLaws.{opened-numbers, opened-fits}
 use Rattle.set_wellformed.proofs.Numbers.{numbers-in}

@@ -1,17 +1,7 @@
 -- What opening asks for, answers and writes.
-use Prim.Native.Nat.{ℕ, zero, suc, _/_, min}
-use mathlib.Core.Path.{_≡_}
-use mathlib.Core.Bool.{true}
-use mathlib.Core.List.{List, [], _∷_}
-use lib.ListN.{length, set}
-use lib.Seq.{sets}
-use Rattle.model.specs.declared.UsageFlags.{UsageFlags}
-use Rattle.model.specs.declared.Outcome.{Outcome}
-use Rattle.model.specs.Base.{if_then_else_}
-use Rattle.model.specs.Sets.{Opening, openSet, openTracker}
-use Rattle.model.specs.Refusals.{openingRefusal, opens}
-use Rattle.model.specs.Log.{verdict}
-use Rattle.model.specs.Texture.{single}
+use Rattle.model.specs.Prelude.{ℕ, zero, suc, _/_, min, _≡_, true, List, [], _∷_, length, set, sets}
+use Rattle.model.specs.{declared.{UsageFlags.UsageFlags, Outcome.Outcome}, Base.if_then_else_, Sets.{Opening, openSet, openTracker}}
+use Rattle.model.specs.{Refusals.{openingRefusal, opens}, Log.verdict, Texture.single}
 use Rattle.set_storage.specs.Storage.{scopeOf, trackerOf, endHalf, layersAt, mipsAt, ownedAt, startHalf, stateAt, tableLength}
 
 abbrev pub asked : ℕ → ℕ → ℕ → UsageFlags → ℕ → ℕ → Opening

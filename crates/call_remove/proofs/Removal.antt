@@ -1,39 +1,20 @@
 -- The sparse call: from what the code found and changed to the contract.
-use Prim.Native.Nat.{ℕ, _*_, _/_, _≤_, _<_}
-use native.Mathlib.Nat.{mul-le-mul}
-use native.Mathlib.Omega.{arith}
-use mathlib.Core.Path.{_≡_, refl, sym, ap, subst, _∙_}
-use mathlib.Core.Bool.{Bool, true, and-eq-true-iff}
-use mathlib.Core.List.{List, [], _∷_}
-use mathlib.Core.Option.{Option, none, some}
-use lib.ListN.{length}
-use Rattle.model.specs.declared.InvalidUse.{InvalidUse}
-use Rattle.model.specs.declared.LogHead.{LogHead}
-use Rattle.model.specs.declared.Refusal.{Refusal}
+use Rattle.model.specs.Prelude.{ℕ, _*_, _/_, _≤_, _<_, mul-le-mul, arith, _≡_, refl, sym, ap, subst, _∙_, Bool, true, and-eq-true-iff}
+use Rattle.model.specs.Prelude.{Option, none, some, List, [], _∷_, length}
 use Rattle.model.specs.declared.Refusal.the-variants.{NoFreeEntry}
-use Rattle.model.specs.Sets.{capacity, Head, Set, Tracker, headOf}
-use Rattle.model.specs.Refusals.{sparseRefusal}
-use Rattle.model.specs.Calls.{CallResult, unless, sparseAll, setAndRemoveSparse}
-use Rattle.model.specs.Calls as calls
-use Rattle.model.specs.Log.{pending}
-use Rattle.model.specs.Texture.{Held, Entry, ranged}
+use Rattle.model.specs.declared.{InvalidUse.InvalidUse, LogHead.LogHead, Refusal.Refusal, Answered.Answered}
+use Rattle.model.specs.{Sets.{capacity, Head, Set, Tracker, headOf}, Refusals.sparseRefusal}
+use Rattle.model.specs.{Calls.{CallResult, unless, sparseAll, setAndRemoveSparse}, Log.pending, Texture.{Held, Entry, ranged}}
 use Rattle.model.specs.WellFormed.{scopeFits, trackerFits, wellFormedScope, wellFormedTracker}
-use Rattle.set_storage.specs.Storage.{numbersOf, scopeOf, trackerOf}
-use Rattle.set_storage.specs.Stays.{both-refl}
-use Rattle.agreement.specs.LogBound.{entries}
-use Rattle.agreement.specs.LogRoom.{entries-written}
-use Rattle.agreement.specs.EachCall.{sparse-room}
-use Rattle.set_checks.specs.Head.{headIn, tracker-head, scope-head}
-use Rattle.set_checks.specs.Sets.{SparseTold}
-use Rattle.model.specs.declared.Verdict.the-variants as verdict
-use Rattle.set_checks.specs.Passed.{sparse-passed}
+use Rattle.set_storage.specs.{Storage.{numbersOf, scopeOf, trackerOf}, Stays.both-refl}
+use Rattle.agreement.specs.{LogBound.entries, LogRoom.entries-written, EachCall.sparse-room}
+use Rattle.set_checks.specs.{Head.{headIn, tracker-head, scope-head}, Sets.SparseTold, Passed.sparse-passed}
 use Rattle.set_ready.specs.Tested.{ScopeTested, TrackerTested}
-use Rattle.model.specs.declared.Answered.{Answered}
-use Rattle.log_head.specs.Log.{headWithin, refusedWith, movedOn}
-use Rattle.log_head.specs.Called.{Wrote, not-enough, written}
+use Rattle.log_head.specs.{Log.{headWithin, refusedWith, movedOn}, Called.{Wrote, not-enough, written}}
 use Rattle.call_remove.specs.Removed.{Both, setsOf, Removed, Removes, away-own, removes-removed}
-use Rattle.call_remove.specs.Logs.{mostEntries, removedEntries, entries-model}
-use Rattle.call_remove.specs.Taken.{Listing, Takes, setsAfter}
+use Rattle.call_remove.specs.{Logs.{mostEntries, removedEntries, entries-model}, Taken.{Listing, Takes, setsAfter}}
+use Rattle.model.specs.Calls as calls
+use Rattle.model.specs.declared.Verdict.the-variants as verdict
 
 -- ---- `remove_checked`
 module _ {t s e g r is l : List ℕ} {h : LogHead} where

@@ -1,17 +1,8 @@
 -- `log_listed`: which indices were listed before, and the entries of one by that.
-use Prim.Native.Nat.{ℕ, _+_, _<_}
-use native.Mathlib.Decide.{ℕ-discrete}
-use native.Mathlib.Numerals.{add-one}
-use native.Mathlib.Omega.{arith}
-use mathlib.Core.Path.{_≡_, refl, sym, _∙_}
-use mathlib.Core.Bool.{Bool, true, false, not}
-use mathlib.Core.List.{List, [], _∷_, _++_}
-use lib.Dec.{eqb}
-use lib.ListN.{length, getD, set, take, replicate, length-set, getD-replicate}
-use lib.Seq.{take-suc, getD-set-same, getD-set-other}
-use borrow.Author.Tests.{eq-eqb, ne-eqb}
-use Rattle.model.specs.declared.UsageFlags.{UsageFlags}
-use Rattle.model.specs.Base.{if_then_else_}
+use Rattle.model.specs.Prelude.{ℕ, _+_, _<_, add-one, ℕ-discrete, arith, _≡_, refl, sym, _∙_, Bool, true, false, not, List, [], _∷_, _++_}
+use Rattle.model.specs.Prelude.{eqb, length, getD, set, take, replicate, length-set, getD-replicate, take-suc, getD-set-same}
+use Rattle.model.specs.Prelude.{getD-set-other, eq-eqb, ne-eqb}
+use Rattle.model.specs.{declared.UsageFlags.UsageFlags, Base.if_then_else_}
 use Rattle.texture_barrier.specs.Adds.{entriesAt}
 use Rattle.agreement.specs.LogBound.{listed}
 use Rattle.call_remove.specs.Logs.{onceEntries, listedEntries}

@@ -1,20 +1,12 @@
 -- A scope that owns less than it did: of its table some words of ownership became 0, so all else reads as it did.
-use Prim.Native.Nat.{ℕ, zero, suc, _<_}
-use native.Mathlib.Decide.{ℕ-discrete}
-use native.Mathlib.Omega.{arith}
-use mathlib.Core.Path.{_≡_, refl, sym, ap, subst, _∙_}
-use mathlib.Core.Bool.{true, false, false≢true}
-use mathlib.Core.List.{List, [], _∷_}
-use lib.ListN.{length, getD, set, take, length-set}
-use lib.Seq.{getD-set-same, getD-set-other}
-use borrow.Author.Tests.{eq-eqb}
+use Rattle.model.specs.Prelude.{ℕ, zero, suc, _<_, ℕ-discrete, arith, _≡_, refl, sym, ap, subst, _∙_, true, false, false≢true, List, []}
+use Rattle.model.specs.Prelude.{_∷_, length, getD, set, take, length-set, getD-set-same, getD-set-other, eq-eqb}
 use Rattle.model.specs.Sets.{Numbers, withSlots}
-use Rattle.set_storage.specs.Storage.{numbersOf, extentOf, ownedOf, heldOf, slotWith, setWith, scopeOf, startHalf}
-use Rattle.set_storage.specs.Storage.{tableIndices, tableLength, texturesAt, complexAt, ownedAt, mipsAt, layersAt, stateAt, countAt}
+use Rattle.set_storage.specs.Storage.{numbersOf, extentOf, ownedOf, heldOf, slotWith, setWith, scopeOf, startHalf, tableIndices}
+use Rattle.set_storage.specs.Storage.{tableLength, texturesAt, complexAt, ownedAt, mipsAt, layersAt, stateAt, countAt}
 use Rattle.set_storage.specs.Stays.{Stays, only, stays-refl, stays-then, stays-more, stays-set, head-off, ScopeFrame}
 use Rattle.set_storage.specs.Slots.{SlotFrame, set-becomes, held-ext, mip-ext}
-use Rattle.set_ready.specs.Tested.{ScopeTested}
-use Rattle.set_ready.specs.Half.{HalfReady, HeadStays, numbers-stay, scope-still}
+use Rattle.set_ready.specs.{Tested.ScopeTested, Half.{HalfReady, HeadStays, numbers-stay, scope-still}}
 use Rattle.call_remove.specs.Gone.{disowned}
 
 -- ---- Every word stays but some of ownership

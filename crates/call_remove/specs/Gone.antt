@@ -1,9 +1,5 @@
 -- What the sparse call names, and the scope's table once it no longer owns it.
-use Prim.Native.Nat.{ℕ, zero, suc, _<_}
-use mathlib.Core.Path.{_≡_, refl, ap}
-use mathlib.Core.Bool.{true}
-use mathlib.Core.List.{List, [], _∷_, _++_}
-use lib.ListN.{length, getD, set}
+use Rattle.model.specs.Prelude.{ℕ, zero, suc, _<_, _≡_, refl, ap, true, List, [], _∷_, _++_, length, getD, set}
 use Rattle.set_storage.specs.Storage.{ownedAt, ownedOf}
 
 -- index j stands in the list, and the scope with the table g owns it

@@ -1,32 +1,16 @@
 -- The transitions of the listed textures that a scope owns: what is asked for, and that they are the model's.
-use Prim.Native.Nat.{ℕ, _<_}
-use native.Mathlib.Omega.{arith}
-use mathlib.Core.Path.{_≡_, refl, ap, _∙_}
-use mathlib.Core.Bool.{Bool, true, false}
-use mathlib.Core.List.{List, []}
-use lib.ListN.{length, getD, take}
-use Rattle.model.specs.declared.UsageFlags.{UsageFlags}
-use Rattle.model.specs.declared.PendingTransition.{PendingTransition}
-use Rattle.model.specs.Base.{if_then_else_}
-use Rattle.model.specs.Representation.{Ends}
-use Rattle.model.specs.Sets.{Slot, emptySlot}
-use Rattle.model.specs.Calls.{noEnds, logSlot, sparseAll}
-use Rattle.model.specs.Log.{pending, pendingOf}
-use Rattle.model.specs.Texture.{Held, Entry, ranged}
-use Rattle.set_storage.specs.Storage.{numbersOf, flagsOf, extentOf, ownedOf, startHalf, heldOf, slotWith, scopeOf, trackerOf, maskAt, texturesAt, trackerSlot}
-use Rattle.set_storage.specs.Lists.{list-at}
+use Rattle.model.specs.Prelude.{ℕ, _<_, arith, _≡_, refl, ap, _∙_, Bool, true, false, List, [], length, getD, take}
+use Rattle.model.specs.{declared.{UsageFlags.UsageFlags, PendingTransition.PendingTransition}, Base.if_then_else_, Representation.Ends}
+use Rattle.model.specs.{Sets.{Slot, emptySlot}, Calls.{noEnds, logSlot, sparseAll}, Log.{pending, pendingOf}, Texture.{Held, Entry, ranged}}
+use Rattle.set_storage.specs.Storage.{numbersOf, flagsOf, extentOf, ownedOf, startHalf, heldOf, slotWith, scopeOf, trackerOf, maskAt}
+use Rattle.set_storage.specs.{Storage.{texturesAt, trackerSlot}, Lists.list-at}
 use Rattle.texture_barrier.specs.Adds.{entriesAt}
 use Rattle.agreement.specs.LogBound.{listed}
 use Rattle.set_checks.specs.Passed.{SparsePassed}
-use Rattle.set_ready.specs.Tested.{half-fits, ScopeTested, TrackerTested}
-use Rattle.set_ready.specs.Half.{tracker-texture}
-use Rattle.set_ready.specs.Given.{givenAt}
-use Rattle.texture_track.specs.Slot.{slot-pending}
-use Rattle.texture_track.specs.GivenSlot.{LogsAt, endEntries, givenEntries}
+use Rattle.set_ready.specs.{Tested.{half-fits, ScopeTested, TrackerTested}, Half.tracker-texture, Given.givenAt}
+use Rattle.texture_track.specs.{Slot.slot-pending, GivenSlot.{LogsAt, endEntries, givenEntries}}
 use Rattle.log_head.specs.UpTo.{upTo}
-use Rattle.call_remove.specs.Once.{onceAt, once-up, once-each, up-ext}
-use Rattle.call_remove.specs.Removed.{setsOf}
-use Rattle.call_remove.specs.Sparse.{into, given, takenLog, sparse-log}
+use Rattle.call_remove.specs.{Once.{onceAt, once-up, once-each, up-ext}, Removed.setsOf, Sparse.{into, given, takenLog, sparse-log}}
 
 -- what is asked of the loop: every listed index is ready
 pub record LogsListed (t e g r is : List ℕ) : Type 0 where

@@ -1,16 +1,8 @@
 -- Lists of indices, each of which counts once: whether one was listed before, and what a list makes.
-use Prim.Native.Nat.{ℕ, zero, suc, _≤_, _<_}
-use native.Mathlib.Omega.{arith}
-use mathlib.Core.Path.{_≡_, refl, sym, ap, _∙_}
-use mathlib.Core.Logic.{_⊎_, inl, inr}
-use mathlib.Core.Bool.{Bool, true, false, false≢true}
-use mathlib.Core.List.{List, [], _∷_, _++_, append-assoc, append-nil}
-use lib.Dec.{eqb}
-use lib.ListN.{length, getD, take, drop}
-use lib.Seq.{take-suc, drop-cons, drop-length}
-use borrow.Author.Tests.{eqb-true, eqb-false}
-use Rattle.model.specs.Base.{if_then_else_, each}
-use Rattle.model.specs.ListLaws.{each-append}
+use Rattle.model.specs.Prelude.{ℕ, zero, suc, _≤_, _<_, arith, _≡_, refl, sym, ap, _∙_, _⊎_, inl, inr, Bool, true, false, false≢true, List}
+use Rattle.model.specs.Prelude.{[], _∷_, _++_, append-assoc, append-nil, eqb, length, getD, take, drop, take-suc, drop-cons, drop-length}
+use Rattle.model.specs.Prelude.{eqb-true, eqb-false}
+use Rattle.model.specs.{Base.{if_then_else_, each}, ListLaws.each-append}
 use Rattle.agreement.specs.LogBound.{listed}
 use Rattle.log_head.specs.UpTo.{upTo}
 

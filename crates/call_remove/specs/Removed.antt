@@ -1,30 +1,17 @@
 -- THE CONTRACT of the sparse call: the answer, and the content of what was lent; and what it is check by check.
-use Prim.Native.Nat.{ℕ, _/_, _≤_}
-use mathlib.Core.Path.{_≡_, refl, sym, ap, _∙_}
-use mathlib.Core.Bool.{Bool, true, false, _&&_, false≢true}
-use mathlib.Core.List.{List}
-use lib.ListN.{length}
-use Rattle.model.specs.declared.Answered.{Answered}
-use Rattle.model.specs.declared.InvalidUse.{InvalidUse}
-use Rattle.model.specs.declared.LogHead.{LogHead}
-use Rattle.model.specs.declared.PendingTransition.{PendingTransition}
-use Rattle.model.specs.declared.Refusal.{Refusal}
+use Rattle.model.specs.Prelude.{ℕ, _/_, _≤_, _≡_, refl, sym, ap, _∙_, Bool, true, false, _&&_, false≢true, List, length}
 use Rattle.model.specs.declared.Refusal.the-variants.{NotWellFormed, LogTooShort}
-use Rattle.model.specs.Sets.{Set, Tracker}
-use Rattle.model.specs.Calls.{CallResult, done, setAndRemoveSparse}
-use Rattle.model.specs.Calls as calls
-use Rattle.model.specs.Log.{isRefused, pending}
-use Rattle.model.specs.Texture.{Held, Entry, ranged}
+use Rattle.model.specs.declared.{Answered.Answered, InvalidUse.InvalidUse, LogHead.LogHead, PendingTransition.PendingTransition}
+use Rattle.model.specs.{declared.Refusal.Refusal, Sets.{Set, Tracker}, Calls.{CallResult, done, setAndRemoveSparse}}
+use Rattle.model.specs.{Log.{isRefused, pending}, Texture.{Held, Entry, ranged}, BoolLaws.by-lt}
 use Rattle.set_storage.specs.Storage.{numbersOf, scopeOf, trackerOf}
-use Rattle.set_storage.specs.Lent.{LentScope, LentTracker, scopeIn, trackerIn, scopeTest, trackerTest}
-use Rattle.set_storage.specs.Stays.{TrackerFrame, both-refl}
+use Rattle.set_storage.specs.{Lent.{LentScope, LentTracker, scopeIn, trackerIn, scopeTest, trackerTest}, Stays.{TrackerFrame, both-refl}}
 use Rattle.set_ready.specs.Named.{within}
-use Rattle.log_head.specs.Log.{headWithin, refusedWith}
-use Rattle.log_head.specs.Called.{Called, Changed, changed}
-use Rattle.log_head.specs.Called as called
+use Rattle.log_head.specs.{Log.{headWithin, refusedWith}, Called.{Called, Changed, changed}}
 use Rattle.texture_track.specs.Tracked.{Same}
 use Rattle.call_remove.specs.Gone.{Listed, disowned}
-use Rattle.model.specs.BoolLaws.{by-lt}
+use Rattle.model.specs.Calls as calls
+use Rattle.log_head.specs.Called as called
 
 -- the tracker t with the ranges s and e, and the scope g with the ranges r
 abbrev pub Both : Type 0

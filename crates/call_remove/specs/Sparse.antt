@@ -1,22 +1,11 @@
 -- The model's sparse call: what one listed index leaves of the sets, and its log from the sets at entry.
-use Prim.Native.Nat.{ℕ, zero, suc}
-use native.Mathlib.Decide.{ℕ-discrete}
-use mathlib.Core.Path.{_≡_, refl, ap, _∙_}
-use mathlib.Core.Logic.{_⊎_, inl, inr}
-use mathlib.Core.Bool.{Bool, true, false, false≢true}
-use mathlib.Core.List.{List, [], _∷_, _++_}
-use lib.ListN.{getD, set}
-use lib.Seq.{getD-set-other}
-use Rattle.model.specs.declared.InvalidUse.{InvalidUse}
-use Rattle.model.specs.Base.{if_then_else_}
-use Rattle.model.specs.Representation.{Ends}
-use Rattle.model.specs.Sets.{Slot, emptySlot, slotAt}
-use Rattle.model.specs.Calls.{Indexed, CallResult, logSlot, noEnds, sparseOne, sparseAll}
-use Rattle.model.specs.Texture.{Held, Entry, fromHeld, ranged}
+use Rattle.model.specs.Prelude.{ℕ, zero, suc, ℕ-discrete, _≡_, refl, ap, _∙_, _⊎_, inl, inr, Bool, true, false, false≢true, List, [], _∷_}
+use Rattle.model.specs.Prelude.{_++_, getD, set, getD-set-other}
+use Rattle.model.specs.{declared.InvalidUse.InvalidUse, Base.if_then_else_, Representation.Ends, Sets.{Slot, emptySlot, slotAt}}
+use Rattle.model.specs.{Calls.{Indexed, CallResult, logSlot, noEnds, sparseOne, sparseAll}, Texture.{Held, Entry, fromHeld, ranged}}
 use Rattle.model.specs.BoolLaws.{by-test, by-test₂}
 use Rattle.agreement.specs.LogBound.{listed}
-use Rattle.call_remove.specs.Removed.{Both}
-use Rattle.call_remove.specs.Once.{not-listed, is-listed, eachOnce}
+use Rattle.call_remove.specs.{Removed.Both, Once.{not-listed, is-listed, eachOnce}}
 
 -- what the call gives
 abbrev BothResult : Type 0

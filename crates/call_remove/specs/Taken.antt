@@ -1,35 +1,18 @@
 -- A listed texture that a scope owns goes into a tracker, and the scope no longer owns it: one, and all of a list.
-use Prim.Native.Nat.{ℕ, _+_, _≤_, _<_}
-use native.Mathlib.Omega.{arith}
-use native.Mathlib.Numerals.{add-one}
-use mathlib.Core.Path.{_≡_, refl, sym, ap, subst, _∙_}
-use mathlib.Core.Bool.{true, false, false≢true}
-use mathlib.Core.List.{List, [], _∷_}
-use lib.ListN.{length, getD, set, take, drop}
-use lib.Seq.{take-suc, take-all, drop-cons, drop-length}
-use borrow.Author.Tests.{eq-eqb, ne-eqb, eqb-true, not-false}
-use Rattle.model.specs.declared.UsageFlags.{UsageFlags}
-use Rattle.model.specs.declared.InvalidUse.{InvalidUse}
-use Rattle.model.specs.Sets.{Slot}
-use Rattle.model.specs.Calls.{CallResult, setSlot, sparseOne, sparseAll}
-use Rattle.model.specs.Texture.{Held, Entry, ranged}
-use Rattle.model.specs.BoolLaws.{by-test}
-use Rattle.set_storage.specs.Stays.{only, onlyOwned, TrackerFrame}
-use Rattle.set_storage.specs.Frames.{Measured}
-use Rattle.set_storage.specs.Storage.{numbersOf, flagsOf, extentOf, ownedOf, startHalf, scopeOf, trackerOf, trackerSlot}
-use Rattle.set_storage.specs.Storage.{ownedAt, texturesAt, tableIndices, tableLength}
+use Rattle.model.specs.Prelude.{ℕ, _+_, _≤_, _<_, add-one, arith, _≡_, refl, sym, ap, subst, _∙_, true, false, false≢true, List, [], _∷_}
+use Rattle.model.specs.Prelude.{length, getD, set, take, drop, take-suc, take-all, drop-cons, drop-length, eq-eqb, ne-eqb, eqb-true}
+use Rattle.model.specs.Prelude.{not-false}
+use Rattle.model.specs.{declared.{UsageFlags.UsageFlags, InvalidUse.InvalidUse}, Sets.Slot}
+use Rattle.model.specs.{Calls.{CallResult, setSlot, sparseOne, sparseAll}, Texture.{Held, Entry, ranged}, BoolLaws.by-test}
+use Rattle.set_storage.specs.{Stays.{only, onlyOwned, TrackerFrame}, Frames.Measured}
+use Rattle.set_storage.specs.Storage.{numbersOf, flagsOf, extentOf, ownedOf, startHalf, scopeOf, trackerOf, trackerSlot, ownedAt}
+use Rattle.set_storage.specs.Storage.{texturesAt, tableIndices, tableLength}
 use Rattle.set_checks.specs.Passed.{TexturePassed, SparsePassed}
-use Rattle.set_ready.specs.Named.{within}
-use Rattle.set_ready.specs.Tested.{ScopeTested, TrackerTested}
-use Rattle.set_ready.specs.Half.{HeadStays, BothReady, tracker-keeps, flags-stay, measured-stays}
-use Rattle.set_ready.specs.Walked.{walked-turn}
-use Rattle.set_ready.specs.SetWalk.{TrackerWalked, tracker-start, left-ready, tracker-turn}
-use Rattle.texture_track.specs.Slot.{SlotSet, tracker-kept, tracker-named, tracker-view}
-use Rattle.set_ready.specs.Given.{givenAt, HalfGiven}
-use Rattle.texture_track.specs.GivenSlot.{SetsAt, slotAfter}
-use Rattle.call_remove.specs.Gone.{Listed, disowned, set-zero, disowned-last}
-use Rattle.call_remove.specs.Removed.{Both, setsOf}
-use Rattle.call_remove.specs.Sparse.{given}
+use Rattle.set_ready.specs.{Named.within, Tested.{ScopeTested, TrackerTested}}
+use Rattle.set_ready.specs.{Half.{HeadStays, BothReady, tracker-keeps, flags-stay, measured-stays}, Walked.walked-turn}
+use Rattle.set_ready.specs.{SetWalk.{TrackerWalked, tracker-start, left-ready, tracker-turn}, Given.{givenAt, HalfGiven}}
+use Rattle.texture_track.specs.{Slot.{SlotSet, tracker-kept, tracker-named, tracker-view}, GivenSlot.{SetsAt, slotAfter}}
+use Rattle.call_remove.specs.{Gone.{Listed, disowned, set-zero, disowned-last}, Removed.{Both, setsOf}, Sparse.given}
 use Rattle.call_remove.specs.Logs.{given-is, into-is}
 use Rattle.call_remove.specs.Fewer.{owned-keeps, extent-stays, off-other, off-still, off-view, Fewer, fewer, still-ready}
 

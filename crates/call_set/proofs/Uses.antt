@@ -1,44 +1,22 @@
 -- `set_checked` and `set_single`: from what the code found, wrote and changed to the contract.
-use Prim.Native.Nat.{ℕ, _/_, _≤_, _<_}
-use mathlib.Core.Path.{_≡_, refl, sym, ap, subst, _∙_}
-use mathlib.Core.Bool.{Bool, true}
-use mathlib.Core.List.{List}
-use mathlib.Core.Option.{Option, none, some}
-use lib.ListN.{length, getD, set}
-use Rattle.model.specs.declared.Extent.{Extent}
-use Rattle.model.specs.declared.InvalidUse.{InvalidUse}
-use Rattle.model.specs.declared.LogHead.{LogHead}
-use Rattle.model.specs.declared.Selector.{Selector}
+use Rattle.model.specs.Prelude.{ℕ, _/_, _≤_, _<_, _≡_, refl, sym, ap, subst, _∙_, Bool, true, Option, none, some, List, length, getD, set}
 use Rattle.model.specs.declared.Selection.the-variants.{Part}
-use Rattle.model.specs.declared.UsageFlags.{UsageFlags}
-use Rattle.model.specs.declared.Refusal.{Refusal}
-use Rattle.model.specs.Representation.{Ends, isFull}
-use Rattle.model.specs.WellFormed.{trackerFits, wellFormedTracker}
-use Rattle.agreement.specs.LogRoom.{entries-written}
-use Rattle.agreement.specs.EachCall.{set-single-room}
-use Rattle.model.specs.Sets.{capacity, Head, Slot, Tracker, slotAt, emptySlot, withTracker}
-use Rattle.model.specs.Refusals.{singleRefusal}
-use Rattle.model.specs.Calls.{CallResult, done, unless, setSlot, logSlot, setSingle, noEnds}
-use Rattle.model.specs.Calls as calls
-use Rattle.model.specs.Log.{pending}
-use Rattle.model.specs.Texture.{Held, Given, Entry, fromUse, ranged}
-use Rattle.model.specs.BoolLaws.{and-left}
-use Rattle.set_storage.specs.Lists.{list-at}
-use Rattle.set_storage.specs.Storage.{numbersOf, flagsOf, trackerOf, maskAt, texturesAt, trackerSlot}
+use Rattle.model.specs.declared.{Extent.Extent, InvalidUse.InvalidUse, LogHead.LogHead, Selector.Selector, UsageFlags.UsageFlags}
+use Rattle.model.specs.{declared.{Refusal.Refusal, Answered.Answered}, Representation.{Ends, isFull}}
+use Rattle.model.specs.{WellFormed.{trackerFits, wellFormedTracker}, Sets.{capacity, Head, Slot, Tracker, slotAt, emptySlot, withTracker}}
+use Rattle.model.specs.{Refusals.singleRefusal, Calls.{CallResult, done, unless, setSlot, logSlot, setSingle, noEnds}, Log.pending}
+use Rattle.model.specs.{Texture.{Held, Given, Entry, fromUse, ranged}, BoolLaws.and-left}
+use Rattle.agreement.specs.{LogRoom.entries-written, EachCall.set-single-room}
+use Rattle.set_storage.specs.{Lists.list-at, Storage.{numbersOf, flagsOf, trackerOf, maskAt, texturesAt, trackerSlot}}
 use Rattle.set_storage.specs.Stays.{only, both-more}
 use Rattle.texture_merge.specs.Uses.{useOf}
-use Rattle.set_checks.specs.Head.{useRefusal, tracker-head, UseTold}
-use Rattle.model.specs.declared.Verdict.the-variants as verdict
-use Rattle.set_checks.specs.Passed.{use-passed, texture-passed, selector-passed, state-passed}
-use Rattle.set_ready.specs.Tested.{TrackerTested}
-use Rattle.set_ready.specs.Half.{BothReady, tracker-texture}
-use Rattle.set_ready.specs.Checked.{TakenUse, full-is}
-use Rattle.model.specs.declared.Answered.{Answered}
-use Rattle.texture_track.specs.Tracked.{Same, Tracked, Changes, away-own, changes-tracked}
-use Rattle.texture_track.specs.Slot.{SlotSet, tracker-view, slot-pending}
+use Rattle.set_checks.specs.{Head.{useRefusal, tracker-head, UseTold}, Passed.{use-passed, texture-passed, selector-passed, state-passed}}
+use Rattle.set_ready.specs.{Tested.TrackerTested, Half.{BothReady, tracker-texture}, Checked.{TakenUse, full-is}}
+use Rattle.texture_track.specs.{Tracked.{Same, Tracked, Changes, away-own, changes-tracked}, Slot.{SlotSet, tracker-view, slot-pending}}
 use Rattle.call_set.specs.Used.{usedEntries, usedTracker}
-use Rattle.log_head.specs.Log.{headWithin, refusedWith}
-use Rattle.log_head.specs.Called.{Changed}
+use Rattle.log_head.specs.{Log.{headWithin, refusedWith}, Called.Changed}
+use Rattle.model.specs.Calls as calls
+use Rattle.model.specs.declared.Verdict.the-variants as verdict
 
 -- ---- `set_checked`
 module _ (t s e : List ℕ) (i : ℕ) (sh : Extent) (g : Given) where

@@ -1,15 +1,8 @@
 -- THE CONTRACT of `set_single`.
-use Prim.Native.Nat.{ℕ}
-use mathlib.Core.List.{List}
-use Rattle.model.specs.declared.Answered.{Answered}
-use Rattle.model.specs.declared.Extent.{Extent}
-use Rattle.model.specs.declared.LogHead.{LogHead}
-use Rattle.model.specs.declared.Selector.{Selector}
-use Rattle.model.specs.declared.TrackerIndex.{TrackerIndex}
-use Rattle.model.specs.Calls.{setSingle}
-use Rattle.model.specs.Texture.{ranged}
-use Rattle.set_storage.specs.Lent.{LentTracker, trackerIn, trackerTest}
-use Rattle.set_storage.specs.Stays.{only}
+use Rattle.model.specs.Prelude.{ℕ, List}
+use Rattle.model.specs.declared.{Answered.Answered, Extent.Extent, LogHead.LogHead, Selector.Selector, TrackerIndex.TrackerIndex}
+use Rattle.model.specs.{Calls.setSingle, Texture.ranged}
+use Rattle.set_storage.specs.{Lent.{LentTracker, trackerIn, trackerTest}, Stays.only}
 use Rattle.texture_track.specs.Tracked.{TrackerCall}
 
 -- of what is lent, and a primed name for what it leaves

@@ -1,11 +1,6 @@
 -- One use of texture i of a tracker: what it adds to the log, and the tracker that it leaves.
-use Prim.Native.Nat.{ℕ}
-use mathlib.Core.List.{List}
-use lib.ListN.{getD, set}
-use Rattle.model.specs.declared.Extent.{Extent}
-use Rattle.model.specs.declared.PendingTransition.{PendingTransition}
-use Rattle.model.specs.Sets.{Tracker, withTracker}
-use Rattle.model.specs.Calls.{setSlot}
+use Rattle.model.specs.Prelude.{ℕ, List, getD, set}
+use Rattle.model.specs.{declared.{Extent.Extent, PendingTransition.PendingTransition}, Sets.{Tracker, withTracker}, Calls.setSlot}
 use Rattle.model.specs.Texture.{Held, Given, ranged}
 use Rattle.set_storage.specs.Storage.{flagsOf, trackerOf, maskAt, trackerSlot}
 use Rattle.texture_barrier.specs.Adds.{entriesAt}

@@ -1,11 +1,10 @@
 -- Nothing is lost in the numbers: each outcome is told by numbers that tell it alone.
-use mathlib.Core.Path.{_≡_, refl, ap}
-use Rattle.model.specs.declared.Outcome.{Outcome}
+use Rattle.model.specs.Prelude.{_≡_, refl, ap}
 use Rattle.model.specs.declared.Outcome.the-variants.{Done, Refused, Conflict}
-use Rattle.model.specs.declared.Refusal.{Refusal}
-use Rattle.model.specs.declared.Refusal.the-variants.{NumbersOutOfLimits, FlagsBreakRule, ShortRoom, NotWellFormed, LogTooShort, FlagsDiffer, NoSuchIndex, ExtentOutOfLimits, ExtentDiffers, SelectorEmpty, SelectorPastExtent, StateReserved, StateIncompatible, RangesOutOfOrder, NoFreeEntry}
-use Rattle.model.specs.Refusals.{numberOf, placeOf}
-use Rattle.model.specs.declared.Answered.{Answered}
+use Rattle.model.specs.declared.Refusal.the-variants.{NumbersOutOfLimits, FlagsBreakRule, ShortRoom, NotWellFormed, LogTooShort}
+use Rattle.model.specs.declared.Refusal.the-variants.{FlagsDiffer, NoSuchIndex, ExtentOutOfLimits, ExtentDiffers, SelectorEmpty}
+use Rattle.model.specs.declared.Refusal.the-variants.{SelectorPastExtent, StateReserved, StateIncompatible, RangesOutOfOrder, NoFreeEntry}
+use Rattle.model.specs.{declared.{Outcome.Outcome, Refusal.Refusal, Answered.Answered}, Refusals.{numberOf, placeOf}}
 use Rattle.exports.specs.SetAnswers.{answerOf, outcomeOf, refusalFrom, loggedOf, answeredOf}
 
 -- a refusal, by its number and place

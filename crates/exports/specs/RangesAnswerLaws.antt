@@ -1,14 +1,12 @@
 -- Nothing is lost in the numbers of the calls on ranges either.
-use mathlib.Core.Path.{_≡_, refl, ap}
+use Rattle.model.specs.Prelude.{_≡_, refl, ap}
 use Rattle.model.specs.declared.Refusal.{Refusal}
-use Rattle.range_calls.specs.declared.IsolateAnswer.{IsolateAnswer}
-use Rattle.range_calls.specs.declared.IsolateAnswer.the-variants as isolate
-use Rattle.range_calls.specs.declared.CoalesceAnswer.{CoalesceAnswer}
-use Rattle.range_calls.specs.declared.CoalesceAnswer.the-variants as coalesce
+use Rattle.range_calls.specs.{declared.IsolateAnswer.IsolateAnswer, declared.CoalesceAnswer.CoalesceAnswer}
 use Rattle.range_calls.specs.declared.FilterAnswer.{FilterAnswer}
+use Rattle.exports.specs.{AnswerLaws.refusal-told, RangesAnswers.{isolateAs, coalesceAs, filterAs, isolateIn, coalesceIn, filterIn}}
+use Rattle.range_calls.specs.declared.IsolateAnswer.the-variants as isolate
+use Rattle.range_calls.specs.declared.CoalesceAnswer.the-variants as coalesce
 use Rattle.range_calls.specs.declared.FilterAnswer.the-variants as filter
-use Rattle.exports.specs.AnswerLaws.{refusal-told}
-use Rattle.exports.specs.RangesAnswers.{isolateAs, coalesceAs, filterAs, isolateIn, coalesceIn, filterIn}
 
 pub isolate-told : (x : IsolateAnswer) → isolateIn (isolateAs x) ≡ x
 isolate-told (isolate.Refused r) = ap (λ (y : Refusal). isolate.Refused y) (refusal-told r)

@@ -1,17 +1,12 @@
 -- An answer of the calls on ranges in plain numbers: which numbers tell each answer, and which answer the numbers tell.
-use Prim.Native.Nat.{ℕ}
-use lib.Dec.{eqb}
-use Rattle.model.specs.declared.Outcome.{Outcome}
-use Rattle.model.specs.declared.Outcome.the-variants.{Done, Refused}
-use Rattle.model.specs.Base.{if_then_else_}
-use Rattle.range_calls.specs.declared.IsolateAnswer.{IsolateAnswer}
-use Rattle.range_calls.specs.declared.IsolateAnswer.the-variants as isolate
-use Rattle.range_calls.specs.declared.CoalesceAnswer.{CoalesceAnswer}
-use Rattle.range_calls.specs.declared.CoalesceAnswer.the-variants as coalesce
+use Rattle.model.specs.Prelude.{ℕ, eqb}
+use Rattle.model.specs.{declared.Outcome.Outcome, declared.Outcome.the-variants.{Done, Refused}, Base.if_then_else_}
+use Rattle.range_calls.specs.{declared.IsolateAnswer.IsolateAnswer, declared.CoalesceAnswer.CoalesceAnswer}
 use Rattle.range_calls.specs.declared.FilterAnswer.{FilterAnswer}
+use Rattle.exports.specs.{declared.RangesAnswer.RangesAnswer, SetAnswers.{answerOf, refusalFrom}}
+use Rattle.range_calls.specs.declared.IsolateAnswer.the-variants as isolate
+use Rattle.range_calls.specs.declared.CoalesceAnswer.the-variants as coalesce
 use Rattle.range_calls.specs.declared.FilterAnswer.the-variants as filter
-use Rattle.exports.specs.declared.RangesAnswer.{RangesAnswer}
-use Rattle.exports.specs.SetAnswers.{answerOf, refusalFrom}
 
 -- ---- The numbers of an answer: what is not told is 0
 abbrev pub numbersOf : Outcome → ℕ → ℕ → ℕ → RangesAnswer

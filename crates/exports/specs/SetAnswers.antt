@@ -1,24 +1,14 @@
 -- An answer in plain numbers: which numbers tell each outcome of a call, and which outcome the numbers tell.
-use Prim.Native.Nat.{ℕ, _-_}
-use mathlib.Core.List.{[], _∷_}
-use lib.Dec.{eqb}
-use lib.ListN.{getD}
-use Rattle.model.specs.declared.Conflict.{Conflict as Conflicting}
-use Rattle.model.specs.declared.LogHead.{LogHead}
-use Rattle.model.specs.declared.Outcome.{Outcome}
-use Rattle.model.specs.declared.Outcome.the-variants.{Done, Refused, Conflict}
-use Rattle.model.specs.declared.Refusal.{Refusal}
-use Rattle.model.specs.declared.Refusal.the-variants.{NumbersOutOfLimits, FlagsBreakRule, ShortRoom, NotWellFormed, LogTooShort, FlagsDiffer, NoSuchIndex, ExtentOutOfLimits, ExtentDiffers, SelectorEmpty, SelectorPastExtent, StateReserved, StateIncompatible, RangesOutOfOrder, NoFreeEntry}
-use Rattle.model.specs.declared.Selection.{Selection}
+use Rattle.model.specs.Prelude.{ℕ, _-_, [], _∷_, eqb, getD}
+use Rattle.model.specs.{declared.Conflict.{Conflict as Conflicting}, declared.Outcome.the-variants.{Done, Refused, Conflict}}
+use Rattle.model.specs.declared.Refusal.the-variants.{NumbersOutOfLimits, FlagsBreakRule, ShortRoom, NotWellFormed, LogTooShort}
+use Rattle.model.specs.declared.Refusal.the-variants.{FlagsDiffer, NoSuchIndex, ExtentOutOfLimits, ExtentDiffers, SelectorEmpty}
+use Rattle.model.specs.declared.Refusal.the-variants.{SelectorPastExtent, StateReserved, StateIncompatible, RangesOutOfOrder, NoFreeEntry}
 use Rattle.model.specs.declared.Selection.the-variants.{Full, Part}
-use Rattle.model.specs.declared.Selector.{Selector}
-use Rattle.model.specs.declared.UsageFlags.{UsageFlags}
-use Rattle.model.specs.Base.{if_then_else_}
-use Rattle.model.specs.Refusals.{numberOf, placeOf, trackerIndex}
+use Rattle.model.specs.declared.{LogHead.LogHead, Outcome.Outcome, Refusal.Refusal, Selection.Selection, Selector.Selector}
+use Rattle.model.specs.{declared.{UsageFlags.UsageFlags, Answered.Answered}, Base.if_then_else_, Refusals.{numberOf, placeOf, trackerIndex}}
 use Rattle.model.specs.Representation.{select, mipStart, mipEnd, layerStart, layerEnd}
-use Rattle.model.specs.declared.Answered.{Answered}
-use Rattle.exports.specs.declared.Answer.{Answer}
-use Rattle.exports.specs.declared.LoggedAnswer.{LoggedAnswer}
+use Rattle.exports.specs.{declared.Answer.Answer, declared.LoggedAnswer.LoggedAnswer}
 
 -- ---- The numbers of an outcome
 -- "The answer is the number and a place": what is not told is 0

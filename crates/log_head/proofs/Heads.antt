@@ -1,9 +1,5 @@
 -- The head of a log against what was lent, as `head_fits` compares them.
-use Prim.Native.Nat.{ℕ, _+_, _-_, _≤_, _<_}
-use native.Mathlib.Omega.{arith}
-use mathlib.Core.Bool.{true, false}
-use mathlib.Core.Path.{_≡_}
-use borrow.Author.Tests.{lt-ltb, le-ltb}
+use Rattle.model.specs.Prelude.{ℕ, _+_, _-_, _≤_, _<_, arith, _≡_, true, false, lt-ltb, le-ltb}
 use Rattle.model.specs.declared.LogHead.{LogHead}
 use Rattle.log_head.specs.Log.{headWithin}
 

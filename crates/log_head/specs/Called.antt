@@ -1,24 +1,13 @@
 -- THE CONTRACT of a call that logs, over any view X of the sets that it is lent; and what it is check by check.
-use Prim.Native.Nat.{ℕ, _+_, _*_, _/_, _≤_, _<_}
-use native.Mathlib.Omega.{arith}
-use mathlib.Core.Path.{_≡_, refl, sym, ap, _∙_}
-use mathlib.Core.Bool.{Bool, true, false, false≢true}
-use mathlib.Core.List.{List}
-use lib.ListN.{length}
-use Rattle.model.specs.declared.Answered.{Answered}
-use Rattle.model.specs.declared.InvalidUse.{InvalidUse}
-use Rattle.model.specs.declared.LogHead.{LogHead}
-use Rattle.model.specs.declared.PendingTransition.{PendingTransition}
-use Rattle.model.specs.declared.Refusal.{Refusal}
+use Rattle.model.specs.Prelude.{ℕ, _+_, _*_, _/_, _≤_, _<_, arith, _≡_, refl, sym, ap, _∙_, Bool, true, false, false≢true, List, length}
 use Rattle.model.specs.declared.Refusal.the-variants.{NotWellFormed, LogTooShort, NoFreeEntry}
-use Rattle.model.specs.Calls.{done, CallResult}
-use Rattle.model.specs.Calls as calls
-use Rattle.model.specs.Log.{Logged, isRefused, added, pending, logging}
-use Rattle.model.specs.Texture.{Entry}
-use Rattle.texture_barrier.specs.Entries.{Added}
-use Rattle.log_head.specs.Log.{logOf, Logs, headWithin, refusedWith, movedOn, head-le, lent-is, staying, unfit, too-short, own-refusal, too-few, logged-on, log-stays, log-moves}
-use Rattle.texture_barrier.specs.Adds.{Adds, adds-added}
+use Rattle.model.specs.declared.{Answered.Answered, InvalidUse.InvalidUse, LogHead.LogHead, PendingTransition.PendingTransition}
+use Rattle.model.specs.{declared.Refusal.Refusal, Calls.{done, CallResult}, Log.{Logged, isRefused, added, pending, logging}, Texture.Entry}
 use Rattle.model.specs.BoolLaws.{by-lt}
+use Rattle.texture_barrier.specs.{Entries.Added, Adds.{Adds, adds-added}}
+use Rattle.log_head.specs.Log.{logOf, Logs, headWithin, refusedWith, movedOn, head-le, lent-is, staying, unfit, too-short}
+use Rattle.log_head.specs.Log.{own-refusal, too-few, logged-on, log-stays, log-moves}
+use Rattle.model.specs.Calls as calls
 
 -- `fits` says whether every set that was handed in is well formed, m is the model's call, and `same` says that every number of the sets stays
 pub record Called {X : Type 0} (before after : X) (same : Type 0) (fits : Bool) (m : CallResult InvalidUse (List Entry) X) (h : LogHead) (l : List ℕ)

@@ -1,25 +1,14 @@
 -- The log that a call is lent, what the call answers, and what the model's `logging` gives check by check: refused by the test, by the log's head, by
 -- its own checks or for want of entries; or done.
-use Prim.Native.Nat.{ℕ, _+_, _-_, _/_, _≤_, _<_}
-use mathlib.Core.Path.{_≡_, refl, sym, ap, _∙_}
-use mathlib.Core.Bool.{Bool, true, false, not}
-use mathlib.Core.List.{List}
-use lib.Dec.{ltb}
-use lib.ListN.{length}
-use borrow.Author.Tests.{lt-ltb, le-ltb, ltb-false, not-true, not-false}
-use Rattle.model.specs.declared.InvalidUse.{InvalidUse}
-use Rattle.model.specs.declared.LogHead.{LogHead}
-use Rattle.model.specs.declared.PendingTransition.{PendingTransition}
-use Rattle.model.specs.declared.Refusal.{Refusal}
+use Rattle.model.specs.Prelude.{ℕ, _+_, _-_, _/_, _≤_, _<_, _≡_, refl, sym, ap, _∙_, Bool, true, false, not, List, ltb, length, lt-ltb}
+use Rattle.model.specs.Prelude.{le-ltb, ltb-false, not-true, not-false}
 use Rattle.model.specs.declared.Refusal.the-variants.{NotWellFormed, LogTooShort, NoFreeEntry}
 use Rattle.model.specs.declared.Outcome.the-variants.{Done, Refused}
-use Rattle.model.specs.Refusals.{firstFailing}
-use Rattle.model.specs.Calls.{done, CallResult}
-use Rattle.model.specs.Calls as calls
-use Rattle.model.specs.Log.{Log, Logged, added, pending, outcomeOf, logging, emptying}
-use Rattle.model.specs.Texture.{Entry}
+use Rattle.model.specs.declared.{InvalidUse.InvalidUse, LogHead.LogHead, PendingTransition.PendingTransition, Refusal.Refusal}
+use Rattle.model.specs.{declared.Answered.Answered, Refusals.firstFailing, Calls.{done, CallResult}}
+use Rattle.model.specs.{Log.{Log, Logged, added, pending, outcomeOf, logging, emptying}, Texture.Entry}
 use Rattle.texture_barrier.specs.Entries.{entriesOf, unused, entries-long, Added}
-use Rattle.model.specs.declared.Answered.{Answered}
+use Rattle.model.specs.Calls as calls
 
 -- a borrowed log, with the head that its caller tells
 abbrev pub logOf : List ℕ → LogHead → Log

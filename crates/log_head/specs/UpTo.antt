@@ -1,9 +1,5 @@
 -- What a loop over the textures of a call adds to the log: the entries of one index, or of one position of a list, after those before it.
-use Prim.Native.Nat.{ℕ, zero, suc, _+_, _-_, _<_}
-use native.Mathlib.Omega.{arith}
-use native.Mathlib.Numerals.{add-one}
-use mathlib.Core.Path.{_≡_, sym, _∙_}
-use mathlib.Core.List.{List, [], _++_, append-assoc, append-nil}
+use Rattle.model.specs.Prelude.{ℕ, zero, suc, _+_, _-_, _<_, add-one, arith, _≡_, sym, _∙_, List, [], _++_, append-assoc, append-nil}
 use Rattle.model.specs.declared.PendingTransition.{PendingTransition}
 use Rattle.texture_barrier.specs.Adds.{NextLeft, NoneLeft}
 

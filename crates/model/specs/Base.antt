@@ -1,8 +1,5 @@
 -- Words that every definition uses: a choice on a test, lists made element by element, and a walk that stops.
-use mathlib.Core.Bool.{Bool, true, false, _&&_}
-use mathlib.Core.List.{List, [], _∷_, _++_}
-use mathlib.Core.Option.{Option, none, some}
-use Prim.Native.Nat.{ℕ, suc}
+use Rattle.model.specs.Prelude.{ℕ, suc, Bool, true, false, _&&_, Option, none, some, List, [], _∷_, _++_}
 
 infixr 5 if_then_else_
 -- a choice on a test

@@ -1,9 +1,6 @@
 -- Tests: a choice by cases, tests joined by `&&` and `||`, and a proof by the two cases of a comparison.
-use mathlib.Core.Bool.{Bool, true, false, _&&_, _||_, not, and-eq-true-iff, false≢true, true≢false}
-use mathlib.Core.Path.{_≡_, refl}
-use Prim.Native.Nat.{ℕ, _<_, _≤_}
-use lib.Dec.{ltb, eqb}
-use borrow.Author.Tests.{ltb-true, ltb-false, eqb-true, eqb-false}
+use Rattle.model.specs.Prelude.{ℕ, _<_, _≤_, _≡_, refl, Bool, true, false, _&&_, _||_, not, and-eq-true-iff, false≢true, true≢false}
+use Rattle.model.specs.Prelude.{ltb, eqb, ltb-true, ltb-false, eqb-true, eqb-false}
 use Rattle.model.specs.Base.{if_then_else_}
 
 -- a choice has a property where both its arms have it, each under its own answer of the test

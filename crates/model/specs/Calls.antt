@@ -1,17 +1,7 @@
 -- The six calls on sets, written once over a representation of one texture, and any number of scopes and trackers.
-use mathlib.Core.Bool.{true, false}
-use mathlib.Core.List.{List, [], _∷_, _++_}
-use mathlib.Core.Option.{Option, none, some, Option·map}
-use Prim.Native.Nat.{ℕ}
-use lib.Dec.{eqb}
-use lib.ListN.{set, getElem?}
-use Rattle.model.specs.declared.UsageFlags.{UsageFlags}
-use Rattle.model.specs.declared.Extent.{Extent}
-use Rattle.model.specs.declared.Selector.{Selector}
-use Rattle.model.specs.declared.TrackerIndex.{TrackerIndex}
-use Rattle.model.specs.declared.Refusal.{Refusal}
-use Rattle.model.specs.Base.{if_then_else_, each, eachAt₂, over₂, Stop, fine, walk₂}
-use Rattle.model.specs.Representation.{Ends, Representation}
+use Rattle.model.specs.Prelude.{ℕ, true, false, Option, none, some, Option·map, List, [], _∷_, _++_, eqb, set, getElem?}
+use Rattle.model.specs.declared.{UsageFlags.UsageFlags, Extent.Extent, Selector.Selector, TrackerIndex.TrackerIndex, Refusal.Refusal}
+use Rattle.model.specs.{Base.{if_then_else_, each, eachAt₂, over₂, Stop, fine, walk₂}, Representation.{Ends, Representation}}
 use Rattle.model.specs.Sets.{Slot, Set, Tracker, slotAt, withSlots, withTracker, headOf, Opening, openSet, openTracker}
 use Rattle.model.specs.Refusals.{firstFailing, singleRefusal, setRefusal, sparseRefusal, openingRefusal, opens}
 

@@ -1,19 +1,8 @@
 -- What a passed check tells, and what the tests of numbers, extents and flags decide.
-use mathlib.Core.Bool.{Bool, true, false, and-eq-true-iff}
-use mathlib.Core.List.{List, [], _∷_}
-use mathlib.Core.Option.{none, some}
-use mathlib.Core.Path.{_≡_, refl}
-use Prim.Native.Nat.{ℕ, _<_, _≤_}
-use native.Mathlib.Omega.{arith}
-use lib.Dec.{ltb, eqb}
-use borrow.Author.Tests.{eqb-true, eqb-false, ltb-false, not-false}
-use Rattle.model.specs.declared.Extent.{Extent}
-use Rattle.model.specs.declared.UsageFlags.{UsageFlags}
-use Rattle.model.specs.Base.{if_then_else_, All}
-use Rattle.model.specs.Flags.{sameFlags}
-use Rattle.model.specs.Sets.{Slot, ownExtent, outside}
-use Rattle.model.specs.Refusals.{Check, firstFailing, otherExtent, sameExtent}
-use Rattle.model.specs.BoolLaws.{neither}
+use Rattle.model.specs.Prelude.{ℕ, _<_, _≤_, arith, _≡_, refl, Bool, true, false, and-eq-true-iff, none, some, List, [], _∷_, ltb}
+use Rattle.model.specs.Prelude.{eqb, eqb-true, eqb-false, ltb-false, not-false}
+use Rattle.model.specs.{declared.{Extent.Extent, UsageFlags.UsageFlags}, Base.{if_then_else_, All}, Flags.sameFlags}
+use Rattle.model.specs.{Sets.{Slot, ownExtent, outside}, Refusals.{Check, firstFailing, otherExtent, sameExtent}, BoolLaws.neither}
 
 -- none of these checks failed
 abbrev pub Passed : List Check → Type 0

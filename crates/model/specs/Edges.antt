@@ -1,27 +1,16 @@
 -- 01's table of refusals, every number at its edge with its place, and which of two applies first: one theorem a kind of call, by computation.
 -- What the two representations share (the table, the calls' frame) is tested by nothing else but this page and the runs against the Rust.
-use mathlib.Core.Bool.{true}
-use mathlib.Core.List.{List, [], _∷_, map}
-use mathlib.Core.Option.{Option, none, some}
-use mathlib.Core.Path.{_≡_, refl}
-use Prim.Native.Nat.{ℕ}
-use lib.ListN.{getD, replicate, set}
-use Rattle.model.specs.declared.Extent.{Extent}
-use Rattle.model.specs.declared.Selector.{Selector}
-use Rattle.model.specs.declared.InvalidUse.{InvalidUse}
-use Rattle.model.specs.declared.PendingTransition.{PendingTransition}
-use Rattle.model.specs.declared.Refusal.{Refusal}
-use Rattle.model.specs.Flags.{incompatible}
-use Rattle.model.specs.Representation.{select, full}
+use Rattle.model.specs.Prelude.{ℕ, _≡_, refl, true, Option, none, some, List, [], _∷_, map, getD, replicate, set}
+use Rattle.model.specs.declared.{Extent.Extent, Selector.Selector, InvalidUse.InvalidUse, PendingTransition.PendingTransition}
+use Rattle.model.specs.{declared.Refusal.Refusal, Flags.incompatible, Representation.{select, full}}
 use Rattle.model.specs.Sets.{Opening, Tracker, withTracker, openTracker}
 use Rattle.model.specs.Refusals.{numberOf, placeOf, firstFailing, openingRefusal, trackerIndex}
-use Rattle.model.specs.Calls.{Answer, done, refused, inConflict, Call, callMergeSingle, callMergeUsageScope, callSetSingle, callSetFromUsageScope, callSetAndRemoveSparse, Sets, step, newly, setSingle}
-use Rattle.model.specs.StateRules.{invalidState}
+use Rattle.model.specs.Calls.{Answer, done, refused, inConflict, Call, callMergeSingle, callMergeUsageScope, callSetSingle}
+use Rattle.model.specs.{Calls.{callSetFromUsageScope, callSetAndRemoveSparse, Sets, step, newly, setSingle}, StateRules.invalidState}
 use Rattle.model.specs.RangedStates.{range, isolate, coalesce, iterFilter}
 use Rattle.model.specs.RangeCalls.{isolateRefusal, isolated, coalesceRefusal, coalesced, filterRefusal, filtered}
 use Rattle.model.specs.Texture.{Held, single, many, ranged, insert, merge, barrier, update}
-use Rattle.model.specs.WellFormed.{trackerFits, wellFormedTracker}
-use Rattle.model.specs.Log.{Log, logging, emptying}
+use Rattle.model.specs.{WellFormed.{trackerFits, wellFormedTracker}, Log.{Log, logging, emptying}}
 
 -- ---- A verdict: 01's number and place, or none
 data Verdict : Type 0 where

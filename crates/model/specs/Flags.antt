@@ -1,10 +1,7 @@
 -- Usage states: numbers of 16 bits, read by the usage flags (01, "Palette").
-use mathlib.Core.Bool.{Bool, _&&_, not}
-use Prim.Native.Nat.{ℕ}
-use lib.Dec.{ltb, eqb}
-use lib.Bits.{bitAnd}
-use lib.Count.{onesIn}
+use Rattle.model.specs.Prelude.{ℕ, Bool, _&&_, not, ltb, eqb, bitAnd}
 use Rattle.model.specs.declared.UsageFlags.{UsageFlags}
+use lib.Count.{onesIn}
 
 -- exactly one of the sixteen bits is set
 abbrev pub oneBit : ℕ → Bool

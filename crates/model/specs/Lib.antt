@@ -1,3 +1,4 @@
+pub mod Prelude
 pub mod Base
 pub mod Flags
 pub mod Representation

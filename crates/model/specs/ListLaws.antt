@@ -1,13 +1,7 @@
 -- Lists: what holds of each element, element by element and of the lists that are made from one.
-use mathlib.Core.Bool.{Bool, true}
-use mathlib.Core.List.{List, [], _∷_, _++_, map, append-assoc}
-use mathlib.Core.Option.{Option, none, some, Option·map}
-use mathlib.Core.Path.{_≡_, refl, sym, ap}
-use Prim.Native.Nat.{ℕ, zero, suc, _+_, _<_, _≤_}
-use native.Mathlib.Omega.{arith}
-use lib.ListN.{length, replicate, getD, set, getElem?}
-use Rattle.model.specs.Base.{All, AllO, each, eachAt, zip₂, every}
-use Rattle.model.specs.BoolLaws.{both, and-left, and-right}
+use Rattle.model.specs.Prelude.{ℕ, zero, suc, _+_, _<_, _≤_, arith, _≡_, refl, sym, ap, Bool, true, Option, none, some, Option·map}
+use Rattle.model.specs.Prelude.{List, [], _∷_, _++_, map, append-assoc, length, replicate, getD, set, getElem?}
+use Rattle.model.specs.{Base.{All, AllO, each, eachAt, zip₂, every}, BoolLaws.{both, and-left, and-right}}
 
 pub all-weak : {A : Type 0} (P N : A → Type 0) → ((x : A) → P x → N x) → (s : List A) → All P s → All N s
 all-weak P N w [] t = tt

@@ -1,21 +1,11 @@
 -- The log (01: the Rust's `temp`), and the calls whole: what is lent is checked first, and the room of the log last.
-use mathlib.Core.Bool.{Bool, true, false, not}
-use mathlib.Core.List.{List, [], _∷_, _++_, map}
-use mathlib.Core.Option.{Option, none, some}
-use Prim.Native.Nat.{ℕ, _+_, _-_}
-use lib.Dec.{ltb}
-use lib.ListN.{length, take, drop}
-use Rattle.model.specs.declared.PendingTransition.{PendingTransition}
-use Rattle.model.specs.declared.LogHead.{LogHead}
-use Rattle.model.specs.declared.InvalidUse.{InvalidUse}
-use Rattle.model.specs.declared.Refusal.{Refusal}
+use Rattle.model.specs.Prelude.{ℕ, _+_, _-_, Bool, true, false, not, Option, none, some, List, [], _∷_, _++_, map, ltb, length, take}
+use Rattle.model.specs.Prelude.{drop}
 use Rattle.model.specs.declared.Refusal.the-variants.{NotWellFormed, LogTooShort, NoFreeEntry}
-use Rattle.model.specs.declared.Outcome.{Outcome}
 use Rattle.model.specs.declared.Outcome.the-variants.{Done, Refused, Conflict}
-use Rattle.model.specs.Base.{each}
-use Rattle.model.specs.Refusals.{Check, check, firstFailing, trackerIndex}
-use Rattle.model.specs.Calls.{Indexed, Answer, done, refused, inConflict, CallResult, unless}
-use Rattle.model.specs.Texture.{Entry}
+use Rattle.model.specs.declared.{PendingTransition.PendingTransition, LogHead.LogHead, InvalidUse.InvalidUse, Refusal.Refusal}
+use Rattle.model.specs.{declared.Outcome.Outcome, Base.each, Refusals.{Check, check, firstFailing, trackerIndex}}
+use Rattle.model.specs.{Calls.{Indexed, Answer, done, refused, inConflict, CallResult, unless}, Texture.Entry}
 
 -- ---- The answer of a public call
 -- a call's answer as the enum that the code returns

@@ -1,14 +1,8 @@
 -- 01, "Strips": the three calls on a lent run of range records, of which the first `told` are in use.
-use mathlib.Core.Bool.{Bool, true, _&&_, _||_, not}
-use mathlib.Core.List.{List, [], _∷_, _++_}
-use mathlib.Core.Option.{Option}
-use Prim.Native.Nat.{ℕ, _-_}
-use lib.Dec.{leb, ltb}
-use lib.ListN.{length, take, drop, replicate}
-use Rattle.model.specs.declared.Range.{Range}
-use Rattle.model.specs.declared.Refusal.{Refusal}
+use Rattle.model.specs.Prelude.{ℕ, _-_, Bool, true, _&&_, _||_, not, Option, List, [], _∷_, _++_, leb, ltb, length, take, drop}
+use Rattle.model.specs.Prelude.{replicate}
 use Rattle.model.specs.declared.Refusal.the-variants.{SelectorEmpty, RangesOutOfOrder, NoFreeEntry}
-use Rattle.model.specs.Refusals.{Check, check, firstFailing}
+use Rattle.model.specs.{declared.{Range.Range, Refusal.Refusal}, Refusals.{Check, check, firstFailing}}
 use Rattle.model.specs.RangedStates.{range, listOf, isolate, coalesce, iterFilter}
 
 -- no range is empty, out of order or overlaps

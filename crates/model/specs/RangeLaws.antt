@@ -1,16 +1,10 @@
 -- Ranges that tile: `coalesce`, `isolate` and `paint` keep the layers tiled, the first two keep the state of each layer, and no list has more ranges than layers.
-use mathlib.Core.Bool.{true, and-eq-true-iff}
-use mathlib.Core.List.{List, [], _∷_, _++_, map, append-assoc}
-use mathlib.Core.Path.{_≡_, refl, sym, ap, _∙_}
-use Prim.Native.Nat.{max, ℕ, _-_, _+_, _≤_, _<_}
-use native.Mathlib.Omega.{arith}
-use lib.Dec.{leb, ltb, eqb}
-use lib.ListN.{length, length-append, length-replicate, replicate, replicate-append-replicate}
-use borrow.Author.Tests.{eqb-true, eqb-false, leb-true, leb-false, ltb-true, ltb-false}
-use Rattle.model.specs.declared.Range.{Range}
-use Rattle.model.specs.Base.{if_then_else_}
-use Rattle.model.specs.RangedStates.{range, joins, coalesceFrom, coalesce, Cut, listOf, Rest, rest, withRun, isolateFrom, isolate, inState, paint, layerStates, Tiles}
-use Rattle.model.specs.BoolLaws.{by-test}
+use Rattle.model.specs.Prelude.{max, ℕ, _-_, _+_, _≤_, _<_, arith, _≡_, refl, sym, ap, _∙_, true, and-eq-true-iff, List, [], _∷_}
+use Rattle.model.specs.Prelude.{_++_, map, append-assoc, leb, ltb, eqb, length, length-append, length-replicate, replicate}
+use Rattle.model.specs.Prelude.{replicate-append-replicate, eqb-true, eqb-false, leb-true, leb-false, ltb-true, ltb-false}
+use Rattle.model.specs.{declared.Range.Range, Base.if_then_else_}
+use Rattle.model.specs.RangedStates.{range, joins, coalesceFrom, coalesce, Cut, listOf, Rest, rest, withRun, isolateFrom, isolate}
+use Rattle.model.specs.{RangedStates.{inState, paint, layerStates, Tiles}, BoolLaws.by-test}
 
 -- ---- tilings
 pub tiles-le : (s : List Range) (a e : ℕ) → Tiles a s e → a ≤ e

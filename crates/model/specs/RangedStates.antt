@@ -1,12 +1,6 @@
 -- range.rs on plain lists: `RangedStates` (01: a strip) is a list of ranges, each with a state.
-use mathlib.Core.Bool.{Bool, _&&_}
-use mathlib.Core.List.{List, [], _∷_, _++_, map}
-use mathlib.Core.Path.{_≡_}
-use Prim.Native.Nat.{ℕ, _-_, min, max, _<_}
-use lib.Dec.{leb, ltb, eqb}
-use lib.ListN.{replicate}
-use Rattle.model.specs.declared.Range.{Range}
-use Rattle.model.specs.Base.{if_then_else_}
+use Rattle.model.specs.Prelude.{ℕ, _-_, min, max, _<_, _≡_, Bool, _&&_, List, [], _∷_, _++_, map, leb, ltb, eqb, replicate}
+use Rattle.model.specs.{declared.Range.Range, Base.if_then_else_}
 
 -- "a start, an end and a state"
 abbrev pub range : ℕ → ℕ → ℕ → Range

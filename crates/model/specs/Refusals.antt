@@ -1,21 +1,12 @@
 -- 01, "Turned away": each check is whether it fails, with the refusal that is then the answer, in the table's order.
-use mathlib.Core.Bool.{Bool, true, false, _&&_, _||_, not}
-use mathlib.Core.List.{List, [], _∷_, _++_}
-use mathlib.Core.Option.{Option, none, some}
-use Prim.Native.Nat.{ℕ}
-use lib.Dec.{ltb, eqb}
-use lib.ListN.{getD}
-use Rattle.model.specs.declared.UsageFlags.{UsageFlags}
-use Rattle.model.specs.declared.Extent.{Extent}
-use Rattle.model.specs.declared.Selector.{Selector}
-use Rattle.model.specs.declared.TrackerIndex.{TrackerIndex}
-use Rattle.model.specs.declared.Refusal.{Refusal}
-use Rattle.model.specs.declared.Refusal.the-variants.{NumbersOutOfLimits, FlagsBreakRule, ShortRoom, NotWellFormed, LogTooShort, FlagsDiffer, NoSuchIndex, ExtentOutOfLimits, ExtentDiffers, SelectorEmpty, SelectorPastExtent, StateReserved, StateIncompatible, RangesOutOfOrder, NoFreeEntry}
-use Rattle.model.specs.declared.Verdict.{Verdict}
-use Rattle.model.specs.declared.Verdict.the-variants.{Accepted, Refused}
-use Rattle.model.specs.Base.{if_then_else_, each, eachAt}
-use Rattle.model.specs.Flags.{meets, incompatible, flagsFit, sameFlags}
-use Rattle.model.specs.Representation.{mipStart, mipEnd, layerStart, layerEnd}
+use Rattle.model.specs.Prelude.{ℕ, Bool, true, false, _&&_, _||_, not, Option, none, some, List, [], _∷_, _++_, ltb, eqb, getD}
+use Rattle.model.specs.declared.Refusal.the-variants.{NumbersOutOfLimits, FlagsBreakRule, ShortRoom, NotWellFormed, LogTooShort}
+use Rattle.model.specs.declared.Refusal.the-variants.{FlagsDiffer, NoSuchIndex, ExtentOutOfLimits, ExtentDiffers, SelectorEmpty}
+use Rattle.model.specs.declared.Refusal.the-variants.{SelectorPastExtent, StateReserved, StateIncompatible, RangesOutOfOrder}
+use Rattle.model.specs.{declared.Refusal.the-variants.NoFreeEntry, declared.Verdict.the-variants.{Accepted, Refused}}
+use Rattle.model.specs.declared.{UsageFlags.UsageFlags, Extent.Extent, Selector.Selector, TrackerIndex.TrackerIndex, Refusal.Refusal}
+use Rattle.model.specs.{declared.Verdict.Verdict, Base.{if_then_else_, each, eachAt}}
+use Rattle.model.specs.{Flags.{meets, incompatible, flagsFit, sameFlags}, Representation.{mipStart, mipEnd, layerStart, layerEnd}}
 use Rattle.model.specs.Sets.{Numbers, Head, Opening, outside, numbersFit, capacity}
 
 -- ---- 01's number and place of a refusal

@@ -1,13 +1,7 @@
 -- One texture: how it is held, what a use hands in, and what is done with it. Sets and calls are written once over this record;
 -- the ranged representation (the Rust) and the grid (01's sheet) are two of its values.
-use mathlib.Core.Bool.{Bool, _&&_}
-use mathlib.Core.Option.{Option}
-use Prim.Native.Nat.{ℕ}
-use lib.Dec.{leb, ltb, eqb}
-use Rattle.model.specs.declared.UsageFlags.{UsageFlags}
-use Rattle.model.specs.declared.Extent.{Extent}
-use Rattle.model.specs.declared.Selector.{Selector}
-use Rattle.model.specs.Base.{Stop}
+use Rattle.model.specs.Prelude.{ℕ, Bool, _&&_, Option, leb, ltb, eqb}
+use Rattle.model.specs.{declared.{UsageFlags.UsageFlags, Extent.Extent, Selector.Selector}, Base.Stop}
 
 -- ---- Selectors
 -- the selector of mips m up to n and layers a up to e

@@ -1,21 +1,11 @@
 -- 01, "Bench samples": B1 to B14 as one table of rows, and one theorem for all of them, by computation.
-use mathlib.Core.List.{List, [], _∷_, map}
-use mathlib.Core.Option.{Option, none, some}
-use mathlib.Core.Path.{_≡_, refl}
-use Prim.Native.Nat.{ℕ}
-use lib.ListN.{getD, length}
-use Rattle.model.specs.declared.Extent.{Extent}
-use Rattle.model.specs.declared.Selector.{Selector}
-use Rattle.model.specs.declared.Range.{Range}
-use Rattle.model.specs.declared.InvalidUse.{InvalidUse}
-use Rattle.model.specs.Base.{each}
-use Rattle.model.specs.Flags.{incompatible}
-use Rattle.model.specs.Representation.{select, full, Ends}
-use Rattle.model.specs.Sets.{Opening, slotAt, openSet, openTracker}
+use Rattle.model.specs.Prelude.{ℕ, _≡_, refl, Option, none, some, List, [], _∷_, map, getD, length}
+use Rattle.model.specs.{declared.{Extent.Extent, Selector.Selector, Range.Range, InvalidUse.InvalidUse}, Base.each}
+use Rattle.model.specs.{Flags.incompatible, Representation.{select, full, Ends}, Sets.{Opening, slotAt, openSet, openTracker}}
 use Rattle.model.specs.Refusals.{trackerIndex}
-use Rattle.model.specs.Calls.{Indexed, Answer, done, inConflict, CallResult, Call, callMergeSingle, callMergeUsageScope, callSetSingle, callSetFromUsageScope, callSetFromTracker, noEnds, Sets, nothing, step, newly}
-use Rattle.model.specs.StateRules.{invalidState}
-use Rattle.model.specs.RangedStates.{range, listOf, isolate}
+use Rattle.model.specs.Calls.{Indexed, Answer, done, inConflict, CallResult, Call, callMergeSingle, callMergeUsageScope}
+use Rattle.model.specs.Calls.{callSetSingle, callSetFromUsageScope, callSetFromTracker, noEnds, Sets, nothing, step, newly}
+use Rattle.model.specs.{StateRules.invalidState, RangedStates.{range, listOf, isolate}}
 use Rattle.model.specs.Texture.{Held, single, many, Entry, invalidUse, ranged, insert, merge, barrier, update}
 
 -- ---- "UNINITIALIZED 1, EXCLUSIVE 20, COMPLEX 4096, UNKNOWN 8192 (U), mask 10; 2 mips, 4 layers."

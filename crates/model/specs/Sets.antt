@@ -1,14 +1,6 @@
 -- Sets of textures, and opening them (01, "Opening numbers").
-use mathlib.Core.Bool.{Bool, false, _&&_, _||_, not}
-use mathlib.Core.List.{List, map}
-use mathlib.Core.Option.{Option, none, some}
-use Prim.Native.Nat.{ℕ, _*_}
-use lib.Dec.{ltb, eqb}
-use lib.ListN.{replicate, getD}
-use Rattle.model.specs.declared.UsageFlags.{UsageFlags}
-use Rattle.model.specs.declared.Extent.{Extent}
-use Rattle.model.specs.Base.{if_then_else_}
-use Rattle.model.specs.Representation.{Ends}
+use Rattle.model.specs.Prelude.{ℕ, _*_, Bool, false, _&&_, _||_, not, Option, none, some, List, map, ltb, eqb, replicate, getD}
+use Rattle.model.specs.{declared.{UsageFlags.UsageFlags, Extent.Extent}, Base.if_then_else_, Representation.Ends}
 
 -- N, M and W
 pub record Numbers : Type 0 where

@@ -1,12 +1,7 @@
 -- The Rust's rules for one state: mod.rs, and the lines of texture.rs that make a new state from an old and a given one. `none` is a conflict.
-use mathlib.Core.Bool.{Bool, _&&_, _||_, not}
-use mathlib.Core.Option.{Option, none, some}
-use Prim.Native.Nat.{ℕ, _-_}
-use lib.Dec.{eqb}
-use lib.Bits.{bitAnd, bitOr}
+use Rattle.model.specs.Prelude.{ℕ, _-_, Bool, _&&_, _||_, not, Option, none, some, eqb, bitAnd, bitOr}
+use Rattle.model.specs.{declared.UsageFlags.UsageFlags, Base.if_then_else_}
 use lib.Count.{onesIn}
-use Rattle.model.specs.declared.UsageFlags.{UsageFlags}
-use Rattle.model.specs.Base.{if_then_else_}
 
 -- the two states of a transition
 pub record Move : Type 0 where

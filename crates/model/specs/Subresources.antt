@@ -1,10 +1,6 @@
 -- A ranged texture read subresource by subresource (01: cell by cell), mip by mip.
-use mathlib.Core.List.{List, map}
-use Prim.Native.Nat.{ℕ}
-use lib.ListN.{replicate}
-use Rattle.model.specs.declared.Extent.{Extent}
-use Rattle.model.specs.RangedStates.{layerStates}
-use Rattle.model.specs.Texture.{Held, single, many}
+use Rattle.model.specs.Prelude.{ℕ, List, map, replicate}
+use Rattle.model.specs.{declared.Extent.Extent, RangedStates.layerStates, Texture.{Held, single, many}}
 
 -- one value for each layer of each mip
 abbrev pub everywhere : {A : Type 0} → Extent → A → List (List A)

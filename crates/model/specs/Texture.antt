@@ -1,14 +1,6 @@
 -- texture.rs on plain lists: `insert`, `merge`, `barrier` and `update` of one texture, exactly as the Rust leaves it.
-use mathlib.Core.List.{List, [], _∷_, _++_, map}
-use mathlib.Core.Option.{Option, none, some, Option·map}
-use Prim.Native.Nat.{ℕ, suc}
-use lib.Dec.{eqb}
-use lib.ListN.{replicate}
-use Rattle.model.specs.declared.UsageFlags.{UsageFlags}
-use Rattle.model.specs.declared.Extent.{Extent}
-use Rattle.model.specs.declared.Selector.{Selector}
-use Rattle.model.specs.declared.Range.{Range}
-use Rattle.model.specs.declared.InvalidUse.{InvalidUse}
+use Rattle.model.specs.Prelude.{ℕ, suc, Option, none, some, Option·map, List, [], _∷_, _++_, map, eqb, replicate}
+use Rattle.model.specs.declared.{UsageFlags.UsageFlags, Extent.Extent, Selector.Selector, Range.Range, InvalidUse.InvalidUse}
 use Rattle.model.specs.Base.{if_then_else_, each, eachAt, Stop, fine, ruled, orKeep, passes, walk}
 use Rattle.model.specs.StateRules.{Move, unite, uniteKnown, moveOf, endAfter}
 use Rattle.model.specs.Representation.{select, layerStart, layerEnd, full, isFull, inMips, Ends, Representation}

@@ -1,19 +1,9 @@
 -- 01, "Opening numbers": when a set is *sound*, here well formed.
-use mathlib.Core.Bool.{Bool, true, false, _&&_, not}
-use mathlib.Core.List.{List, [], _∷_}
-use Prim.Native.Nat.{ℕ}
-use lib.Dec.{leb, ltb, eqb}
-use lib.ListN.{length}
-use Rattle.model.specs.declared.UsageFlags.{UsageFlags}
-use Rattle.model.specs.declared.Extent.{Extent}
-use Rattle.model.specs.declared.Range.{Range}
-use Rattle.model.specs.Base.{if_then_else_, every}
-use Rattle.model.specs.Flags.{meets, incompatible, flagsFit}
-use Rattle.model.specs.Representation.{Ends}
-use Rattle.model.specs.Sets.{Numbers, Slot, Set, Tracker, numbersFit, capacity}
-use Rattle.model.specs.Refusals.{extentOutside}
-use Rattle.model.specs.Texture.{Held, single, many}
-use Rattle.model.specs.Subresources.{subresources}
+use Rattle.model.specs.Prelude.{ℕ, Bool, true, false, _&&_, not, List, [], _∷_, leb, ltb, eqb, length}
+use Rattle.model.specs.{declared.{UsageFlags.UsageFlags, Extent.Extent, Range.Range}, Base.{if_then_else_, every}}
+use Rattle.model.specs.{Flags.{meets, incompatible, flagsFit}, Representation.Ends}
+use Rattle.model.specs.{Sets.{Numbers, Slot, Set, Tracker, numbersFit, capacity}, Refusals.extentOutside}
+use Rattle.model.specs.{Texture.{Held, single, many}, Subresources.subresources}
 
 -- "states nonzero, compatible, without COMPLEX (UNKNOWN may stand alone or beside other bits)", of 16 bits
 abbrev pub stateFits : UsageFlags → ℕ → Bool

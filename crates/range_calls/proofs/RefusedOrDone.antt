@@ -1,17 +1,11 @@
 -- The three calls, refused and done, from what the checks and the functions below ensure.
-use Prim.Native.Nat.{ℕ, _-_}
-use mathlib.Core.Path.{_≡_, refl, sym}
-use mathlib.Core.List.{List}
-use mathlib.Core.Option.{none, some}
-use Rattle.model.specs.declared.Refusal.{Refusal}
-use Rattle.model.specs.RangeCalls.{isolateRefusal, coalesceRefusal, filterRefusal}
-use Rattle.range_states.specs.View.{view}
-use Rattle.range_states.specs.Coalescing.{Coalesced}
-use Rattle.range_states.specs.Filtering.{Filtered}
-use Rattle.range_isolate.specs.declared.isolation.Isolated.{Isolated}
-use Rattle.range_isolate.specs.Isolation.{Isolating}
+use Rattle.model.specs.Prelude.{ℕ, _-_, _≡_, refl, sym, none, some, List}
+use Rattle.model.specs.{declared.Refusal.Refusal, RangeCalls.{isolateRefusal, coalesceRefusal, filterRefusal}}
+use Rattle.range_states.specs.{View.view, Coalescing.Coalesced, Filtering.Filtered}
+use Rattle.range_isolate.specs.{declared.isolation.Isolated.Isolated, Isolation.Isolating}
 use Rattle.range_checks.specs.Accepted.{isolated-is, coalesced-is}
-use Rattle.range_calls.specs.RangeContract.{isolateAnswer, isolateRecords, coalesceAnswer, coalesceRecords, filterAnswer, filterRecords, Isolates, Coalesces, Filters}
+use Rattle.range_calls.specs.RangeContract.{isolateAnswer, isolateRecords, coalesceAnswer, coalesceRecords, filterAnswer}
+use Rattle.range_calls.specs.RangeContract.{filterRecords, Isolates, Coalesces, Filters}
 use Rattle.range_calls.specs.declared.IsolateAnswer.the-variants as isolate
 use Rattle.range_calls.specs.declared.CoalesceAnswer.the-variants as coalesce
 use Rattle.range_calls.specs.declared.FilterAnswer.the-variants as filter

@@ -1,19 +1,12 @@
 -- 01, "Strips": what the three calls answer and leave, by the model's definitions (model, RangeCalls), on records and on plain numbers.
-use Prim.Native.Nat.{ℕ}
-use mathlib.Core.Path.{_≡_}
-use mathlib.Core.List.{List}
-use mathlib.Core.Option.{Option, none, some}
-use lib.ListN.{length}
-use Rattle.model.specs.declared.Range.{Range}
-use Rattle.model.specs.declared.Refusal.{Refusal}
+use Rattle.model.specs.Prelude.{ℕ, _≡_, Option, none, some, List, length}
+use Rattle.model.specs.declared.{Range.Range, Refusal.Refusal}
 use Rattle.model.specs.RangeCalls.{isolateRefusal, isolated, coalesceRefusal, coalesced, filterRefusal, filtered}
 use Rattle.range_states.specs.View.{view, spare}
-use Rattle.range_calls.specs.declared.Isolation.{Isolation}
-use Rattle.range_calls.specs.declared.IsolateAnswer.{IsolateAnswer}
+use Rattle.range_calls.specs.{declared.Isolation.Isolation, declared.IsolateAnswer.IsolateAnswer}
+use Rattle.range_calls.specs.{declared.CoalesceAnswer.CoalesceAnswer, declared.FilterAnswer.FilterAnswer}
 use Rattle.range_calls.specs.declared.IsolateAnswer.the-variants as isolate
-use Rattle.range_calls.specs.declared.CoalesceAnswer.{CoalesceAnswer}
 use Rattle.range_calls.specs.declared.CoalesceAnswer.the-variants as coalesce
-use Rattle.range_calls.specs.declared.FilterAnswer.{FilterAnswer}
 use Rattle.range_calls.specs.declared.FilterAnswer.the-variants as filter
 
 -- "Everything lent stays" if there is a refusal

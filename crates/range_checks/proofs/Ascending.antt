@@ -1,14 +1,7 @@
 -- The loop of `ascends`: what is left to test, from here, is what was to test from the start.
-use Prim.Native.Nat.{ℕ, _+_, _*_, _≤_, _<_}
-use native.Mathlib.Omega.{arith}
-use mathlib.Core.Path.{_≡_, refl}
-use mathlib.Core.Bool.{true, false}
-use mathlib.Core.List.{List, [], _∷_}
-use borrow.Author.Tests.{lt-ltb, le-ltb, le-leb, lt-leb}
-use lib.ListN.{length, getD, drop}
-use lib.Seq.{slice-empty}
-use Rattle.model.specs.declared.Range.{Range}
-use Rattle.model.specs.RangeCalls.{ascends}
+use Rattle.model.specs.Prelude.{ℕ, _+_, _*_, _≤_, _<_, arith, _≡_, refl, true, false, List, [], _∷_, length, getD, drop, slice-empty}
+use Rattle.model.specs.Prelude.{lt-ltb, le-ltb, le-leb, lt-leb}
+use Rattle.model.specs.{declared.Range.Range, RangeCalls.ascends}
 use Rattle.range_states.specs.View.{view, decode, blank}
 use Rattle.range_states.proofs.Inserting.{next-is}
 

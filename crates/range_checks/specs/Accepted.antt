@@ -1,21 +1,10 @@
 -- The contracts of this crate and the model's three calls on a lent run (model, RangeCalls): what they refuse, and what they leave.
-use Prim.Native.Nat.{ℕ, _-_, _*_, _≤_}
-use native.Mathlib.Omega.{arith}
-use mathlib.Core.Path.{_≡_, sym}
-use mathlib.Core.Bool.{Bool, false, _||_, not}
-use mathlib.Core.List.{List, append-assoc}
-use mathlib.Core.Option.{none}
-use borrow.Author.Tests.{ltb-false}
-use lib.Dec.{ltb}
-use lib.ListN.{length, take}
-use Rattle.model.specs.BoolLaws.{neither}
-use Rattle.model.specs.CheckLaws.{first-passed}
-use Rattle.model.specs.RangedStates.{listOf, isolate, iterFilter}
+use Rattle.model.specs.Prelude.{ℕ, _-_, _*_, _≤_, arith, _≡_, sym, Bool, false, _||_, not, none, List, append-assoc, ltb, length, take}
+use Rattle.model.specs.Prelude.{ltb-false}
+use Rattle.model.specs.{BoolLaws.neither, CheckLaws.first-passed, RangedStates.{listOf, isolate, iterFilter}}
 use Rattle.model.specs.RangeCalls.{ascends, isolateRefusal, isolated, coalesceRefusal, coalesced, filterRefusal}
-use Rattle.range_isolate.specs.declared.isolation.Isolated.{Isolated as Told}
-use Rattle.range_states.specs.View.{view, decode, view-count}
-use Rattle.range_isolate.specs.Isolation.{IsolateRoom, Isolating}
-use Rattle.range_states.specs.Coalescing.{Coalesced as Coalescing}
+use Rattle.range_isolate.specs.{declared.isolation.Isolated.{Isolated as Told}, Isolation.{IsolateRoom, Isolating}}
+use Rattle.range_states.specs.{View.{view, decode, view-count}, Coalescing.{Coalesced as Coalescing}}
 
 -- ---- what is accepted has the room
 pub told-fits : (l : List ℕ) (told : ℕ) (b : Bool) → (ltb (length (view l)) told || b) ≡ false → 3 * told ≤ length l

@@ -1,22 +1,12 @@
 -- How many ranges `isolate` will leave, counted on unchanged storage.
-use Prim.Native.Nat.{ℕ, suc, _+_, _*_, _-_, _≤_, _<_, max}
-use native.Mathlib.Nat.{le-of-lt}
-use native.Mathlib.Omega.{arith}
-use mathlib.Core.Path.{_≡_, refl, ap, _∙_}
-use mathlib.Core.Bool.{Bool, true, false}
-use mathlib.Core.List.{List, [], _∷_}
-use borrow.Author.Tests.{lt-ltb, le-ltb, le-leb, lt-leb, ltb-true, ltb-false}
-use lib.Dec.{ltb}
-use lib.ListN.{length, getD, drop, length-drop}
-use lib.Seq.{slice-empty, length-take-le}
-use Rattle.model.specs.declared.Range.{Range}
-use Rattle.model.specs.Base.{if_then_else_}
-use Rattle.model.specs.RangedStates.{range, listOf, isolateFrom, isolate}
+use Rattle.model.specs.Prelude.{ℕ, suc, _+_, _*_, _-_, _≤_, _<_, max, le-of-lt, arith, _≡_, refl, ap, _∙_, Bool, true, false, List, [], _∷_}
+use Rattle.model.specs.Prelude.{ltb, length, getD, drop, length-drop, slice-empty, length-take-le, lt-ltb, le-ltb, le-leb, lt-leb, ltb-true}
+use Rattle.model.specs.Prelude.{ltb-false}
+use Rattle.model.specs.{declared.Range.Range, Base.if_then_else_, RangedStates.{range, listOf, isolateFrom, isolate}}
 use Rattle.range_states.specs.View.{view, decode, blank, view-long}
 use Rattle.range_isolate.specs.Isolation.{allOf, gapCount, cutCount, cutFirst, leadCount, addedBy, Found, Leading, Added}
+use Rattle.range_isolate.proofs.{Covering.{by-order, long-before, long-last, long-more}, Isolating.isolate-long}
 use Rattle.range_states.proofs.Inserting.{next-is}
-use Rattle.range_isolate.proofs.Covering.{by-order, long-before, long-last, long-more}
-use Rattle.range_isolate.proofs.Isolating.{isolate-long}
 
 -- ---- `addedBy`, case by case
 module _ (a e : ℕ) (x : Range) (s : List Range) where

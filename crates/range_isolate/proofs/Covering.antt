@@ -1,21 +1,13 @@
 -- The steps of `cover`, over plain lists: what each arm of the Rust's loop does is what `isolateFrom` says.
-use Prim.Native.Nat.{ℕ, suc, _+_, _*_, _-_, _≤_, _<_, max}
-use native.Mathlib.Nat.{add-zero, le-of-lt}
-use native.Mathlib.Omega.{arith}
-use mathlib.Core.Path.{_≡_, refl, sym, ap, _∙_}
-use mathlib.Core.Bool.{Bool, true, false}
-use mathlib.Core.List.{List, [], _∷_, _++_, append-assoc}
-use borrow.Author.Tests.{lt-ltb, le-ltb, le-leb, lt-leb, eq-eqb, ne-eqb, leb-true, leb-false, ltb-false}
-use lib.Dec.{leb, ltb, eqb}
-use lib.ListN.{length, getD, drop, length-append, length-drop}
-use lib.Seq.{take-at, drop-at, slice-empty, length-take-le, getD-take, getD-at}
-use Rattle.model.specs.declared.Range.{Range}
-use Rattle.model.specs.Base.{if_then_else_}
-use Rattle.model.specs.RangedStates.{range, Rest, rest, withRun, isolateFrom}
+use Rattle.model.specs.Prelude.{ℕ, suc, _+_, _*_, _-_, _≤_, _<_, max, add-zero, le-of-lt, arith, _≡_, refl, sym, ap, _∙_, Bool, true, false}
+use Rattle.model.specs.Prelude.{List, [], _∷_, _++_, append-assoc, leb, ltb, eqb, length, getD, drop, length-append, length-drop, take-at}
+use Rattle.model.specs.Prelude.{drop-at, slice-empty, length-take-le, getD-take, getD-at, lt-ltb, le-ltb, le-leb, lt-leb, eq-eqb, ne-eqb}
+use Rattle.model.specs.Prelude.{leb-true, leb-false, ltb-false}
+use Rattle.model.specs.{declared.Range.Range, Base.if_then_else_, RangedStates.{range, Rest, rest, withRun, isolateFrom}}
 use Rattle.range_isolate.specs.declared.isolation.Placed.{Placed}
+use Rattle.range_isolate.specs.Isolation.{allOf, gapBefore, gapCount, lastOf, cutCount, Gapped, EndCut, CoverRoom, Covered}
 use Rattle.range_states.specs.View.{view, decode, blank, Put, Becomes, view-long, becomes-none, becomes-live, becomes-then}
 use Rattle.range_states.specs.Insert.{insertAt}
-use Rattle.range_isolate.specs.Isolation.{allOf, gapBefore, gapCount, lastOf, cutCount, Gapped, EndCut, CoverRoom, Covered}
 use Rattle.range_states.proofs.Inserting.{front-is, front-long, insert-is, joined-is, next-is, put-insert}
 
 -- ---- `isolateFrom`, case by case

@@ -1,23 +1,15 @@
 -- `isolate` is: find, cut the start, cover.
-use Prim.Native.Nat.{ℕ, suc, _+_, _*_, _-_, _≤_, _<_}
-use native.Mathlib.Nat.{add-zero}
-use native.Mathlib.Omega.{arith}
-use mathlib.Core.Path.{_≡_, refl, sym, ap, _∙_}
-use mathlib.Core.Bool.{Bool, true, false}
-use mathlib.Core.List.{List, [], _∷_, _++_}
-use borrow.Author.Tests.{lt-ltb, le-ltb, leb-true, leb-false}
-use lib.Dec.{leb, ltb}
-use lib.ListN.{length, getD, take, drop, length-append, length-drop}
-use lib.Seq.{slice-empty, length-take-le, take-append-add, drop-append-add}
-use Rattle.model.specs.declared.Range.{Range}
-use Rattle.model.specs.Base.{if_then_else_}
-use Rattle.model.specs.RangedStates.{range, listOf, isolateFrom, isolate}
+use Rattle.model.specs.Prelude.{ℕ, suc, _+_, _*_, _-_, _≤_, _<_, add-zero, arith, _≡_, refl, sym, ap, _∙_, Bool, true, false, List, [], _∷_}
+use Rattle.model.specs.Prelude.{_++_, leb, ltb, length, getD, take, drop, length-append, length-drop, slice-empty, length-take-le}
+use Rattle.model.specs.Prelude.{take-append-add, drop-append-add, lt-ltb, le-ltb, leb-true, leb-false}
+use Rattle.model.specs.{declared.Range.Range, Base.if_then_else_, RangedStates.{range, listOf, isolateFrom, isolate}}
 use Rattle.range_isolate.specs.declared.isolation.Placed.{Placed}
+use Rattle.range_isolate.specs.Isolation.{allOf, firstPast, cutFirst, leadCount, Found, StartCut, CoverRoom, Covered, IsolateRoom}
+use Rattle.range_isolate.specs.Isolation.{Isolating}
 use Rattle.range_states.specs.View.{view, decode, blank, Put, Becomes, view-long, becomes-none, becomes-live, becomes-then}
 use Rattle.range_states.specs.Insert.{insertAt}
-use Rattle.range_isolate.specs.Isolation.{allOf, firstPast, cutFirst, leadCount, Found, StartCut, CoverRoom, Covered, IsolateRoom, Isolating}
-use Rattle.range_states.proofs.Inserting.{front-is, front-long, joined-is, next-is, put-insert}
 use Rattle.range_isolate.proofs.Covering.{from-long}
+use Rattle.range_states.proofs.Inserting.{front-is, front-long, joined-is, next-is, put-insert}
 
 -- ---- `first_past`
 pub record Looking (l : List ℕ) (len x k : ℕ) : Type 0 where

@@ -1,12 +1,7 @@
 -- A loop that opens a gap in the first n + 1 of a list, from the top down.
 --     shifted k n l     the elements from k to n, not including n, stand one place up, and what stood at k stands there still
-use Prim.Native.Nat.{ℕ, zero, suc, _+_, _-_, _≤_, _<_}
-use native.Mathlib.Nat.{not-suc-le-zero, le-of-suc-le-suc}
-use native.Mathlib.Numerals.{add-one}
-use native.Mathlib.Omega.{arith}
-use mathlib.Core.Path.{_≡_, refl, ap}
-use mathlib.Core.List.{List, [], _∷_, _++_}
-use lib.ListN.{length, getD, take, drop, set}
+use Rattle.model.specs.Prelude.{ℕ, zero, suc, _+_, _-_, _≤_, _<_, not-suc-le-zero, le-of-suc-le-suc, add-one, arith, _≡_, refl, ap, List}
+use Rattle.model.specs.Prelude.{[], _∷_, _++_, length, getD, take, drop, set}
 use Rattle.range_states.specs.Insert.{insertAt}
 
 module _ {A : Type 0} where

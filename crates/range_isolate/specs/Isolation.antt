@@ -1,14 +1,7 @@
 -- The contracts of `isolate` and of its parts, over the model's `isolate` and `isolateFrom`.
-use Prim.Native.Nat.{ℕ, zero, suc, _+_, _-_, _*_, _≤_, _<_, max}
-use mathlib.Core.Path.{_≡_}
-use mathlib.Core.List.{List, [], _∷_, _++_}
-use lib.Dec.{leb, ltb}
-use lib.ListN.{length, drop}
-use Rattle.model.specs.declared.Range.{Range}
-use Rattle.model.specs.Base.{if_then_else_}
-use Rattle.model.specs.RangedStates.{range, Rest, rest, listOf, isolateFrom, isolate}
-use Rattle.range_isolate.specs.declared.isolation.Placed.{Placed}
-use Rattle.range_isolate.specs.declared.isolation.Isolated.{Isolated}
+use Rattle.model.specs.Prelude.{ℕ, zero, suc, _+_, _-_, _*_, _≤_, _<_, max, _≡_, List, [], _∷_, _++_, leb, ltb, length, drop}
+use Rattle.model.specs.{declared.Range.Range, Base.if_then_else_, RangedStates.{range, Rest, rest, listOf, isolateFrom, isolate}}
+use Rattle.range_isolate.specs.{declared.isolation.Placed.Placed, declared.isolation.Isolated.Isolated}
 use Rattle.range_states.specs.View.{decode, Becomes}
 
 -- the run and what follows it

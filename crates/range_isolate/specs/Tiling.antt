@@ -1,10 +1,6 @@
 -- Ranges that tile their layers (01: "tiles layer 0 to the last with nonempty ascending ranges") are isolated within as many records as layers.
-use Prim.Native.Nat.{ℕ, _*_, _≤_, _<_}
-use native.Mathlib.Omega.{arith}
-use mathlib.Core.List.{List}
-use lib.ListN.{length}
-use Rattle.model.specs.RangedStates.{Tiles}
-use Rattle.model.specs.RangeLaws.{isolate-few}
+use Rattle.model.specs.Prelude.{ℕ, _*_, _≤_, _<_, arith, List, length}
+use Rattle.model.specs.{RangedStates.Tiles, RangeLaws.isolate-few}
 use Rattle.range_states.specs.View.{decode}
 use Rattle.range_isolate.specs.Isolation.{IsolateRoom}
 

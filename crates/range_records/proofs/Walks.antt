@@ -1,13 +1,11 @@
 -- A range record as the element of a run, and the structs of `decisions` by value.
-use Prim.Native.Nat.{_<_, _^_}
-use mathlib.Core.List.{[], _∷_}
-use denote.Struct.Laws.{owed}
+use Rattle.model.specs.Prelude.{_<_, _^_, [], _∷_}
 use Rattle.model.specs.declared.Range.{Range}
-use Rattle.model.proofs.Range as range
 use Rattle.range_states.specs.View.{blank}
+use Rattle.walk.specs.{Values.{Data, struct}, Slices.{Element, spell, IsE}}
+use denote.Struct.Laws.{owed}
+use Rattle.model.proofs.Range as range
 use Rattle.range_records.proofs.decisions as decisions
-use Rattle.walk.specs.Values.{Data, struct}
-use Rattle.walk.specs.Slices.{Element, spell, IsE}
 
 abbrev pub E : Element
 E = record { type = range.the-type; laws = range.Laws.the-laws; plains = range.Laws.the-plain; copies = range.Laws.the-copy; past = blank }

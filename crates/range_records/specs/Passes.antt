@@ -1,27 +1,15 @@
 -- The passes over a run of records: what each computes, in the direction of its loop. That they are the model's calls is proved in proofs/.
-use Prim.Native.Nat.{ℕ, zero, suc, _+_, _-_, _≤_, min, max}
-use mathlib.Core.Bool.{Bool, true, _&&_, _||_, not}
-use mathlib.Core.List.{List, [], _∷_}
-use lib.Dec.{leb, ltb, eqb}
-use lib.ListN.{getD, set}
-use Rattle.model.specs.declared.Range.{Range}
-use Rattle.model.specs.declared.Refusal.{Refusal}
+use Rattle.model.specs.Prelude.{ℕ, zero, suc, _+_, _-_, _≤_, min, max, Bool, true, _&&_, _||_, not, List, [], _∷_, leb, ltb, eqb, getD, set}
 use Rattle.model.specs.declared.Refusal.the-variants.{SelectorEmpty, RangesOutOfOrder, NoFreeEntry}
-use Rattle.model.specs.Base.{if_then_else_}
-use Rattle.model.specs.RangedStates.{range, joins}
-use Rattle.range_states.specs.View.{blank}
-use Rattle.range_states.specs.Filtering.{overlaps, clip}
-use Rattle.model.specs.declared.Verdict.{Verdict}
+use Rattle.model.specs.{declared.{Range.Range, Refusal.Refusal, Verdict.Verdict}, Base.if_then_else_, RangedStates.{range, joins}}
+use Rattle.range_states.specs.{View.blank, Filtering.{overlaps, clip}}
+use Rattle.range_calls.specs.{declared.CoalesceAnswer.CoalesceAnswer, declared.FilterAnswer.FilterAnswer}
+use Rattle.range_records.specs.{declared.decisions.Scan.Scan, declared.decisions.Plan.Plan, declared.decisions.Piece.Piece}
+use Rattle.range_records.specs.declared.decisions.Next.{Next}
 use Rattle.model.specs.declared.Verdict.the-variants as verdict
 use Rattle.range_calls.specs.declared.IsolateAnswer.the-variants as isolate
-use Rattle.range_calls.specs.declared.CoalesceAnswer.{CoalesceAnswer}
 use Rattle.range_calls.specs.declared.CoalesceAnswer.the-variants as coalesce
-use Rattle.range_calls.specs.declared.FilterAnswer.{FilterAnswer}
 use Rattle.range_calls.specs.declared.FilterAnswer.the-variants as filter
-use Rattle.range_records.specs.declared.decisions.Scan.{Scan}
-use Rattle.range_records.specs.declared.decisions.Plan.{Plan}
-use Rattle.range_records.specs.declared.decisions.Piece.{Piece}
-use Rattle.range_records.specs.declared.decisions.Next.{Next}
 
 -- ---- The first pass: what there is
 abbrev pub countOf : Bool → ℕ

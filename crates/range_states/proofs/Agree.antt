@@ -1,10 +1,6 @@
 -- Two lists that agree from w on.
-use Prim.Native.Nat.{ℕ, _+_, _-_, _≤_}
-use native.Mathlib.Omega.{arith}
-use mathlib.Core.Path.{_≡_}
-use mathlib.Core.List.{List, _++_}
-use lib.ListN.{getD, take, drop, length, take-append-drop}
-use lib.Seq.{getD-drop, drop-drop, drop-append-le, length-take-le}
+use Rattle.model.specs.Prelude.{ℕ, _+_, _-_, _≤_, arith, _≡_, List, _++_, getD, take, drop, length, take-append-drop, getD-drop, drop-drop}
+use Rattle.model.specs.Prelude.{drop-append-le, length-take-le}
 
 module _ {A : Type 0} (a b : List A) (w : ℕ) (e : drop w a ≡ drop w b) where
   pub agree-drop : (i : ℕ) → w ≤ i → drop i a ≡ drop i b

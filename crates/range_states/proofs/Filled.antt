@@ -1,11 +1,6 @@
 -- A loop that writes v at each index from f up to k.
-use Prim.Native.Nat.{ℕ, zero, suc, _+_, _-_, _≤_}
-use native.Mathlib.Nat.{not-suc-le-zero, le-of-suc-le-suc, sub-zero, suc-sub-suc}
-use native.Mathlib.Numerals.{add-one}
-use native.Mathlib.Omega.{arith}
-use mathlib.Core.Path.{_≡_, refl, sym, ap}
-use mathlib.Core.List.{List, [], _∷_, _++_}
-use lib.ListN.{length, take, drop, set, replicate}
+use Rattle.model.specs.Prelude.{ℕ, zero, suc, _+_, _-_, _≤_, not-suc-le-zero, le-of-suc-le-suc, sub-zero, suc-sub-suc, add-one, arith, _≡_}
+use Rattle.model.specs.Prelude.{refl, sym, ap, List, [], _∷_, _++_, length, take, drop, set, replicate}
 
 module _ {A : Type 0} (v : A) where
   pub filled : ℕ → ℕ → List A → List A

@@ -1,15 +1,9 @@
 -- The records in use cut at a position, and what a store and an insertion there make of them.
-use Prim.Native.Nat.{ℕ, _+_, _*_, _≤_, _<_}
-use native.Mathlib.Nat.{le-of-lt}
-use native.Mathlib.Numerals.{add-one}
-use native.Mathlib.Omega.{arith}
-use mathlib.Core.Path.{_≡_, _∙_}
-use mathlib.Core.List.{List, _∷_, _++_}
-use lib.ListN.{length, getD, take, drop, set, take-append-drop}
-use lib.Seq.{take-take, slice-cons, length-take-le, set-split}
+use Rattle.model.specs.Prelude.{ℕ, _+_, _*_, _≤_, _<_, le-of-lt, add-one, arith, _≡_, _∙_, List, _∷_, _++_, length, getD, take, drop, set}
+use Rattle.model.specs.Prelude.{take-append-drop, take-take, slice-cons, length-take-le, set-split}
 use Rattle.model.specs.declared.Range.{Range}
-use Rattle.range_states.specs.View.{view, decode, blank, Put, Becomes, view-long, becomes-none, becomes-live, becomes-then, becomes-put}
-use Rattle.range_states.specs.Insert.{insertAt, insertAt-is, insertAt-at}
+use Rattle.range_states.specs.View.{view, decode, blank, Put, Becomes, view-long, becomes-none, becomes-live, becomes-then}
+use Rattle.range_states.specs.{View.becomes-put, Insert.{insertAt, insertAt-is, insertAt-at}}
 
 module _ (l : List ℕ) (len pos : ℕ) (room : 3 * len ≤ length l) (h : pos ≤ len) where
   pub long-is : length (decode len l) ≡ len

@@ -1,15 +1,9 @@
 -- The loop of `coalesce`, over plain lists: at its head the first w records are made, and those from w on are as they came.
-use Prim.Native.Nat.{ℕ, suc, _+_, _*_, _-_, _≤_, _<_}
-use native.Mathlib.Numerals.{add-one}
-use native.Mathlib.Omega.{arith}
-use mathlib.Core.Path.{_≡_, refl, sym, ap, _∙_}
-use mathlib.Core.Bool.{Bool, true, false}
-use mathlib.Core.List.{List, [], _∷_, _++_, append-assoc, append-nil}
-use lib.ListN.{length, getD, take, drop, replicate, length-set}
-use lib.Seq.{set-getD, take-suc, drop-set-lt, take-suc-set, slice-cons, slice-empty, length-take-le}
+use Rattle.model.specs.Prelude.{ℕ, suc, _+_, _*_, _-_, _≤_, _<_, add-one, arith, _≡_, refl, sym, ap, _∙_, Bool, true, false, List, [], _∷_}
+use Rattle.model.specs.Prelude.{_++_, append-assoc, append-nil, length, getD, take, drop, replicate, length-set, set-getD, take-suc}
+use Rattle.model.specs.Prelude.{drop-set-lt, take-suc-set, slice-cons, slice-empty, length-take-le}
+use Rattle.model.specs.{declared.Range.Range, RangedStates.{range, joins, coalesceFrom, coalesce}}
 use Rattle.range_states.proofs.Agree.{agree-drop, agree-at}
-use Rattle.model.specs.declared.Range.{Range}
-use Rattle.model.specs.RangedStates.{range, joins, coalesceFrom, coalesce}
 use Rattle.range_states.specs.View.{view, spare, decode, blank, Put, Becomes, view-long, becomes-none}
 use Rattle.range_states.specs.Coalescing.{Apart, Coalesced}
 

@@ -1,18 +1,10 @@
 -- The loops of `filtered_count` and `iter_filter`: what is told or written, and what is left to look at.
-use Prim.Native.Nat.{ℕ, _+_, _*_, _≤_, _<_}
-use native.Mathlib.Numerals.{add-one}
-use native.Mathlib.Omega.{arith}
-use mathlib.Core.Path.{_≡_, refl, sym, ap, _∙_}
-use mathlib.Core.Bool.{Bool, true, false}
-use mathlib.Core.List.{List, [], _∷_, _++_, append-assoc, append-nil}
-use lib.ListN.{length, getD, take, drop, take-append-drop}
-use lib.Seq.{slice-empty, length-take-le, take-suc-set, drop-set-lt}
-use Rattle.model.specs.declared.Range.{Range}
-use Rattle.model.specs.RangedStates.{iterFilter}
-use Rattle.range_states.specs.View.{view, spare, decode, blank, Put, view-long}
-use Rattle.range_states.specs.Filtering.{overlaps, clip, Counted, Filtered}
-use Rattle.range_states.proofs.Agree.{agree-drop}
-use Rattle.range_states.proofs.Inserting.{next-is}
+use Rattle.model.specs.Prelude.{ℕ, _+_, _*_, _≤_, _<_, add-one, arith, _≡_, refl, sym, ap, _∙_, Bool, true, false, List, [], _∷_, _++_}
+use Rattle.model.specs.Prelude.{append-assoc, append-nil, length, getD, take, drop, take-append-drop, slice-empty, length-take-le}
+use Rattle.model.specs.Prelude.{take-suc-set, drop-set-lt}
+use Rattle.model.specs.{declared.Range.Range, RangedStates.iterFilter}
+use Rattle.range_states.specs.{View.{view, spare, decode, blank, Put, view-long}, Filtering.{overlaps, clip, Counted, Filtered}}
+use Rattle.range_states.proofs.{Agree.agree-drop, Inserting.next-is}
 
 filter-yes : (a e : ℕ) (x : Range) (s : List Range) → overlaps a e x ≡ true → iterFilter a e (x ∷ s) ≡ clip a e x ∷ iterFilter a e s
 unfolding iterFilter overlaps

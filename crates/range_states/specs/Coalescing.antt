@@ -1,8 +1,5 @@
 -- The contract of `coalesce`: the model's list, and zeros where records were freed.
-use Prim.Native.Nat.{ℕ, _-_, _≤_, _<_}
-use mathlib.Core.Path.{_≡_}
-use mathlib.Core.List.{List, _++_}
-use lib.ListN.{length, getD, take, drop, replicate}
+use Rattle.model.specs.Prelude.{ℕ, _-_, _≤_, _<_, _≡_, List, _++_, length, getD, take, drop, replicate}
 use Rattle.model.specs.RangedStates.{coalesceFrom, coalesce}
 use Rattle.range_states.specs.View.{view, blank, decode, Becomes}
 

@@ -1,12 +1,6 @@
 -- The contract of `iter_filter`, over the model's `iterFilter`.
-use Prim.Native.Nat.{ℕ, _≤_, min, max}
-use mathlib.Core.Path.{_≡_}
-use mathlib.Core.Bool.{Bool, _&&_}
-use mathlib.Core.List.{List}
-use lib.Dec.{ltb}
-use lib.ListN.{length}
-use Rattle.model.specs.declared.Range.{Range}
-use Rattle.model.specs.RangedStates.{range, iterFilter}
+use Rattle.model.specs.Prelude.{ℕ, _≤_, min, max, _≡_, Bool, _&&_, List, ltb, length}
+use Rattle.model.specs.{declared.Range.Range, RangedStates.{range, iterFilter}}
 use Rattle.range_states.specs.View.{decode, Becomes}
 
 -- `inner.end > range.start && inner.start < range.end`

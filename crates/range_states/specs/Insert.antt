@@ -1,9 +1,6 @@
 -- An insertion into a list: `SmallVec::insert`.
-use Prim.Native.Nat.{ℕ, zero, suc, _≤_}
-use native.Mathlib.Nat.{not-suc-le-zero, le-of-suc-le-suc}
-use mathlib.Core.Path.{_≡_, refl, ap}
-use mathlib.Core.List.{List, [], _∷_, _++_}
-use lib.ListN.{length, take, drop}
+use Rattle.model.specs.Prelude.{ℕ, zero, suc, _≤_, not-suc-le-zero, le-of-suc-le-suc, _≡_, refl, ap, List, [], _∷_, _++_, length, take}
+use Rattle.model.specs.Prelude.{drop}
 
 unfoldable pub insertAt : {A : Type 0} → ℕ → A → List A → List A
 insertAt zero r l = r ∷ l

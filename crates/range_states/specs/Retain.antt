@@ -1,15 +1,7 @@
 -- The Rust's `coalesce` drops every empty range once it joined any (`retain`); of ranges that are not empty it drops none.
-use Prim.Native.Nat.{suc, _<_}
-use native.Mathlib.Omega.{arith}
-use borrow.Author.Tests.{eqb-true, ne-eqb}
-use mathlib.Core.Path.{_≡_, refl}
-use mathlib.Core.Bool.{Bool, true, false, _&&_, false≢true}
-use mathlib.Core.List.{List, [], _∷_}
-use lib.Dec.{eqb}
-use lib.ListN.{length}
-use Rattle.model.specs.declared.Range.{Range}
-use Rattle.model.specs.Base.{if_then_else_}
-use Rattle.model.specs.RangedStates.{range, joins, coalesceFrom, coalesce}
+use Rattle.model.specs.Prelude.{suc, _<_, arith, _≡_, refl, Bool, true, false, _&&_, false≢true, List, [], _∷_, eqb, length, eqb-true}
+use Rattle.model.specs.Prelude.{ne-eqb}
+use Rattle.model.specs.{declared.Range.Range, Base.if_then_else_, RangedStates.{range, joins, coalesceFrom, coalesce}}
 
 -- `self.ranges.retain(|pair| pair.0.start != pair.0.end)`
 unfoldable pub retained : List Range → List Range

@@ -1,13 +1,8 @@
 -- A borrowed run of numbers as a list of ranges, and the form of every contract that changes it.
-use Prim.Native.Nat.{ℕ, zero, suc, _+_, _*_, _/_, _-_, _≤_, _<_}
-use native.Mathlib.Nat.{not-suc-le-zero, le-of-suc-le-suc}
-use native.Mathlib.Omega.{arith}
-use mathlib.Core.Path.{_≡_, refl, sym, ap, _∙_}
-use mathlib.Core.List.{List, [], _∷_, _++_}
-use lib.ListN.{length, getD, take, drop, set, length-set, take-append-drop}
-use lib.Seq.{take-at, drop-at, drop-drop, length-take-le, set-append-left}
-use Rattle.model.specs.declared.Range.{Range}
-use Rattle.model.specs.RangedStates.{range}
+use Rattle.model.specs.Prelude.{ℕ, zero, suc, _+_, _*_, _/_, _-_, _≤_, _<_, not-suc-le-zero, le-of-suc-le-suc, arith, _≡_, refl, sym, ap}
+use Rattle.model.specs.Prelude.{_∙_, List, [], _∷_, _++_, length, getD, take, drop, set, length-set, take-append-drop, take-at, drop-at}
+use Rattle.model.specs.Prelude.{drop-drop, length-take-le, set-append-left}
+use Rattle.model.specs.{declared.Range.Range, RangedStates.range}
 
 -- a freed record: zeros (01, "Strips")
 abbrev pub blank : Range

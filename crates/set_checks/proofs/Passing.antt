@@ -1,22 +1,10 @@
 -- A set of which every index passes: no check of it fails.
-use Prim.Native.Nat.{ℕ, zero, suc, _+_, _≤_, _<_}
-use native.Mathlib.Omega.{arith}
-use mathlib.Core.Path.{_≡_, refl, sym, _∙_}
-use mathlib.Core.Bool.{Bool, true, false, _&&_, not}
-use mathlib.Core.List.{List}
-use mathlib.Core.Option.{Option, none}
-use lib.Dec.{eqb}
-use lib.ListN.{getD}
-use borrow.Author.Tests.{lt-ltb}
-use Rattle.model.specs.declared.Extent.{Extent}
-use Rattle.model.specs.declared.Refusal.{Refusal}
-use Rattle.model.specs.declared.Verdict.the-variants.{Accepted}
-use Rattle.model.specs.Flags.{sameFlags}
-use Rattle.model.specs.Refusals.{firstFailing, sameExtent, extentOutside, otherExtent}
-use Rattle.model.specs.BoolLaws.{by-lt, nor as neither, and-both as both}
+use Rattle.model.specs.Prelude.{ℕ, zero, suc, _+_, _≤_, _<_, arith, _≡_, refl, sym, _∙_, Bool, true, false, _&&_, not, Option, none, List}
+use Rattle.model.specs.Prelude.{eqb, getD, lt-ltb}
+use Rattle.model.specs.{declared.Verdict.the-variants.Accepted, declared.{Extent.Extent, Refusal.Refusal}, Flags.sameFlags}
+use Rattle.model.specs.{Refusals.{firstFailing, sameExtent, extentOutside, otherExtent}, BoolLaws.{by-lt, nor as neither, and-both as both}}
 use Rattle.set_storage.specs.Storage.{numbersOf, flagsOf, extentOf, ownedAt, texturesAt}
-use Rattle.set_checks.specs.Head.{ownedExtent, extent-at}
-use Rattle.set_checks.specs.Sets.{firstOf, ownedRefusal, ownedPasses, AllPass, SetTold, set-splits}
+use Rattle.set_checks.specs.{Head.{ownedExtent, extent-at}, Sets.{firstOf, ownedRefusal, ownedPasses, AllPass, SetTold, set-splits}}
 
 -- an index that is not owned has no extent to differ from
 pub other-is : (t : List ℕ) (i : ℕ) (sh : Extent) → (not (eqb (getD t (ownedAt i) 0) 0) && not (sameExtent (extentOf t i) sh)) ≡ otherExtent (ownedExtent t i) sh

@@ -1,22 +1,11 @@
 -- A loop of checks: what is left of it from a place on, what a turn does to it, and what it tells.
-use Prim.Native.Nat.{ℕ, suc, _+_, _-_, _≤_, _<_}
-use native.Mathlib.Omega.{arith}
-use native.Mathlib.Numerals.{add-one}
-use mathlib.Core.Path.{_≡_, ap, _∙_}
-use mathlib.Core.Bool.{true, false}
-use mathlib.Core.List.{List}
-use mathlib.Core.Option.{Option, none, some}
-use lib.ListN.{length, getD}
-use Rattle.model.specs.declared.Refusal.{Refusal}
-use Rattle.model.specs.declared.Refusal.the-variants.{FlagsDiffer}
-use Rattle.model.specs.declared.Verdict.{Verdict}
-use Rattle.model.specs.declared.Verdict.the-variants.{Accepted, Refused}
-use Rattle.model.specs.Flags.{sameFlags}
-use Rattle.model.specs.Refusals.{setRefusal, sparseRefusal, refusedFor}
+use Rattle.model.specs.Prelude.{ℕ, suc, _+_, _-_, _≤_, _<_, add-one, arith, _≡_, ap, _∙_, true, false, Option, none, some, List, length}
+use Rattle.model.specs.Prelude.{getD}
+use Rattle.model.specs.{declared.Refusal.the-variants.FlagsDiffer, declared.Verdict.the-variants.{Accepted, Refused}}
+use Rattle.model.specs.{declared.{Refusal.Refusal, Verdict.Verdict}, Flags.sameFlags, Refusals.{setRefusal, sparseRefusal, refusedFor}}
 use Rattle.model.specs.Log.{orNext}
 use Rattle.set_storage.specs.Storage.{flagsOf, texturesAt}
-use Rattle.set_checks.specs.Head.{headIn}
-use Rattle.set_checks.specs.Sets.{firstOf, ownedRefusal, listedAt, set-splits, sparse-splits, SetTold, SparseTold}
+use Rattle.set_checks.specs.{Head.headIn, Sets.{firstOf, ownedRefusal, listedAt, set-splits, sparse-splits, SetTold, SparseTold}}
 
 -- place i of n: q, the refusal of all, is the first of what is left
 pub record Left (f : ℕ → Option Refusal) (n : ℕ) (q : Option Refusal) (i : ℕ) : Type 0 where

@@ -1,18 +1,7 @@
 -- What several checks tell, from what their parts do.
-use Prim.Native.Nat.{ℕ, _≤_, _<_}
-use mathlib.Core.Path.{_≡_, refl}
-use mathlib.Core.Bool.{Bool, true, false}
-use mathlib.Core.List.{List}
-use lib.ListN.{getD}
-use borrow.Author.Tests.{lt-ltb, le-ltb, eq-eqb, ne-eqb}
-use mathlib.Core.Option.{none, some}
-use Rattle.model.specs.declared.Extent.{Extent}
-use Rattle.model.specs.declared.Refusal.{Refusal}
-use Rattle.model.specs.declared.Selection.{Selection}
-use Rattle.model.specs.declared.Verdict.{Verdict}
-use Rattle.model.specs.declared.Verdict.the-variants.{Accepted, Refused}
-use Rattle.model.specs.declared.Refusal.the-variants.{NoSuchIndex, ExtentDiffers}
-use Rattle.model.specs.Base.{if_then_else_}
+use Rattle.model.specs.Prelude.{ℕ, _≤_, _<_, _≡_, refl, Bool, true, false, none, some, List, getD, lt-ltb, le-ltb, eq-eqb, ne-eqb}
+use Rattle.model.specs.{declared.Verdict.the-variants.{Accepted, Refused}, declared.Refusal.the-variants.{NoSuchIndex, ExtentDiffers}}
+use Rattle.model.specs.{declared.{Extent.Extent, Refusal.Refusal, Selection.Selection, Verdict.Verdict}, Base.if_then_else_}
 use Rattle.model.specs.Refusals.{firstFailing, trackerIndex, otherExtent, refusedFor}
 use Rattle.set_storage.specs.Storage.{flagsOf, extentOf, layerLimitAt, mipLimitAt, ownedAt, texturesAt}
 use Rattle.set_checks.specs.Head.{ownedExtent, extent-at, textureRefusal, use-splits, TextureTold, SelectorTold, StateTold, UseTold}

@@ -1,22 +1,10 @@
 -- What the checks read of a table: the head of its view.
-use Prim.Native.Nat.{ℕ, zero, suc, _+_, _<_}
-use native.Mathlib.Omega.{arith}
-use mathlib.Core.Path.{_≡_, refl, ap, _∙_}
-use mathlib.Core.Bool.{Bool, true, false}
-use mathlib.Core.List.{List, [], _∷_, _++_, map}
-use mathlib.Core.Option.{Option, none, some}
-use lib.ListN.{getD}
-use Rattle.model.specs.declared.UsageFlags.{UsageFlags}
-use Rattle.model.specs.declared.Extent.{Extent}
-use Rattle.model.specs.declared.Refusal.{Refusal}
-use Rattle.model.specs.declared.Selector.{Selector}
-use Rattle.model.specs.declared.Selection.{Selection}
+use Rattle.model.specs.Prelude.{ℕ, zero, suc, _+_, _<_, arith, _≡_, refl, ap, _∙_, Bool, true, false, Option, none, some, List, [], _∷_}
+use Rattle.model.specs.Prelude.{_++_, map, getD}
 use Rattle.model.specs.declared.Selection.the-variants.{Full, Part}
-use Rattle.model.specs.declared.Verdict.{Verdict}
-use Rattle.model.specs.Base.{if_then_else_}
-use Rattle.model.specs.Sets.{Head, ownExtent, headOf}
-use Rattle.model.specs.Refusals.{Check, firstFailing, textureChecks, selectorChecks, stateChecks, singleRefusal, refusedFor}
-use Rattle.model.specs.Log.{orNext}
+use Rattle.model.specs.declared.{UsageFlags.UsageFlags, Extent.Extent, Refusal.Refusal, Selector.Selector, Selection.Selection}
+use Rattle.model.specs.{declared.Verdict.Verdict, Base.if_then_else_, Sets.{Head, ownExtent, headOf}}
+use Rattle.model.specs.{Refusals.{Check, firstFailing, textureChecks, selectorChecks, stateChecks, singleRefusal, refusedFor}, Log.orNext}
 use Rattle.set_storage.specs.Storage.{numbersOf, flagsOf, ownedOf, extentOf, slotWith, setWith, scopeOf, trackerOf, listFrom, texturesAt}
 use Rattle.set_storage.specs.Lists.{list-at}
 

@@ -1,31 +1,16 @@
 -- What checks that passed show: of a texture, a selector, a state, a use, a set and a list.
-use Prim.Native.Nat.{ℕ, _≤_, _<_}
-use native.Mathlib.Omega.{arith}
-use mathlib.Core.Path.{_≡_, refl, sym}
-use mathlib.Core.Bool.{Bool, true, false, _||_, and-eq-true-iff}
-use mathlib.Core.List.{List}
-use mathlib.Core.Option.{Option, none, some}
-use lib.Dec.{ltb, eqb}
-use lib.ListN.{length, getD}
-use borrow.Author.Tests.{ltb-true, ltb-false, eqb-false, not-false}
-use Rattle.model.specs.declared.Extent.{Extent}
-use Rattle.model.specs.declared.Refusal.{Refusal}
-use Rattle.model.specs.declared.Refusal.the-variants.{FlagsDiffer}
-use Rattle.model.specs.declared.Selector.{Selector}
-use Rattle.model.specs.declared.Selection.{Selection}
-use Rattle.model.specs.declared.Selection.the-variants.{Part}
-use Rattle.model.specs.declared.UsageFlags.{UsageFlags}
-use Rattle.model.specs.Base.{if_then_else_}
-use Rattle.model.specs.Flags.{meets, incompatible, sameFlags}
-use Rattle.model.specs.Representation.{mipStart, mipEnd, layerStart, layerEnd}
-use Rattle.model.specs.Sets.{outside}
-use Rattle.model.specs.Refusals.{sameExtent, otherExtent, setRefusal, sparseRefusal}
-use Rattle.model.specs.Log.{orNext}
-use Rattle.model.specs.BoolLaws.{by-lt, neither}
+use Rattle.model.specs.Prelude.{ℕ, _≤_, _<_, arith, _≡_, refl, sym, Bool, true, false, _||_, and-eq-true-iff, Option, none, some, List, ltb}
+use Rattle.model.specs.Prelude.{eqb, length, getD, ltb-true, ltb-false, eqb-false, not-false}
+use Rattle.model.specs.{declared.Refusal.the-variants.FlagsDiffer, declared.Selection.the-variants.Part}
+use Rattle.model.specs.declared.{Extent.Extent, Refusal.Refusal, Selector.Selector, Selection.Selection, UsageFlags.UsageFlags}
+use Rattle.model.specs.{Base.if_then_else_, Flags.{meets, incompatible, sameFlags}, Representation.{mipStart, mipEnd, layerStart, layerEnd}}
+use Rattle.model.specs.{Sets.outside, Refusals.{sameExtent, otherExtent, setRefusal, sparseRefusal}, Log.orNext, BoolLaws.{by-lt, neither}}
 use Rattle.model.specs.CheckLaws.{first-passed, inside, same-extent, same-flags}
 use Rattle.set_storage.specs.Storage.{flagsOf, ownedOf, extentOf, layerLimitAt, mipLimitAt, texturesAt}
-use Rattle.set_checks.specs.Head.{ownedExtent, headIn, extent-at, textureRefusal, selectorRefusal, stateRefusal, useRefusal, use-splits, none-both}
-use Rattle.set_checks.specs.Sets.{firstOf, first-none, ownedRefusal, listedRefusal, listedAt, listed-in, listed-past, set-splits, sparse-splits}
+use Rattle.set_checks.specs.Head.{ownedExtent, headIn, extent-at, textureRefusal, selectorRefusal, stateRefusal, useRefusal}
+use Rattle.set_checks.specs.Head.{use-splits, none-both}
+use Rattle.set_checks.specs.Sets.{firstOf, first-none, ownedRefusal, listedRefusal, listedAt, listed-in, listed-past, set-splits}
+use Rattle.set_checks.specs.Sets.{sparse-splits}
 
 -- what 7, 8 and 9 show of texture i with extent sh
 pub record TexturePassed (t : List ℕ) (i : ℕ) (sh : Extent) : Type 0 where

@@ -1,23 +1,12 @@
 -- The checks over a set and over a list: the first refusal of many, and the contracts.
-use Prim.Native.Nat.{ℕ, zero, suc, _+_, _≤_, _<_}
-use native.Mathlib.Omega.{arith}
-use mathlib.Core.Path.{_≡_, refl, ap, _∙_}
-use mathlib.Core.Bool.{Bool, true, false, _||_, not}
-use mathlib.Core.List.{List, [], _∷_}
-use mathlib.Core.Option.{Option, none, some}
-use lib.Dec.{eqb}
-use lib.ListN.{length, getD}
-use borrow.Author.Tests.{lt-ltb, le-ltb}
-use Rattle.model.specs.declared.Refusal.{Refusal}
-use Rattle.model.specs.declared.Refusal.the-variants.{FlagsDiffer, NoSuchIndex}
-use Rattle.model.specs.declared.Verdict.{Verdict}
-use Rattle.model.specs.Base.{if_then_else_, each, eachAt}
-use Rattle.model.specs.Flags.{sameFlags}
-use Rattle.model.specs.Refusals.{Check, firstFailing, extentOutside, otherExtent, flagsCheck, ownedChecks, setRefusal, sparseChecks, sparseRefusal, trackerIndex, refusedFor}
-use Rattle.model.specs.Log.{orNext}
+use Rattle.model.specs.Prelude.{ℕ, zero, suc, _+_, _≤_, _<_, arith, _≡_, refl, ap, _∙_, Bool, true, false, _||_, not, Option, none, some}
+use Rattle.model.specs.Prelude.{List, [], _∷_, eqb, length, getD, lt-ltb, le-ltb}
+use Rattle.model.specs.{declared.Refusal.the-variants.{FlagsDiffer, NoSuchIndex}, declared.{Refusal.Refusal, Verdict.Verdict}}
+use Rattle.model.specs.{Base.{if_then_else_, each, eachAt}, Flags.sameFlags}
+use Rattle.model.specs.Refusals.{Check, firstFailing, extentOutside, otherExtent, flagsCheck, ownedChecks, setRefusal, sparseChecks}
+use Rattle.model.specs.{Refusals.{sparseRefusal, trackerIndex, refusedFor}, Log.orNext, BoolLaws.by-lt}
 use Rattle.set_storage.specs.Storage.{numbersOf, flagsOf, extentOf, listFrom, ownedAt, texturesAt}
 use Rattle.set_checks.specs.Head.{ownedExtent, headIn, extent-at, checks-append, none-both}
-use Rattle.model.specs.BoolLaws.{by-lt}
 
 -- ---- The first refusal of f k, f (k + 1) and so on, n of them
 unfoldable pub firstOf : (ℕ → Option Refusal) → ℕ → ℕ → Option Refusal

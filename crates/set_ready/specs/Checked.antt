@@ -1,20 +1,9 @@
 -- A use and a texture that passed the checks: the texture, owned or about to be, is ready for the use.
-use Prim.Native.Nat.{ℕ, _+_}
-use mathlib.Core.Path.{_≡_, sym, ap, subst, _∙_}
-use mathlib.Core.Bool.{Bool, true, false, and-eq-true-iff}
-use mathlib.Core.List.{List}
-use lib.Bits.{bitAnd, bitOr}
-use lib.ListN.{getD}
-use borrow.Author.Tests.{ne-eqb, not-false, eqb-true}
-use Rattle.model.specs.declared.UsageFlags.{UsageFlags}
-use Rattle.model.specs.declared.Extent.{Extent}
-use Rattle.model.specs.declared.Selector.{Selector}
-use Rattle.model.specs.Flags.{meets}
-use Rattle.model.specs.Sets.{Numbers}
-use Rattle.model.specs.Representation.{isFull, full}
-use Rattle.model.specs.RangedStates.{Tiles}
-use Rattle.set_storage.specs.Storage.{numbersOf, flagsOf, extentOf, ownedOf, startHalf, endHalf, mipOf, ownedAt}
-use Rattle.set_storage.specs.Frames.{Measured}
+use Rattle.model.specs.Prelude.{ℕ, _+_, _≡_, sym, ap, subst, _∙_, Bool, true, false, and-eq-true-iff, List, bitAnd, bitOr, getD, ne-eqb}
+use Rattle.model.specs.Prelude.{not-false, eqb-true}
+use Rattle.model.specs.{declared.{UsageFlags.UsageFlags, Extent.Extent, Selector.Selector}, Flags.meets, Sets.Numbers}
+use Rattle.model.specs.{Representation.{isFull, full}, RangedStates.Tiles}
+use Rattle.set_storage.specs.{Storage.{numbersOf, flagsOf, extentOf, ownedOf, startHalf, endHalf, mipOf, ownedAt}, Frames.Measured}
 use Rattle.set_storage.specs.Texture.{TextureReady, TextureHeld, SelectorWithin}
 use Rattle.texture_merge.specs.Uses.{UseReady, HeldReady}
 use Rattle.texture_update.specs.Update.{UpdateReady, Selecting}

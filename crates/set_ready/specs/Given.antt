@@ -1,22 +1,13 @@
 -- A texture that a given set holds, for the texture of another set at the same index: what is asked for, and what follows for the
 -- functions on one texture.
-use Prim.Native.Nat.{ℕ, _+_, _<_}
-use mathlib.Core.Path.{_≡_, refl, sym, ap, subst, _∙_}
-use mathlib.Core.Bool.{true}
-use mathlib.Core.List.{List}
-use lib.ListN.{getD}
-use Rattle.model.specs.declared.UsageFlags.{UsageFlags}
-use Rattle.model.specs.declared.Extent.{Extent}
-use Rattle.model.specs.Texture.{Given, fromHeld}
+use Rattle.model.specs.Prelude.{ℕ, _+_, _<_, _≡_, refl, sym, ap, subst, _∙_, true, List, getD}
+use Rattle.model.specs.{declared.{UsageFlags.UsageFlags, Extent.Extent}, Texture.{Given, fromHeld}}
 use Rattle.set_storage.specs.Storage.{numbersOf, flagsOf, extentOf, ownedOf, startHalf, endHalf, heldOf, complexAt, ownedAt, texturesAt}
-use Rattle.set_storage.specs.Stays.{only, onlyOwned}
-use Rattle.set_storage.specs.Frames.{Measured}
-use Rattle.set_storage.specs.Texture.{TextureReady, TextureHeld}
+use Rattle.set_storage.specs.{Stays.{only, onlyOwned}, Frames.Measured, Texture.{TextureReady, TextureHeld}}
 use Rattle.texture_merge.specs.FromSet.{GivenReady, SetReady, MergeReady}
 use Rattle.texture_update.specs.FromSet.{UpdateFromReady}
 use Rattle.agreement.specs.Fits.{ExtentFits}
-use Rattle.set_ready.specs.Tested.{HalfFits, half-fits, union-not-bit, ScopeTested}
-use Rattle.set_ready.specs.Checked.{word-owned, texture-held}
+use Rattle.set_ready.specs.{Tested.{HalfFits, half-fits, union-not-bit, ScopeTested}, Checked.{word-owned, texture-held}}
 
 -- what the half h of a set hands in at index i
 abbrev pub givenAt : ℕ → List ℕ → List ℕ → ℕ → Given

@@ -1,24 +1,14 @@
 -- One half of a texture that passed the checks, in a set that passed the test: ready for the functions over it, and ready still while
 -- others change.
-use Prim.Native.Nat.{ℕ, _<_}
-use native.Mathlib.Omega.{arith}
-use mathlib.Core.Path.{_≡_, refl, sym, ap, subst, _∙_}
-use mathlib.Core.Bool.{true}
-use mathlib.Core.List.{List}
-use lib.ListN.{length, getD}
-use Rattle.model.specs.declared.UsageFlags.{UsageFlags}
-use Rattle.model.specs.declared.Extent.{Extent}
-use Rattle.model.specs.Sets.{Numbers, Slot}
-use Rattle.set_storage.specs.Storage.{numbersOf, flagsOf, ownedOf, startHalf, endHalf, heldOf, endsOf, slotWith, ownedAt, scopeSlot, trackerSlot}
-use Rattle.set_storage.specs.Stays.{only, keeps-refl, both-refl, ScopeFrame, TrackerFrame}
-use Rattle.set_storage.specs.Frames.{Measured}
-use Rattle.set_storage.specs.Slots.{scope-head, tracker-head}
-use Rattle.set_storage.specs.Texture.{TextureHeld}
+use Rattle.model.specs.Prelude.{ℕ, _<_, arith, _≡_, refl, sym, ap, subst, _∙_, true, List, length, getD}
+use Rattle.model.specs.{declared.{UsageFlags.UsageFlags, Extent.Extent}, Sets.{Numbers, Slot}}
+use Rattle.set_storage.specs.Storage.{numbersOf, flagsOf, ownedOf, startHalf, endHalf, heldOf, endsOf, slotWith, ownedAt, scopeSlot}
+use Rattle.set_storage.specs.Storage.{trackerSlot, complexAt, exclusiveAt, headLength, layerLimitAt, mipLimitAt, texturesAt}
+use Rattle.set_storage.specs.{Storage.{uninitializedAt, unknownAt}, Stays.{only, keeps-refl, both-refl, ScopeFrame, TrackerFrame}}
+use Rattle.set_storage.specs.{Frames.Measured, Slots.{scope-head, tracker-head}, Texture.TextureHeld}
 use Rattle.set_checks.specs.Passed.{TexturePassed}
 use Rattle.agreement.specs.Fits.{HeldFits, EndsFit, SlotFits}
-use Rattle.set_ready.specs.Tested.{HalfFits, half-fits, ScopeTested, TrackerTested}
-use Rattle.set_ready.specs.Checked.{word-owned, texture-held}
-use Rattle.set_storage.specs.Storage.{complexAt, exclusiveAt, headLength, layerLimitAt, mipLimitAt, texturesAt, uninitializedAt, unknownAt}
+use Rattle.set_ready.specs.{Tested.{HalfFits, half-fits, ScopeTested, TrackerTested}, Checked.{word-owned, texture-held}}
 
 -- texture i in the half h: it passed the checks, and where it is owned, what it holds fits
 pub record HalfReady (h : ℕ) (t r : List ℕ) (i : ℕ) (sh : Extent) : Type 0 where

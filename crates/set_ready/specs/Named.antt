@@ -1,11 +1,9 @@
 -- What the frame of a call says of the numbers that no texture of the set uses, and of a texture that the call does not name.
-use Prim.Native.Nat.{ℕ, _≤_, _<_}
-use native.Mathlib.Omega.{arith}
-use mathlib.Core.Path.{_≡_}
-use mathlib.Core.List.{List}
-use lib.ListN.{getD}
-use Rattle.set_storage.specs.Storage.{numbersOf, startHalf, endHalf, tableIndices, ownedAt, mipsAt, layersAt, stateAt, countAt, rangesAt, texturesAt}
-use Rattle.set_storage.specs.Stays.{Stays, OffTracker, OffRanges, off-scope, past-ranges, owned-off, mips-off, layers-off, start-off, end-off, start-count-off, end-count-off, ScopeFrame, TrackerFrame}
+use Rattle.model.specs.Prelude.{ℕ, _≤_, _<_, arith, _≡_, List, getD}
+use Rattle.set_storage.specs.Storage.{numbersOf, startHalf, endHalf, tableIndices, ownedAt, mipsAt, layersAt, stateAt, countAt, rangesAt}
+use Rattle.set_storage.specs.Storage.{texturesAt}
+use Rattle.set_storage.specs.Stays.{Stays, OffTracker, OffRanges, off-scope, past-ranges, owned-off, mips-off, layers-off, start-off}
+use Rattle.set_storage.specs.Stays.{end-off, start-count-off, end-count-off, ScopeFrame, TrackerFrame}
 
 -- the named indices that are below the N of the table t
 abbrev pub within : List ℕ → (ℕ → Type 0) → ℕ → Type 0

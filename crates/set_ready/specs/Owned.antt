@@ -1,22 +1,12 @@
 -- A texture that is owned, just now or before: what the functions on one texture ask for, how its slot reads after a change, and the view.
-use Prim.Native.Nat.{ℕ, _≤_, _<_}
-use native.Mathlib.Omega.{arith}
-use mathlib.Core.Path.{_≡_, refl, sym, ap, _∙_}
-use mathlib.Core.List.{List}
-use lib.ListN.{getD, set}
-use lib.Seq.{set-out}
-use Rattle.model.specs.declared.Extent.{Extent}
-use Rattle.model.specs.Sets.{Numbers, Slot, withSlots}
-use Rattle.model.specs.Calls.{owning}
-use Rattle.model.specs.BoolLaws.{by-lt}
-use Rattle.set_storage.specs.Storage.{numbersOf, flagsOf, startHalf, endHalf, slotWith, setWith, listFrom}
-use Rattle.set_storage.specs.Storage.{ownedAt, mipsAt, layersAt, texturesAt}
-use Rattle.set_storage.specs.Lists.{list-ext, list-long}
-use Rattle.set_storage.specs.Stays.{HalfFrame}
+use Rattle.model.specs.Prelude.{ℕ, _≤_, _<_, arith, _≡_, refl, sym, ap, _∙_, List, getD, set, set-out}
+use Rattle.model.specs.{declared.Extent.Extent, Sets.{Numbers, Slot, withSlots}, Calls.owning, BoolLaws.by-lt}
+use Rattle.set_storage.specs.Storage.{numbersOf, flagsOf, startHalf, endHalf, slotWith, setWith, listFrom, ownedAt, mipsAt, layersAt}
+use Rattle.set_storage.specs.Storage.{texturesAt, complexAt, exclusiveAt, layerLimitAt, mipLimitAt, uninitializedAt, unknownAt}
+use Rattle.set_storage.specs.{Lists.{list-ext, list-long}, Stays.HalfFrame}
 use Rattle.set_storage.specs.Slots.{SlotFrame, ownWords, scope-own, own-owned, own-mips, own-layers, half-low, slot-owned, set-becomes}
 use Rattle.set_storage.specs.Texture.{TextureReady, numbers-low, flags-low, texture-dims, texture-away}
 use Rattle.set_ready.specs.Half.{HalfReady, BothReady, HeadStays, scope-keeps, numbers-stay, flags-stay, measured-kept}
-use Rattle.set_storage.specs.Storage.{complexAt, exclusiveAt, layerLimitAt, mipLimitAt, uninitializedAt, unknownAt}
 
 -- ---- A texture that has just become owned, in any half
 module _ {h i : ℕ} {t r : List ℕ} {sh : Extent} (s : HalfReady h t r i sh) where

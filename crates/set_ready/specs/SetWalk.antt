@@ -1,20 +1,11 @@
 -- A walk over the slots of a set as it is lent: the view at its end; and of a tracker, that a slot which is left is ready as it was.
-use Prim.Native.Nat.{ℕ, _<_}
-use native.Mathlib.Omega.{arith}
-use mathlib.Core.Path.{_≡_, ap, subst, _∙_}
-use mathlib.Core.List.{List}
-use lib.ListN.{getD}
-use Rattle.model.specs.declared.Extent.{Extent}
-use Rattle.model.specs.Representation.{Ends}
-use Rattle.model.specs.Sets.{Numbers, Slot, withTracker}
-use Rattle.model.specs.Texture.{Held}
-use Rattle.set_storage.specs.Storage.{numbersOf, flagsOf, startHalf, endsOf, slotWith, setWith, trackerOf, listFrom, maskAt, texturesAt, trackerSlot}
-use Rattle.set_storage.specs.Stays.{both-refl, both-then, both-more, TrackerFrame}
-use Rattle.set_storage.specs.Frames.{Measured}
+use Rattle.model.specs.Prelude.{ℕ, _<_, arith, _≡_, ap, subst, _∙_, List, getD}
+use Rattle.model.specs.{declared.Extent.Extent, Representation.Ends, Sets.{Numbers, Slot, withTracker}, Texture.Held}
+use Rattle.set_storage.specs.Storage.{numbersOf, flagsOf, startHalf, endsOf, slotWith, setWith, trackerOf, listFrom, maskAt, texturesAt}
+use Rattle.set_storage.specs.{Storage.trackerSlot, Stays.{both-refl, both-then, both-more, TrackerFrame}, Frames.Measured}
 use Rattle.set_storage.specs.Slots.{tracker-other}
 use Rattle.set_checks.specs.Passed.{TexturePassed}
-use Rattle.set_ready.specs.Tested.{TrackerTested}
-use Rattle.set_ready.specs.Half.{HeadStays, BothReady, tracker-keeps, numbers-stay, flags-stay, tracker-still}
+use Rattle.set_ready.specs.{Tested.TrackerTested, Half.{HeadStays, BothReady, tracker-keeps, numbers-stay, flags-stay, tracker-still}}
 use Rattle.set_ready.specs.Walked.{Walked, walked-start}
 
 -- the view of a set whose head stays: its slots as they are now

@@ -1,26 +1,14 @@
 -- What the test of a set has shown of its storage, index by index.
-use Prim.Native.Nat.{ℕ, _+_, _/_, _≤_, _<_}
-use native.Mathlib.Omega.{arith}
-use mathlib.Core.Path.{_≡_, refl, sym, ap, subst, _∙_}
-use mathlib.Core.Bool.{true, and-eq-true-iff}
-use mathlib.Core.List.{List, []}
-use lib.Bits.{bitAnd, bitOr, and-comm, and-self}
-use lib.ListN.{length, getD}
-use Rattle.model.specs.declared.UsageFlags.{UsageFlags}
-use Rattle.model.specs.declared.Extent.{Extent}
-use Rattle.model.specs.declared.Range.{Range}
-use Rattle.model.specs.Flags.{flagsFit}
-use Rattle.model.specs.RangedStates.{Tiles}
-use Rattle.model.specs.Texture.{many}
-use Rattle.model.specs.WellFormed.{wellFormedScope, wellFormedTracker}
+use Rattle.model.specs.Prelude.{ℕ, _+_, _/_, _≤_, _<_, arith, _≡_, refl, sym, ap, subst, _∙_, true, and-eq-true-iff, List, [], bitAnd}
+use Rattle.model.specs.Prelude.{bitOr, and-comm, and-self, length, getD}
+use Rattle.model.specs.{declared.{UsageFlags.UsageFlags, Extent.Extent, Range.Range}, Flags.flagsFit, RangedStates.Tiles, Texture.many}
+use Rattle.model.specs.{WellFormed.{wellFormedScope, wellFormedTracker}, ListLaws.all-at}
 use Rattle.usage.specs.BitLaws.{and-or, or-zero}
-use Rattle.set_storage.specs.Storage.{trackerSlot, scopeSlot, numbersOf, flagsOf, extentOf, startHalf, endHalf, mipOf, mipsIn, mipsOf, heldOf, endsOf, slotWith, setWith, scopeOf, trackerOf, listFrom, complexAt, layersAt, mipLimitAt, mipsAt, tableLength, texturesAt}
-use Rattle.set_storage.specs.Lists.{list-at, list-long}
-use Rattle.set_storage.specs.Frames.{Measured, mip-at, mips-long, measured-of}
-use Rattle.set_storage.specs.Slots.{held-many, held-single}
-use Rattle.agreement.specs.Fits.{SingleFits, MipFits, HeldFits, EndsFit, SlotFits, SetFits}
-use Rattle.agreement.specs.Decides.{scope-to, tracker-to}
-use Rattle.model.specs.ListLaws.{all-at}
+use Rattle.set_storage.specs.Storage.{trackerSlot, scopeSlot, numbersOf, flagsOf, extentOf, startHalf, endHalf, mipOf, mipsIn, mipsOf}
+use Rattle.set_storage.specs.Storage.{heldOf, endsOf, slotWith, setWith, scopeOf, trackerOf, listFrom, complexAt, layersAt, mipLimitAt}
+use Rattle.set_storage.specs.{Storage.{mipsAt, tableLength, texturesAt}, Lists.{list-at, list-long}}
+use Rattle.set_storage.specs.{Frames.{Measured, mip-at, mips-long, measured-of}, Slots.{held-many, held-single}}
+use Rattle.agreement.specs.{Fits.{SingleFits, MipFits, HeldFits, EndsFit, SlotFits, SetFits}, Decides.{scope-to, tracker-to}}
 
 -- ---- What an owned texture holds in the half h: ranges that tile its layers where its word tells COMPLEX, otherwise a state that fits
 pub record HalfFits (h : ℕ) (t r : List ℕ) (i : ℕ) : Type 0 where

@@ -1,12 +1,7 @@
 -- A walk over slots that changes them one by one: which are done, which are left as they were, and that the model's walks give the same.
-use Prim.Native.Nat.{ℕ, zero, suc, _+_, _≤_, _<_}
-use native.Mathlib.Decide.{ℕ-discrete}
-use native.Mathlib.Omega.{arith}
-use mathlib.Core.Path.{_≡_, refl, sym, ap, subst, _∙_}
-use mathlib.Core.List.{List, [], _∷_}
+use Rattle.model.specs.Prelude.{ℕ, zero, suc, _+_, _≤_, _<_, ℕ-discrete, arith, _≡_, refl, sym, ap, subst, _∙_, List, [], _∷_}
 use Rattle.model.specs.Base.{Stop, fine, stopped, over₂, walk₂}
-use Rattle.set_storage.specs.Storage.{listFrom}
-use Rattle.set_storage.specs.Lists.{list-ext}
+use Rattle.set_storage.specs.{Storage.listFrom, Lists.list-ext}
 
 -- of the first n slots each that is left reads as before, and of each other R tells what it became
 pub record Walked {A : Type 0} (n : ℕ) (R : ℕ → A → A → Type 0) (before : ℕ → A) (left : ℕ → Type 0) (now : ℕ → A) : Type 0 where

@@ -1,22 +1,12 @@
 -- What a change of one texture leaves as it was, and how changes of its mips follow one another.
-use Prim.Native.Nat.{ℕ, suc, _+_, _*_, _/_, _≤_, _<_}
-use native.Mathlib.Omega.{arith}
-use native.Mathlib.Nat.{min-le-right}
-use mathlib.Core.Path.{_≡_, refl, ap, _∙_}
-use mathlib.Core.Logic.{_⊎_, inl, inr}
-use mathlib.Core.List.{List, _++_}
-use lib.Dec.{leb}
-use borrow.Author.Tests.{le-leb, leb-true, not-true}
-use lib.ListN.{length, getD, set, take, drop}
-use lib.Seq.{getD-set-same, getD-set-other}
-use mathlib.Core.Bool.{true}
-use Rattle.model.specs.declared.Range.{Range}
-use Rattle.model.specs.Sets.{Numbers, numbersFit, capacity}
-use Rattle.model.specs.BoolLaws.{and-both}
-use Rattle.model.specs.CheckLaws.{inside}
+use Rattle.model.specs.Prelude.{ℕ, suc, _+_, _*_, _/_, _≤_, _<_, min-le-right, arith, _≡_, refl, ap, _∙_, _⊎_, inl, inr, true, List, _++_}
+use Rattle.model.specs.Prelude.{leb, length, getD, set, take, drop, getD-set-same, getD-set-other, le-leb, leb-true, not-true}
+use Rattle.model.specs.{declared.Range.Range, Sets.{Numbers, numbersFit, capacity}, BoolLaws.and-both, CheckLaws.inside}
 use Rattle.range_states.specs.View.{decode}
-use Rattle.set_storage.specs.Part.{baseOf, partOf, putPart, put-length, put-part, put-before, put-after, put-apart, part-length, mips-apart, places-fit, Within}
-use Rattle.set_storage.specs.Storage.{numbersOf, tableIndices, stateAt, rangesAt, mipsIn, countAt, mipPart, mipOf, mipsOf, endHalf, mipsAt, tableLength, startHalf, texturesAt, mipLimitAt, layerLimitAt}
+use Rattle.set_storage.specs.Part.{baseOf, partOf, putPart, put-length, put-part, put-before, put-after, put-apart, part-length}
+use Rattle.set_storage.specs.Part.{mips-apart, places-fit, Within}
+use Rattle.set_storage.specs.Storage.{numbersOf, tableIndices, stateAt, rangesAt, mipsIn, countAt, mipPart, mipOf, mipsOf, endHalf}
+use Rattle.set_storage.specs.Storage.{mipsAt, tableLength, startHalf, texturesAt, mipLimitAt, layerLimitAt}
 use Rattle.set_storage.specs.Stays.{Frame, HalfFrame, stays-refl, stays-at, stays-of, stays-set, keeps-more, mip-first, mip-last}
 use Rattle.set_storage.specs.Lists.{list-set, list-long, list-at}
 

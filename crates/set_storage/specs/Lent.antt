@@ -1,11 +1,6 @@
 -- What is lent for a set, the set that it holds, and whether that is well formed. Nothing is asked of the numbers, nor of how many they are.
-use Prim.Native.Nat.{ℕ, _/_}
-use mathlib.Core.Bool.{Bool}
-use mathlib.Core.List.{List}
-use lib.ListN.{length}
-use Rattle.model.specs.Sets.{Set, Tracker}
-use Rattle.model.specs.Texture.{Held}
-use Rattle.model.specs.WellFormed.{wellFormedScope, wellFormedTracker}
+use Rattle.model.specs.Prelude.{ℕ, _/_, Bool, List, length}
+use Rattle.model.specs.{Sets.{Set, Tracker}, Texture.Held, WellFormed.{wellFormedScope, wellFormedTracker}}
 use Rattle.set_storage.specs.Storage.{scopeOf, trackerOf}
 
 -- for a scope: a table and the ranges

@@ -1,8 +1,5 @@
 -- Laws of `listFrom`: lists made position by position, as the mips of a texture and the slots of a set are.
-use Prim.Native.Nat.{ℕ, zero, suc, _+_, _≤_, _<_}
-use native.Mathlib.Omega.{arith}
-use mathlib.Core.Path.{_≡_, refl, ap, _∙_}
-use lib.ListN.{length, getD, set}
+use Rattle.model.specs.Prelude.{ℕ, zero, suc, _+_, _≤_, _<_, arith, _≡_, refl, ap, _∙_, length, getD, set}
 use Rattle.set_storage.specs.Storage.{listFrom}
 
 module _ {A : Type 0} (f g : ℕ → A) where

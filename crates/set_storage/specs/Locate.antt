@@ -1,13 +1,7 @@
 -- Where the ranges of a mip lie: what `locate` asks for and tells.
-use Prim.Native.Nat.{ℕ, _*_, _-_, _≤_, _<_}
-use native.Mathlib.Omega.{arith}
-use mathlib.Core.Path.{_≡_}
-use mathlib.Core.List.{List}
-use lib.ListN.{length, getD}
-use Rattle.set_storage.specs.declared.Located.{Located}
-use Rattle.set_storage.specs.Part.{baseOf, Within}
-use Rattle.set_storage.specs.Storage.{numbersOf, countAt, endHalf, layerLimitAt, mipLimitAt}
-use Rattle.set_storage.specs.Frames.{MipReady, within}
+use Rattle.model.specs.Prelude.{ℕ, _*_, _-_, _≤_, _<_, arith, _≡_, List, length, getD}
+use Rattle.set_storage.specs.{declared.Located.Located, Part.{baseOf, Within}}
+use Rattle.set_storage.specs.{Storage.{numbersOf, countAt, endHalf, layerLimitAt, mipLimitAt}, Frames.{MipReady, within}}
 
 pub record Locates (t : List ℕ) (h i m room : ℕ) : Type 0 where
   pub within : Within i m (getD t mipLimitAt 0) (getD t layerLimitAt 0) room

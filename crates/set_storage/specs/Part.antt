@@ -1,14 +1,10 @@
 -- A part of a list at a computed place.
-use Prim.Native.Nat.{ℕ, suc, _+_, _*_, _-_, _≤_, _<_, min}
-use mathlib.Core.Path.{_≡_, ap, sym, _∙_}
-use mathlib.Core.List.{List, _++_}
-use native.Mathlib.Nat.{suc-mul, mul-le-mul-right, le-mul-of-pos-right, min-le-left}
-use native.Mathlib.Omega.{arith}
-use mathlib.Core.Logic.{_⊎_, inl, inr}
-use lib.Arith.{digits-lt}
-use lib.ListN.{length, getD, take, drop, length-take, length-drop, length-append, List·getD-append}
-use lib.Seq.{length-take-le, getD-take, getD-drop, getD-append-add, take-at, drop-at, ext-getD}
+use Rattle.model.specs.Prelude.{ℕ, suc, _+_, _*_, _-_, _≤_, _<_, min, suc-mul, mul-le-mul-right, le-mul-of-pos-right, min-le-left, arith}
+use Rattle.model.specs.Prelude.{_≡_, ap, sym, _∙_, _⊎_, inl, inr, List, _++_, length, getD, take, drop, length-take, length-drop}
+use Rattle.model.specs.Prelude.{length-append, List·getD-append, length-take-le, getD-take, getD-drop, getD-append-add, take-at, drop-at}
+use Rattle.model.specs.Prelude.{ext-getD}
 use Rattle.model.specs.BoolLaws.{by-lt}
+use lib.Arith.{digits-lt}
 
 -- the start of the ranges of (i, m), with M mips a texture and W records a mip
 unfoldable pub baseOf : ℕ → ℕ → ℕ → ℕ → ℕ

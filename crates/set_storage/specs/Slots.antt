@@ -1,22 +1,16 @@
 -- From a change of one texture to the view of the whole set: a scope's, and either half of a tracker's.
-use Prim.Native.Nat.{ℕ, _+_, _≤_, _<_}
-use native.Mathlib.Omega.{arith}
-use mathlib.Core.Path.{_≡_, refl, sym, ap, subst, _∙_}
-use mathlib.Core.Logic.{_⊎_, inl, inr}
-use mathlib.Core.List.{List}
-use lib.ListN.{length, getD, set, length-set}
-use lib.Seq.{getD-set-same, getD-set-other}
-use borrow.Author.Tests.{eq-eqb, ne-eqb}
-use Rattle.model.specs.declared.Range.{Range}
-use Rattle.model.specs.declared.Extent.{Extent}
-use Rattle.model.specs.Sets.{Numbers, Slot, withSlots}
-use Rattle.model.specs.Calls.{owning}
-use Rattle.model.specs.Texture.{Held, single, many}
-use Rattle.set_storage.specs.Storage.{halfLength, extentOf, startHalf, endHalf, tableIndices, ownedAt, mipsAt, layersAt, stateAt, countAt, mipPart, mipOf, mipsIn, mipsOf, heldOf, endsOf, slotWith, setWith, listFrom, complexAt, tableLength, texturesAt}
-use Rattle.set_storage.specs.Lists.{list-ext, list-set}
-use Rattle.set_storage.specs.Stays.{Stays, only, stays-refl, stays-then, stays-set, stays-more, OffHead, OffScope, OffTracker, off-scope, head-off, owned-off, mips-off, layers-off, start-off, end-off, start-count-off, end-count-off, mip-stays, keeps-more, both-more, HalfFrame, ScopeFrame, BothFrame, TrackerFrame}
-use Rattle.set_storage.specs.Frames.{Measured, MipsBecome, half-of, half-word, half-below, half-above, frame-below, mips-top, mips-same}
-use Rattle.set_storage.specs.Storage.{exclusiveAt, headLength, layerLimitAt, mipLimitAt, uninitializedAt, unknownAt}
+use Rattle.model.specs.Prelude.{ℕ, _+_, _≤_, _<_, arith, _≡_, refl, sym, ap, subst, _∙_, _⊎_, inl, inr, List, length, getD, set, length-set}
+use Rattle.model.specs.Prelude.{getD-set-same, getD-set-other, eq-eqb, ne-eqb}
+use Rattle.model.specs.{declared.{Range.Range, Extent.Extent}, Sets.{Numbers, Slot, withSlots}, Calls.owning, Texture.{Held, single, many}}
+use Rattle.set_storage.specs.Storage.{halfLength, extentOf, startHalf, endHalf, tableIndices, ownedAt, mipsAt, layersAt, stateAt}
+use Rattle.set_storage.specs.Storage.{countAt, mipPart, mipOf, mipsIn, mipsOf, heldOf, endsOf, slotWith, setWith, listFrom, complexAt}
+use Rattle.set_storage.specs.Storage.{tableLength, texturesAt, exclusiveAt, headLength, layerLimitAt, mipLimitAt, uninitializedAt}
+use Rattle.set_storage.specs.{Storage.unknownAt, Lists.{list-ext, list-set}}
+use Rattle.set_storage.specs.Stays.{Stays, only, stays-refl, stays-then, stays-set, stays-more, OffHead, OffScope, OffTracker}
+use Rattle.set_storage.specs.Stays.{off-scope, head-off, owned-off, mips-off, layers-off, start-off, end-off, start-count-off}
+use Rattle.set_storage.specs.Stays.{end-count-off, mip-stays, keeps-more, both-more, HalfFrame, ScopeFrame, BothFrame, TrackerFrame}
+use Rattle.set_storage.specs.Frames.{Measured, MipsBecome, half-of, half-word, half-below, half-above, frame-below, mips-top}
+use Rattle.set_storage.specs.Frames.{mips-same}
 
 -- ---- How a frame reads in the view: nothing but the slot of texture i differs
 pub record SlotFrame {H : Type 0} (n i : ℕ) (held held′ : ℕ → H) (t t′ : List ℕ) : Type 0 where

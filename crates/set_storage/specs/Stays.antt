@@ -1,18 +1,10 @@
 -- What a change leaves alone: one frame for every list that is lent, the words of a table and the numbers of its ranges alike.
-use Prim.Native.Nat.{ℕ, suc, _+_, _*_, _≤_, _<_}
-use native.Mathlib.Omega.{arith}
-use native.Mathlib.Nat.{mul-le-mul-right}
-use mathlib.Core.Path.{_≡_, refl, sym, subst, _∙_}
-use mathlib.Core.Logic.{_⊎_, inl, inr}
-use mathlib.Core.Bool.{true}
-use mathlib.Core.List.{List}
-use lib.ListN.{length, getD, set, length-set}
-use lib.Seq.{getD-set-other}
-use Rattle.model.specs.Sets.{Numbers}
-use Rattle.model.specs.BoolLaws.{by-lt}
+use Rattle.model.specs.Prelude.{ℕ, suc, _+_, _*_, _≤_, _<_, mul-le-mul-right, arith, _≡_, refl, sym, subst, _∙_, _⊎_, inl, inr, true, List}
+use Rattle.model.specs.Prelude.{length, getD, set, length-set, getD-set-other}
+use Rattle.model.specs.{Sets.Numbers, BoolLaws.by-lt}
 use Rattle.set_storage.specs.Part.{baseOf, block-le, row-lt, part-alike}
-use Rattle.set_storage.specs.Storage.{ownedOf, startHalf, endHalf, ownedAt, mipsAt, layersAt, stateAt, countAt, rangesAt, tableIndices, mipPart, texturesAt}
-use Rattle.set_storage.specs.Storage.{headLength}
+use Rattle.set_storage.specs.Storage.{ownedOf, startHalf, endHalf, ownedAt, mipsAt, layersAt, stateAt, countAt, rangesAt}
+use Rattle.set_storage.specs.Storage.{tableIndices, mipPart, texturesAt, headLength}
 
 -- `off i x` says that position x is none of index i's. Every number stays that is none of a named index's; a table has words for 64.
 pub record Stays (off : ℕ → ℕ → Type 0) (named : ℕ → Type 0) (l l′ : List ℕ) : Type 0 where

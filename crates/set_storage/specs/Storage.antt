@@ -1,16 +1,7 @@
 -- The lent numbers as the model's sets: THE VIEW.
-use Prim.Native.Nat.{ℕ, zero, suc, _+_, _*_, min}
-use mathlib.Core.Bool.{Bool, not}
-use mathlib.Core.List.{List, [], _∷_}
-use lib.Dec.{eqb, leb}
-use lib.ListN.{getD}
-use Rattle.model.specs.declared.Range.{Range}
-use Rattle.model.specs.declared.UsageFlags.{UsageFlags}
-use Rattle.model.specs.declared.Extent.{Extent}
-use Rattle.model.specs.Base.{if_then_else_}
-use Rattle.model.specs.Representation.{Ends}
-use Rattle.model.specs.Sets.{Numbers, Slot, Set, Tracker}
-use Rattle.model.specs.Texture.{Held, single, many}
+use Rattle.model.specs.Prelude.{ℕ, zero, suc, _+_, _*_, min, Bool, not, List, [], _∷_, eqb, leb, getD}
+use Rattle.model.specs.{declared.{Range.Range, UsageFlags.UsageFlags, Extent.Extent}, Base.if_then_else_, Representation.Ends}
+use Rattle.model.specs.{Sets.{Numbers, Slot, Set, Tracker}, Texture.{Held, single, many}}
 use Rattle.range_states.specs.View.{decode}
 use Rattle.set_storage.specs.Part.{baseOf, partOf}
 

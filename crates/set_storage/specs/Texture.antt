@@ -1,22 +1,10 @@
 -- A texture of a set in one half of its storage: what every function over it may count on, and what a change elsewhere leaves of that.
-use Prim.Native.Nat.{ℕ, _≤_, _<_}
-use native.Mathlib.Omega.{arith}
-use native.Mathlib.Nat.{min-eq-left}
-use mathlib.Core.Path.{_≡_, refl, sym, subst, _∙_}
-use mathlib.Core.List.{List, []}
-use lib.ListN.{length, getD}
-use borrow.Author.Tests.{lt-leb}
-use Rattle.model.specs.declared.Extent.{Extent}
-use Rattle.model.specs.declared.Selector.{Selector}
-use Rattle.model.specs.Sets.{Numbers}
-use Rattle.model.specs.Representation.{mipStart, mipEnd, layerStart, layerEnd}
-use Rattle.model.specs.RangedStates.{Tiles}
+use Rattle.model.specs.Prelude.{ℕ, _≤_, _<_, min-eq-left, arith, _≡_, refl, sym, subst, _∙_, List, [], length, getD, lt-leb}
+use Rattle.model.specs.{declared.{Extent.Extent, Selector.Selector}, Sets.Numbers, Representation.{mipStart, mipEnd, layerStart, layerEnd}}
+use Rattle.model.specs.{RangedStates.Tiles, BoolLaws.by-lt}
 use Rattle.set_storage.specs.Storage.{numbersOf, flagsOf, startHalf, mipsIn, mipOf, countAt, mipsAt, layersAt, stateAt, complexAt}
-use Rattle.set_storage.specs.Stays.{HalfFrame}
-use Rattle.set_storage.specs.Frames.{Measured}
-use Rattle.set_storage.specs.Slots.{half-low}
-use Rattle.model.specs.BoolLaws.{by-lt}
 use Rattle.set_storage.specs.Storage.{exclusiveAt, layerLimitAt, mipLimitAt, texturesAt, uninitializedAt, unknownAt}
+use Rattle.set_storage.specs.{Stays.HalfFrame, Frames.Measured, Slots.half-low}
 
 -- texture i, owned or about to be: its words tell the extent sh, and there is room for its ranges
 pub record TextureReady (d : Numbers) (h : ℕ) (t r : List ℕ) (i : ℕ) (sh : Extent) : Type 0 where

@@ -1,20 +1,10 @@
 -- The loop of `ranges_agree`: a layer that both places have reached, and what is left from it on in each list.
-use Prim.Native.Nat.{ℕ, zero, suc, _+_, _-_, _≤_, _<_}
-use native.Mathlib.Omega.{arith}
-use mathlib.Core.Path.{_≡_, refl, sym, _∙_}
-use mathlib.Core.Bool.{Bool, true, false}
-use mathlib.Core.List.{List, [], _∷_, _++_}
-use lib.ListN.{getD, drop, replicate}
-use lib.Seq.{slice-empty}
-use borrow.Author.Tests.{le-leb, lt-leb}
-use Rattle.model.specs.declared.Range.{Range}
-use Rattle.model.specs.RangedStates.{layerStates, Tiles}
-use Rattle.model.specs.WellFormed.{all₂}
-use Rattle.model.specs.RangeLaws.{tiles-count}
-use Rattle.model.specs.BoolLaws.{by-lt}
+use Rattle.model.specs.Prelude.{ℕ, zero, suc, _+_, _-_, _≤_, _<_, arith, _≡_, refl, sym, _∙_, Bool, true, false, List, [], _∷_, _++_, getD}
+use Rattle.model.specs.Prelude.{drop, replicate, slice-empty, le-leb, lt-leb}
+use Rattle.model.specs.{declared.Range.Range, RangedStates.{layerStates, Tiles}, WellFormed.all₂, RangeLaws.tiles-count, BoolLaws.by-lt}
 use Rattle.range_states.specs.View.{view, decode, blank}
-use Rattle.range_states.proofs.Inserting.{next-is}
 use Rattle.set_wellformed.specs.Unknowns.{agrees, layersAgree, passed, SameLayers}
+use Rattle.range_states.proofs.Inserting.{next-is}
 
 -- ---- Two runs of one state each, side by side
 module _ {A : Type 0} (f : A → A → Bool) (a b : A) where

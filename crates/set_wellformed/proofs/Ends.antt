@@ -1,24 +1,12 @@
 -- What is known of a mip and of a texture that were tested, and the four cases of start and end.
-use Prim.Native.Nat.{ℕ, _+_, _*_, _-_, _≤_, _<_}
-use native.Mathlib.Omega.{arith}
-use mathlib.Core.Path.{_≡_, refl, sym, ap, _∙_}
-use mathlib.Core.Bool.{true, false, false≢true}
-use mathlib.Core.List.{List, map}
-use lib.Dec.{eqb}
-use lib.ListN.{length, getD, take, drop, replicate, length-drop}
-use lib.Seq.{length-take-le}
-use Rattle.model.specs.declared.Range.{Range}
-use Rattle.model.specs.declared.UsageFlags.{UsageFlags}
-use Rattle.model.specs.Base.{every}
-use Rattle.model.specs.RangedStates.{layerStates}
-use Rattle.model.specs.Subresources.{subresources}
-use Rattle.model.specs.WellFormed.{rangesFit, heldFits, all₂}
-use Rattle.model.specs.BoolLaws.{by-lt, and-both as both}
+use Rattle.model.specs.Prelude.{ℕ, _+_, _*_, _-_, _≤_, _<_, arith, _≡_, refl, sym, ap, _∙_, true, false, false≢true, List, map, eqb, length}
+use Rattle.model.specs.Prelude.{getD, take, drop, replicate, length-drop, length-take-le}
+use Rattle.model.specs.{declared.{Range.Range, UsageFlags.UsageFlags}, Base.every, RangedStates.layerStates, Subresources.subresources}
+use Rattle.model.specs.{WellFormed.{rangesFit, heldFits, all₂}, BoolLaws.{by-lt, and-both as both}}
 use Rattle.range_states.specs.View.{decode}
 use Rattle.set_storage.specs.Part.{baseOf}
-use Rattle.set_storage.specs.Storage.{numbersOf, extentOf, startHalf, endHalf, countAt, mipOf, mipsOf, heldOf, complexAt, layerLimitAt, layersAt, mipLimitAt, mipsAt, stateAt}
-use Rattle.set_storage.specs.Frames.{mips-long, room-of}
-use Rattle.set_storage.specs.Slots.{held-many, held-single}
+use Rattle.set_storage.specs.Storage.{numbersOf, extentOf, startHalf, endHalf, countAt, mipOf, mipsOf, heldOf, complexAt, layerLimitAt}
+use Rattle.set_storage.specs.{Storage.{layersAt, mipLimitAt, mipsAt, stateAt}, Frames.{mips-long, room-of}, Slots.{held-many, held-single}}
 use Rattle.set_wellformed.specs.Parts.{TextureStored, every-at}
 use Rattle.set_wellformed.specs.Unknowns.{agrees, isKnown, SameLayers, MipFits, MipsFit, EndsReady, HalvesFit, mipsAgree, endsAgree}
 use Rattle.set_wellformed.proofs.Mips.{mip-seen, mip-past, mip-ready, mips-told}

@@ -1,23 +1,12 @@
 -- What an index holds, and the set of all indices, as the code tests them.
-use Prim.Native.Nat.{ℕ, _+_, _/_, _≤_}
-use mathlib.Core.Path.{_≡_, refl, _∙_}
-use mathlib.Core.Bool.{Bool, true, false, _&&_}
-use mathlib.Core.List.{List}
-use lib.Dec.{leb}
-use lib.ListN.{length, getD}
-use borrow.Author.Tests.{eq-eqb}
-use Rattle.model.specs.declared.UsageFlags.{UsageFlags}
-use Rattle.model.specs.declared.Extent.{Extent}
-use Rattle.model.specs.Base.{every}
-use Rattle.model.specs.Flags.{flagsFit}
-use Rattle.model.specs.Sets.{Numbers, numbersFit, capacity}
-use Rattle.model.specs.WellFormed.{singleFits, rangesFit, heldFits, slotFits, endsFit, setFits, scopeFits, trackerFits, wellFormedScope, wellFormedTracker}
-use Rattle.set_storage.specs.Storage.{numbersOf, flagsOf, extentOf, startHalf, mipsOf, heldOf, endsOf, slotWith, setWith, scopeOf, trackerOf, listFrom, complexAt, layersAt, mipsAt, texturesAt}
-use Rattle.set_storage.specs.Lists.{list-long}
-use Rattle.set_storage.specs.Frames.{mips-long}
+use Rattle.model.specs.Prelude.{ℕ, _+_, _/_, _≤_, _≡_, refl, _∙_, Bool, true, false, _&&_, List, leb, length, getD, eq-eqb}
+use Rattle.model.specs.{declared.{UsageFlags.UsageFlags, Extent.Extent}, Base.every, Flags.flagsFit, Sets.{Numbers, numbersFit, capacity}}
+use Rattle.model.specs.WellFormed.{singleFits, rangesFit, heldFits, slotFits, endsFit, setFits, scopeFits, trackerFits, wellFormedScope}
+use Rattle.model.specs.WellFormed.{wellFormedTracker}
+use Rattle.set_storage.specs.Storage.{numbersOf, flagsOf, extentOf, startHalf, mipsOf, heldOf, endsOf, slotWith, setWith, scopeOf}
+use Rattle.set_storage.specs.{Storage.{trackerOf, listFrom, complexAt, layersAt, mipsAt, texturesAt}, Lists.list-long, Frames.mips-long}
 use Rattle.set_storage.specs.Slots.{held-many, held-single}
-use Rattle.set_wellformed.specs.Parts.{headFits, scopeSlotsFit}
-use Rattle.set_wellformed.specs.Unknowns.{trackerSlotsFit}
+use Rattle.set_wellformed.specs.{Parts.{headFits, scopeSlotsFit}, Unknowns.trackerSlotsFit}
 use Rattle.set_wellformed.proofs.Mips.{mips-are}
 
 -- Many, with as many mips as the extent tells

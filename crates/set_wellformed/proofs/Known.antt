@@ -1,27 +1,15 @@
 -- A list with no UNKNOWN range agrees with a state that is not UNKNOWN; and the loop of `ranges_known`.
-use Prim.Native.Nat.{ℕ, zero, suc, _+_, _*_, _-_, _≤_, _<_}
-use native.Mathlib.Omega.{arith}
-use mathlib.Core.Path.{_≡_, refl, sym, _∙_}
-use mathlib.Core.Bool.{Bool, true, false, _&&_, not, false≢true}
-use mathlib.Core.List.{List, [], _∷_, _++_, map}
-use lib.Dec.{ltb, eqb}
-use lib.Bits.{bitAnd, and-self}
-use lib.ListN.{length, getD, drop, replicate, replicate-append-replicate}
-use lib.Seq.{slice-empty}
-use borrow.Author.Tests.{eqb-true, eqb-false, ltb-true, eq-eqb, ne-eqb, not-true, not-false}
-use Rattle.model.specs.declared.Range.{Range}
-use Rattle.model.specs.declared.UsageFlags.{UsageFlags}
-use Rattle.model.specs.Base.{every}
-use Rattle.model.specs.Flags.{meets, incompatible}
-use Rattle.model.specs.RangedStates.{layerStates, Tiles}
-use Rattle.model.specs.WellFormed.{stateFits, singleFits, rangesFit, sameTest, all₂}
-use Rattle.model.specs.BoolLaws.{and-both as both}
-use Rattle.model.specs.RangeLaws.{tiles-le as tiles-below}
+use Rattle.model.specs.Prelude.{ℕ, zero, suc, _+_, _*_, _-_, _≤_, _<_, arith, _≡_, refl, sym, _∙_, Bool, true, false, _&&_, not, false≢true}
+use Rattle.model.specs.Prelude.{List, [], _∷_, _++_, map, ltb, eqb, bitAnd, and-self, length, getD, drop, replicate}
+use Rattle.model.specs.Prelude.{replicate-append-replicate, slice-empty, eqb-true, eqb-false, ltb-true, eq-eqb, ne-eqb, not-true, not-false}
+use Rattle.model.specs.{declared.{Range.Range, UsageFlags.UsageFlags}, Base.every, Flags.{meets, incompatible}}
+use Rattle.model.specs.{RangedStates.{layerStates, Tiles}, WellFormed.{stateFits, singleFits, rangesFit, sameTest, all₂}}
+use Rattle.model.specs.{BoolLaws.{and-both as both}, RangeLaws.{tiles-le as tiles-below}}
 use Rattle.range_states.specs.View.{view, decode, blank}
-use Rattle.range_states.proofs.Inserting.{next-is}
 use Rattle.set_storage.specs.Storage.{listFrom}
 use Rattle.set_wellformed.specs.Unknowns.{agrees, layersAgree, isKnown, itself}
 use Rattle.set_wellformed.proofs.Agreeing.{skip-left, stop-here}
+use Rattle.range_states.proofs.Inserting.{next-is}
 
 -- ---- `ranges_known`: what is left to test decides
 pub record Knowing (u : ℕ) (l : List ℕ) (len k : ℕ) : Type 0 where

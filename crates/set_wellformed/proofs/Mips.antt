@@ -1,19 +1,9 @@
 -- A mip as the code reads it, and the mips of a texture within its set's.
-use Prim.Native.Nat.{ℕ, _+_, _*_, _-_, _≤_, _<_}
-use native.Mathlib.Nat.{min-eq-left}
-use native.Mathlib.Omega.{arith}
-use mathlib.Core.Path.{_≡_, sym, _∙_}
-use mathlib.Core.Bool.{false}
-use mathlib.Core.List.{List}
-use lib.ListN.{getD, take, drop}
-use borrow.Author.Tests.{ne-eqb, lt-leb}
-use Rattle.model.specs.declared.UsageFlags.{UsageFlags}
-use Rattle.model.specs.Sets.{Numbers}
-use Rattle.model.specs.WellFormed.{rangesFit}
+use Rattle.model.specs.Prelude.{ℕ, _+_, _*_, _-_, _≤_, _<_, min-eq-left, arith, _≡_, sym, _∙_, false, List, getD, take, drop, ne-eqb}
+use Rattle.model.specs.Prelude.{lt-leb}
+use Rattle.model.specs.{declared.UsageFlags.UsageFlags, Sets.Numbers, WellFormed.rangesFit}
 use Rattle.range_states.specs.View.{decode}
-use Rattle.set_storage.specs.Part.{baseOf, partOf}
-use Rattle.set_storage.specs.Storage.{countAt, mipOf, mipsIn, mipsAt}
-use Rattle.set_storage.specs.Frames.{MipReady, mips-top, mip-is}
+use Rattle.set_storage.specs.{Part.{baseOf, partOf}, Storage.{countAt, mipOf, mipsIn, mipsAt}, Frames.{MipReady, mips-top, mip-is}}
 use Rattle.set_wellformed.specs.Parts.{TextureStored}
 
 -- the part that the code cuts out, at b, with room for w ranges

@@ -1,18 +1,8 @@
 -- What the tests of the head tell: numbers within their limits, room for every range, and so storage that can be indexed.
-use Prim.Native.Nat.{ℕ, zero, suc, _*_, _/_, _≤_, _<_}
-use native.Mathlib.Omega.{arith}
-use native.Mathlib.Nat.{mul-le-mul-right}
-use mathlib.Core.Path.{_≡_, refl, sym}
-use mathlib.Core.Bool.{Bool, true, false, _&&_, not, false≢true}
-use mathlib.Core.List.{List}
-use lib.Dec.{leb, ltb, eqb}
-use lib.ListN.{length}
-use borrow.Author.Tests.{ltb-false, eqb-false}
-use Rattle.model.specs.BoolLaws.{and-both as both, nor as neither}
-use Rattle.model.specs.Flags.{flagsFit}
-use Rattle.model.specs.Sets.{outside, numbersFit, capacity}
-use Rattle.set_storage.specs.Storage.{numbersOf, flagsOf, tableLength, startHalf}
-use Rattle.set_storage.specs.Frames.{Measured, measured-of as measured}
+use Rattle.model.specs.Prelude.{ℕ, zero, suc, _*_, _/_, _≤_, _<_, mul-le-mul-right, arith, _≡_, refl, sym, Bool, true, false, _&&_, not}
+use Rattle.model.specs.Prelude.{false≢true, List, leb, ltb, eqb, length, ltb-false, eqb-false}
+use Rattle.model.specs.{BoolLaws.{and-both as both, nor as neither}, Flags.flagsFit, Sets.{outside, numbersFit, capacity}}
+use Rattle.set_storage.specs.{Storage.{numbersOf, flagsOf, tableLength, startHalf}, Frames.{Measured, measured-of as measured}}
 use Rattle.set_wellformed.specs.Parts.{numbers, extentFits, headFits}
 
 not-no : (a : Bool) → a ≡ false → not a ≡ true

@@ -1,23 +1,15 @@
 -- What the words of an index tell of the whole test of it.
-use Prim.Native.Nat.{ℕ, _+_}
-use native.Mathlib.Omega.{arith}
-use mathlib.Core.Path.{_≡_, refl, sym, _∙_}
-use mathlib.Core.Bool.{Bool, true, false, _&&_, _||_, not, false≢true}
-use mathlib.Core.List.{List}
-use lib.Dec.{eqb}
-use lib.ListN.{getD}
-use borrow.Author.Tests.{eqb-true, eqb-false, not-true, not-false}
-use Rattle.model.specs.BoolLaws.{and-both as both, neither}
-use Rattle.model.specs.Base.{every}
-use Rattle.model.specs.WellFormed.{singleFits, rangesFit, heldFits, slotFits, endsFit}
-use Rattle.set_storage.specs.Storage.{numbersOf, flagsOf, extentOf, startHalf, endHalf, mipsOf, heldOf, endsOf, listFrom, complexAt, layerLimitAt, layersAt, mipLimitAt, mipsAt, ownedAt, texturesAt, unknownAt, scopeSlot, trackerSlot}
+use Rattle.model.specs.Prelude.{ℕ, _+_, arith, _≡_, refl, sym, _∙_, Bool, true, false, _&&_, _||_, not, false≢true, List, eqb, getD}
+use Rattle.model.specs.Prelude.{eqb-true, eqb-false, not-true, not-false}
+use Rattle.model.specs.{BoolLaws.{and-both as both, neither}, Base.every, WellFormed.{singleFits, rangesFit, heldFits, slotFits, endsFit}}
+use Rattle.set_storage.specs.Storage.{numbersOf, flagsOf, extentOf, startHalf, endHalf, mipsOf, heldOf, endsOf, listFrom, complexAt}
+use Rattle.set_storage.specs.Storage.{layerLimitAt, layersAt, mipLimitAt, mipsAt, ownedAt, texturesAt, unknownAt, scopeSlot, trackerSlot}
 use Rattle.set_storage.specs.Frames.{Measured}
-use Rattle.set_wellformed.specs.Parts.{TextureStored, extentFits, every-none, every-next, every-at, every-also, scopeSlotFits, scopeSlotsFit}
+use Rattle.set_wellformed.specs.Parts.{TextureStored, extentFits, every-none, every-next, every-at, every-also, scopeSlotFits}
+use Rattle.set_wellformed.specs.Parts.{scopeSlotsFit}
 use Rattle.set_wellformed.specs.Unknowns.{itself, EndsReady, HalvesFit, endsAgree, trackerSlotFits, trackerSlotsFit}
 use Rattle.set_wellformed.specs.Words.{WordsAre, scopeWordPlain, scopeWordFits, trackerWordPlain, trackerWordFits}
-use Rattle.set_wellformed.proofs.Numbers.{Inside, extent-in}
-use Rattle.set_wellformed.proofs.Holding.{fits-many, fits-single}
-use Rattle.set_wellformed.proofs.Ends.{ends-single}
+use Rattle.set_wellformed.proofs.{Numbers.{Inside, extent-in}, Holding.{fits-many, fits-single}, Ends.ends-single}
 
 by-case : (P : Type 0) (b : Bool) → (b ≡ true → P) → (b ≡ false → P) → P
 by-case P true y n = y refl

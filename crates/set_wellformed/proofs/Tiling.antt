@@ -1,16 +1,7 @@
 -- The loop of `ranges_fit`: what is left to test decides.
-use Prim.Native.Nat.{ℕ, _+_, _*_, _≤_, _<_}
-use native.Mathlib.Omega.{arith}
-use mathlib.Core.Path.{_≡_, refl}
-use mathlib.Core.Bool.{true, false}
-use mathlib.Core.List.{List, _∷_}
-use lib.Dec.{eqb}
-use lib.ListN.{length, getD, drop}
-use lib.Seq.{slice-empty}
-use borrow.Author.Tests.{eq-eqb, ne-eqb, lt-ltb, le-ltb}
-use Rattle.model.specs.declared.Range.{Range}
-use Rattle.model.specs.declared.UsageFlags.{UsageFlags}
-use Rattle.model.specs.WellFormed.{stateFits, rangesFit}
+use Rattle.model.specs.Prelude.{ℕ, _+_, _*_, _≤_, _<_, arith, _≡_, refl, true, false, List, _∷_, eqb, length, getD, drop, slice-empty}
+use Rattle.model.specs.Prelude.{eq-eqb, ne-eqb, lt-ltb, le-ltb}
+use Rattle.model.specs.{declared.{Range.Range, UsageFlags.UsageFlags}, WellFormed.{stateFits, rangesFit}}
 use Rattle.range_states.specs.View.{view, decode, blank}
 use Rattle.range_states.proofs.Inserting.{next-is}
 

@@ -1,20 +1,9 @@
 -- Tests of every position of a list, as loops make them, and what the code needs of storage to make them.
-use Prim.Native.Nat.{ℕ, zero, suc, _+_, _/_, _≤_, _<_}
-use native.Mathlib.Omega.{arith}
-use native.Mathlib.Decide.{le-ind}
-use native.Mathlib.Numerals.{add-one}
-use mathlib.Core.Path.{_≡_, refl, sym, _∙_}
-use mathlib.Core.Bool.{Bool, true, false, _&&_, _||_, not, and-true, and-assoc}
-use mathlib.Core.List.{List}
-use lib.Dec.{leb}
-use borrow.Author.Tests.{not-true, not-false}
-use Rattle.model.specs.BoolLaws.{and-both as both}
-use Rattle.model.specs.Base.{every}
-use Rattle.model.specs.Flags.{flagsFit}
-use Rattle.model.specs.Sets.{Numbers, outside, numbersFit, capacity}
+use Rattle.model.specs.Prelude.{ℕ, zero, suc, _+_, _/_, _≤_, _<_, add-one, le-ind, arith, _≡_, refl, sym, _∙_, Bool, true, false, _&&_}
+use Rattle.model.specs.Prelude.{_||_, not, and-true, and-assoc, List, leb, not-true, not-false}
+use Rattle.model.specs.{BoolLaws.{and-both as both}, Base.every, Flags.flagsFit, Sets.{Numbers, outside, numbersFit, capacity}}
 use Rattle.model.specs.WellFormed.{heldFits, slotFits}
-use Rattle.set_storage.specs.Storage.{scopeSlot, numbersOf, flagsOf, listFrom}
-use Rattle.set_storage.specs.Frames.{Measured}
+use Rattle.set_storage.specs.{Storage.{scopeSlot, numbersOf, flagsOf, listFrom}, Frames.Measured}
 
 pub record TextureStored (d : Numbers) (h : ℕ) (t r : List ℕ) (i : ℕ) : Type 0 where
   pub measured : Measured d h t r

@@ -1,19 +1,10 @@
 -- Where start and end of a tracker's texture are exactly UNKNOWN, as the code tests it, and what it may take as tested before.
-use Prim.Native.Nat.{ℕ, _*_, _≤_, _<_}
-use mathlib.Core.Path.{_≡_}
-use mathlib.Core.Bool.{Bool, true, not}
-use mathlib.Core.List.{List}
-use lib.Dec.{leb, eqb}
-use lib.ListN.{length, getD}
-use Rattle.model.specs.declared.Range.{Range}
-use Rattle.model.specs.declared.UsageFlags.{UsageFlags}
-use Rattle.model.specs.Base.{if_then_else_, every}
-use Rattle.model.specs.RangedStates.{layerStates, Tiles}
-use Rattle.model.specs.Subresources.{subresources}
-use Rattle.model.specs.WellFormed.{rangesFit, heldFits, sameTest, all₂, sameUnknown, endsFit, slotFits}
+use Rattle.model.specs.Prelude.{ℕ, _*_, _≤_, _<_, _≡_, Bool, true, not, List, leb, eqb, length, getD}
+use Rattle.model.specs.{declared.{Range.Range, UsageFlags.UsageFlags}, Base.{if_then_else_, every}, RangedStates.{layerStates, Tiles}}
+use Rattle.model.specs.{Subresources.subresources, WellFormed.{rangesFit, heldFits, sameTest, all₂, sameUnknown, endsFit, slotFits}}
 use Rattle.range_states.specs.View.{decode}
-use Rattle.set_storage.specs.Storage.{trackerSlot, numbersOf, flagsOf, extentOf, startHalf, endHalf, mipOf, mipsOf, heldOf, listFrom, layersAt, mipLimitAt, mipsAt}
-use Rattle.set_storage.specs.Frames.{MipReady}
+use Rattle.set_storage.specs.Storage.{trackerSlot, numbersOf, flagsOf, extentOf, startHalf, endHalf, mipOf, mipsOf, heldOf, listFrom}
+use Rattle.set_storage.specs.{Storage.{layersAt, mipLimitAt, mipsAt}, Frames.MipReady}
 use Rattle.set_wellformed.specs.Parts.{TextureStored}
 
 -- two states are both exactly UNKNOWN, or neither is

@@ -1,12 +1,6 @@
 -- THE CONTRACTS of the test of a whole set: what it returns, and that its table is as long as a table is; and what follows where a call branches on it.
-use Prim.Native.Nat.{ℕ}
-use mathlib.Core.Bool.{Bool, true, false, not, _&&_}
-use mathlib.Core.List.{List}
-use mathlib.Core.Path.{_≡_, sym, _∙_}
-use borrow.Author.Tests.{not-true, not-false}
-use lib.ListN.{length}
-use Rattle.set_storage.specs.Lent.{scopeTest, trackerTest}
-use Rattle.set_storage.specs.Storage.{tableLength}
+use Rattle.model.specs.Prelude.{ℕ, _≡_, sym, _∙_, Bool, true, false, not, _&&_, List, length, not-true, not-false}
+use Rattle.set_storage.specs.{Lent.{scopeTest, trackerTest}, Storage.tableLength}
 
 -- of a scope
 pub record TestsScope (t r : List ℕ) (x : Bool) : Type 0 where

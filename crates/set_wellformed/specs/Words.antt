@@ -1,17 +1,8 @@
 -- What the table alone tells of an index, as the pass over the words tests it.
-use Prim.Native.Nat.{ℕ, _+_}
-use mathlib.Core.Path.{_≡_}
-use mathlib.Core.Bool.{Bool, _&&_, _||_, not}
-use mathlib.Core.List.{List}
-use lib.Dec.{eqb}
-use lib.ListN.{getD}
-use Rattle.model.specs.declared.UsageFlags.{UsageFlags}
-use Rattle.model.specs.Base.{every}
-use Rattle.model.specs.WellFormed.{singleFits}
+use Rattle.model.specs.Prelude.{ℕ, _+_, _≡_, Bool, _&&_, _||_, not, List, eqb, getD}
+use Rattle.model.specs.{declared.UsageFlags.UsageFlags, Base.every, WellFormed.singleFits}
 use Rattle.set_storage.specs.Storage.{flagsOf, startHalf, endHalf, listFrom, layerLimitAt, layersAt, mipLimitAt, mipsAt, ownedAt}
-use Rattle.set_wellformed.specs.declared.words.Words.{Words}
-use Rattle.set_wellformed.specs.Parts.{extentFits}
-use Rattle.set_wellformed.specs.Unknowns.{itself}
+use Rattle.set_wellformed.specs.{declared.words.Words.Words, Parts.extentFits, Unknowns.itself}
 
 -- ---- a scope's index: not owned, or Single; not owned, or an extent within the set's and Many or in a state that fits
 abbrev pub plainWords : UsageFlags → ℕ → ℕ → Bool

@@ -1,26 +1,13 @@
 -- The model's `barrier` of a stored texture, by what its word tells: Many, or one state.
-use Prim.Native.Nat.{ℕ, _+_, _-_}
-use native.Mathlib.Omega.{arith}
-use mathlib.Core.Path.{_≡_, refl}
-use mathlib.Core.Bool.{Bool, true, false}
-use mathlib.Core.List.{List, [], _∷_}
-use lib.ListN.{getD}
-use Rattle.model.specs.declared.Range.{Range}
-use Rattle.model.specs.declared.Selector.{Selector}
-use Rattle.model.specs.declared.Extent.{Extent}
-use Rattle.model.specs.declared.UsageFlags.{UsageFlags}
-use Rattle.model.specs.Base.{if_then_else_, eachAt}
-use Rattle.model.specs.Representation.{full, mipStart, mipEnd}
-use Rattle.model.specs.StateRules.{moveOf}
+use Rattle.model.specs.Prelude.{ℕ, _+_, _-_, arith, _≡_, refl, Bool, true, false, List, [], _∷_, getD}
+use Rattle.model.specs.{declared.{Range.Range, Selector.Selector, Extent.Extent, UsageFlags.UsageFlags}, Base.{if_then_else_, eachAt}}
+use Rattle.model.specs.{Representation.{full, mipStart, mipEnd}, StateRules.moveOf}
 use Rattle.model.specs.Texture.{Given, givenSingle, givenMany, fromHeld, single, many, entry, barrier}
-use Rattle.set_storage.specs.Storage.{numbersOf, mipOf, listFrom, heldOf, complexAt}
-use Rattle.set_storage.specs.Slots.{held-many, held-single}
-use Rattle.texture_barrier.specs.Steps.{stepEntries}
-use Rattle.texture_barrier.specs.declared.mip.Step.the-variants.{From}
-use Rattle.texture_barrier.specs.Textures.{piece, stepOf, single-to-state, many-to-state, single-to-piece, many-to-piece}
-use Rattle.texture_barrier.specs.Textures.{single-to-many, many-to-many}
+use Rattle.set_storage.specs.{Storage.{numbersOf, mipOf, listFrom, heldOf, complexAt}, Slots.{held-many, held-single}}
 use Rattle.set_storage.specs.Texture.{TextureHeld, SelectorWithin, texture-mips}
-use Rattle.texture_barrier.specs.Ready.{mipsEntries, pairEntries}
+use Rattle.texture_barrier.specs.{declared.mip.Step.the-variants.From, Steps.stepEntries}
+use Rattle.texture_barrier.specs.Textures.{piece, stepOf, single-to-state, many-to-state, single-to-piece, many-to-piece}
+use Rattle.texture_barrier.specs.{Textures.{single-to-many, many-to-many}, Ready.{mipsEntries, pairEntries}}
 
 -- its word w against COMPLEX, with the flags as the code read them
 module _ {f g : UsageFlags} {w : ℕ} (e : f ≡ g) where

@@ -1,17 +1,8 @@
 -- One transition in the log: not made, made and counted, made and written.
-use Prim.Native.Nat.{ℕ, _+_, _*_, _≤_}
-use native.Mathlib.Omega.{arith}
-use mathlib.Core.Path.{_≡_, refl}
-use mathlib.Core.Bool.{Bool, true, false}
-use mathlib.Core.List.{List}
-use lib.ListN.{length}
-use Rattle.model.specs.declared.PendingTransition.{PendingTransition}
-use Rattle.model.specs.declared.Selector.{Selector}
-use Rattle.model.specs.Refusals.{trackerIndex}
-use Rattle.model.specs.StateRules.{moveOf}
+use Rattle.model.specs.Prelude.{ℕ, _+_, _*_, _≤_, arith, _≡_, refl, Bool, true, false, List, length}
+use Rattle.model.specs.{declared.{PendingTransition.PendingTransition, Selector.Selector}, Refusals.trackerIndex, StateRules.moveOf}
 use Rattle.model.specs.Texture.{entry}
-use Rattle.texture_barrier.specs.Entries.{flatten, PutEntry}
-use Rattle.texture_barrier.specs.Adds.{entriesAt, RoomFor, Adds, adds-none}
+use Rattle.texture_barrier.specs.{Entries.{flatten, PutEntry}, Adds.{entriesAt, RoomFor, Adds, adds-none}}
 use Rattle.texture_barrier.specs.Steps.{isMade, entry-yes, entry-no}
 
 module _ (q : Selector) (unknown mask old new : ℕ) (i : ℕ) (write : Bool) (l : List ℕ) (n : ℕ) where

@@ -1,20 +1,10 @@
 -- What a loop has left of texture i: the entries of a run's ranges from the one at k on, and those of its mips from mip m on.
-use Prim.Native.Nat.{ℕ, suc, _+_, _*_, _-_, _≤_, _<_}
-use native.Mathlib.Omega.{arith}
-use native.Mathlib.Numerals.{add-one}
-use mathlib.Core.Path.{_≡_}
-use mathlib.Core.List.{List}
-use lib.ListN.{length, getD, drop}
-use lib.Seq.{slice-empty}
-use Rattle.model.specs.declared.PendingTransition.{PendingTransition}
-use Rattle.model.specs.declared.Range.{Range}
-use Rattle.model.specs.Base.{each, eachAt}
-use Rattle.model.specs.Texture.{Entry}
+use Rattle.model.specs.Prelude.{ℕ, suc, _+_, _*_, _-_, _≤_, _<_, add-one, arith, _≡_, List, length, getD, drop, slice-empty}
+use Rattle.model.specs.{declared.{PendingTransition.PendingTransition, Range.Range}, Base.{each, eachAt}, Texture.Entry}
 use Rattle.range_states.specs.View.{view, blank, decode}
-use Rattle.range_states.proofs.Inserting.{next-is}
 use Rattle.set_storage.specs.Storage.{listFrom}
-use Rattle.texture_barrier.specs.Adds.{entriesAt, entriesAt-append, NextLeft, NoneLeft}
-use Rattle.texture_barrier.specs.Mips.{mips-next}
+use Rattle.texture_barrier.specs.{Adds.{entriesAt, entriesAt-append, NextLeft, NoneLeft}, Mips.mips-next}
+use Rattle.range_states.proofs.Inserting.{next-is}
 
 -- g tells the entries of a range
 module _ (i : ℕ) (g : Range → List Entry) (run : List ℕ) (len : ℕ) where

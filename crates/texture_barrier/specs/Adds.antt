@@ -1,16 +1,8 @@
 -- THE FORM OF EVERY CONTRACT: what a function that counts and writes transitions does to the log, and how such steps follow one another.
-use Prim.Native.Nat.{ℕ, _+_, _*_, _≤_, _<_}
-use native.Mathlib.Omega.{arith}
-use mathlib.Core.Path.{_≡_, refl, sym, ap, subst, _∙_}
-use mathlib.Core.Bool.{Bool, true, false}
-use mathlib.Core.List.{List, [], _∷_, _++_, append-assoc, append-nil, map-append}
-use lib.ListN.{length, take, drop, length-append, take-append-drop}
-use Rattle.model.specs.declared.PendingTransition.{PendingTransition}
-use Rattle.model.specs.Base.{if_then_else_}
-use Rattle.model.specs.Log.{pendingOf}
-use Rattle.model.specs.Texture.{Entry}
-use Rattle.texture_barrier.specs.Over.{over, over-then}
-use Rattle.texture_barrier.specs.Entries.{flatten, flatten-long, Added, added-is}
+use Rattle.model.specs.Prelude.{ℕ, _+_, _*_, _≤_, _<_, arith, _≡_, refl, sym, ap, subst, _∙_, Bool, true, false, List, [], _∷_, _++_}
+use Rattle.model.specs.Prelude.{append-assoc, append-nil, map-append, length, take, drop, length-append, take-append-drop}
+use Rattle.model.specs.{declared.PendingTransition.PendingTransition, Base.if_then_else_, Log.pendingOf, Texture.Entry}
+use Rattle.texture_barrier.specs.{Over.{over, over-then}, Entries.{flatten, flatten-long, Added, added-is}}
 
 -- the log has room for new entries after its first n, if they are to be written
 abbrev pub RoomFor : Bool → List ℕ → ℕ → List PendingTransition → Type 0

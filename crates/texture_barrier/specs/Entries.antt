@@ -1,13 +1,8 @@
 -- A borrowed log as a list of entries: THE VIEW of the log, and what writing entries does to it.
-use Prim.Native.Nat.{ℕ, zero, suc, _+_, _*_, _-_, _/_, _≤_, _<_}
-use native.Mathlib.Omega.{arith}
-use native.Mathlib.Numerals.{add-one}
-use mathlib.Core.Path.{_≡_, refl, sym, ap, _∙_}
-use mathlib.Core.List.{List, [], _∷_, _++_, append-assoc}
-use lib.ListN.{length, getD, take, drop, set, length-drop, take-append-drop, List·getD-append}
-use lib.Seq.{take-add, drop-at, drop-drop, getD-drop, length-take-le, set-split, sets, sets-eq}
-use Rattle.model.specs.declared.PendingTransition.{PendingTransition}
-use Rattle.model.specs.Representation.{select, mipStart, mipEnd, layerStart, layerEnd}
+use Rattle.model.specs.Prelude.{ℕ, zero, suc, _+_, _*_, _-_, _/_, _≤_, _<_, add-one, arith, _≡_, refl, sym, ap, _∙_, List, [], _∷_, _++_}
+use Rattle.model.specs.Prelude.{append-assoc, length, getD, take, drop, set, length-drop, take-append-drop, List·getD-append, take-add}
+use Rattle.model.specs.Prelude.{drop-at, drop-drop, getD-drop, length-take-le, set-split, sets, sets-eq}
+use Rattle.model.specs.{declared.PendingTransition.PendingTransition, Representation.{select, mipStart, mipEnd, layerStart, layerEnd}}
 use Rattle.model.specs.Refusals.{trackerIndex}
 use Rattle.texture_barrier.specs.Over.{over, over-long, over-past}
 

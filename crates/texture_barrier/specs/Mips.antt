@@ -1,8 +1,5 @@
 -- Lists made mip by mip: laws of the model's `each` and `eachAt` over `listFrom`.
-use Prim.Native.Nat.{ℕ, zero, suc, _+_, _-_, _≤_, _<_}
-use native.Mathlib.Omega.{arith}
-use mathlib.Core.Path.{_≡_, refl, ap, _∙_}
-use mathlib.Core.List.{List, [], _++_, append-nil}
+use Rattle.model.specs.Prelude.{ℕ, zero, suc, _+_, _-_, _≤_, _<_, arith, _≡_, refl, ap, _∙_, List, [], _++_, append-nil}
 use Rattle.model.specs.Base.{eachAt}
 use Rattle.set_storage.specs.Storage.{listFrom}
 

@@ -1,10 +1,6 @@
 -- A list written over another from a place on: what the log's numbers and its entries both become.
-use Prim.Native.Nat.{ℕ, _+_, _≤_}
-use native.Mathlib.Omega.{arith}
-use mathlib.Core.Path.{_≡_, sym, ap, _∙_}
-use mathlib.Core.List.{List, _++_, append-assoc}
-use lib.ListN.{length, take, drop, length-append, length-drop}
-use lib.Seq.{take-at, drop-at, drop-drop, length-take-le}
+use Rattle.model.specs.Prelude.{ℕ, _+_, _≤_, arith, _≡_, sym, ap, _∙_, List, _++_, append-assoc, length, take, drop, length-append}
+use Rattle.model.specs.Prelude.{length-drop, take-at, drop-at, drop-drop, length-take-le}
 
 abbrev pub over : {A : Type 0} → List A → ℕ → List A → List A
 over l n x = take n l ++ (x ++ drop (n + length x) l)

@@ -1,20 +1,9 @@
 -- What the functions over one texture may count on, and where the ranges of a mip are found.
-use Prim.Native.Nat.{ℕ, _+_, _-_, _≤_, _<_}
-use native.Mathlib.Omega.{arith}
-use mathlib.Core.Path.{_≡_, sym}
-use mathlib.Core.List.{List}
-use lib.ListN.{length, getD, take, drop, length-drop}
-use lib.Seq.{length-take-le}
-use Rattle.model.specs.declared.Extent.{Extent}
-use Rattle.model.specs.declared.Range.{Range}
-use Rattle.model.specs.Base.{eachAt}
-use Rattle.model.specs.Texture.{Entry}
+use Rattle.model.specs.Prelude.{ℕ, _+_, _-_, _≤_, _<_, arith, _≡_, sym, List, length, getD, take, drop, length-drop, length-take-le}
+use Rattle.model.specs.{declared.{Extent.Extent, Range.Range}, Base.eachAt, Texture.Entry}
 use Rattle.range_states.specs.View.{decode}
-use Rattle.set_storage.specs.declared.Located.{Located}
-use Rattle.set_storage.specs.Part.{partOf}
-use Rattle.set_storage.specs.Storage.{numbersOf, mipsIn, countAt, mipOf, listFrom, complexAt}
-use Rattle.set_storage.specs.Frames.{Measured, MipReady, mip-is, mips-top}
-use Rattle.set_storage.specs.Locate.{LocatedAt}
+use Rattle.set_storage.specs.{declared.Located.Located, Part.partOf, Storage.{numbersOf, mipsIn, countAt, mipOf, listFrom, complexAt}}
+use Rattle.set_storage.specs.{Frames.{Measured, MipReady, mip-is, mips-top}, Locate.LocatedAt}
 use Rattle.set_storage.specs.Texture.{TextureHeld, tiles-few, texture-mips}
 use Rattle.texture_barrier.specs.Steps.{toRanges, runTop, RunReady, PairReady}
 

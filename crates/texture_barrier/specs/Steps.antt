@@ -1,21 +1,10 @@
 -- The entries that one step adds, in the model's words.
-use Prim.Native.Nat.{ℕ, suc, _+_, _*_, _≤_, _<_}
-use mathlib.Core.Path.{_≡_, refl, sym, ap, _∙_}
-use mathlib.Core.Bool.{Bool, true, false, _||_, not}
-use mathlib.Core.Option.{Option, none, some}
-use mathlib.Core.List.{List, [], _∷_, _++_}
-use lib.Dec.{eqb}
-use lib.ListN.{length}
-use Rattle.model.specs.declared.Range.{Range}
-use Rattle.model.specs.declared.Selector.{Selector}
-use Rattle.model.specs.Base.{if_then_else_, each}
-use Rattle.model.specs.Representation.{select}
-use Rattle.model.specs.RangedStates.{iterFilter}
-use Rattle.model.specs.StateRules.{Move, moveOf, skipBarrier}
-use Rattle.model.specs.Texture.{Entry, entry, mipEntries}
+use Rattle.model.specs.Prelude.{ℕ, suc, _+_, _*_, _≤_, _<_, _≡_, refl, sym, ap, _∙_, Bool, true, false, _||_, not, Option, none, some, List}
+use Rattle.model.specs.Prelude.{[], _∷_, _++_, eqb, length}
+use Rattle.model.specs.{declared.{Range.Range, Selector.Selector}, Base.{if_then_else_, each}, Representation.select}
+use Rattle.model.specs.{RangedStates.iterFilter, StateRules.{Move, moveOf, skipBarrier}, Texture.{Entry, entry, mipEntries}}
 use Rattle.range_states.specs.Filtering.{overlaps, clip}
-use Rattle.texture_barrier.specs.declared.mip.Change.{Change}
-use Rattle.texture_barrier.specs.declared.mip.Step.{Step}
+use Rattle.texture_barrier.specs.{declared.mip.Change.Change, declared.mip.Step.Step}
 use Rattle.texture_barrier.specs.declared.mip.Step.the-variants.{To, Within, From}
 
 -- ---- One transition

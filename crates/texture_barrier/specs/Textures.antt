@@ -1,30 +1,15 @@
 -- The model's `barrier` of one texture, by cases, as the code adds its entries mip by mip.
-use Prim.Native.Nat.{ℕ, suc, _-_, _≤_, _<_}
-use native.Mathlib.Omega.{arith}
-use mathlib.Core.Path.{_≡_, refl, _∙_}
-use mathlib.Core.Bool.{Bool, true, false, _&&_}
-use mathlib.Core.List.{List, [], _∷_, map, append-nil}
-use lib.Dec.{leb}
-use borrow.Author.Tests.{le-leb, lt-leb, lt-ltb, le-ltb}
-use Rattle.model.specs.declared.PendingTransition.{PendingTransition}
-use Rattle.model.specs.declared.Range.{Range}
-use Rattle.model.specs.declared.Selector.{Selector}
-use Rattle.model.specs.declared.Extent.{Extent}
-use Rattle.model.specs.declared.UsageFlags.{UsageFlags}
-use Rattle.model.specs.Base.{if_then_else_, each, eachAt}
-use Rattle.model.specs.Refusals.{trackerIndex}
-use Rattle.model.specs.RangedStates.{range}
-use Rattle.model.specs.Representation.{select, full, mipStart, mipEnd, layerStart, layerEnd, inMips}
-use Rattle.model.specs.StateRules.{moveOf}
+use Rattle.model.specs.Prelude.{ℕ, suc, _-_, _≤_, _<_, arith, _≡_, refl, _∙_, Bool, true, false, _&&_, List, [], _∷_, map, append-nil, leb}
+use Rattle.model.specs.Prelude.{le-leb, lt-leb, lt-ltb, le-ltb}
+use Rattle.model.specs.declared.{PendingTransition.PendingTransition, Range.Range, Selector.Selector, Extent.Extent, UsageFlags.UsageFlags}
+use Rattle.model.specs.{Base.{if_then_else_, each, eachAt}, Refusals.trackerIndex, RangedStates.range}
+use Rattle.model.specs.{Representation.{select, full, mipStart, mipEnd, layerStart, layerEnd, inMips}, StateRules.moveOf}
 use Rattle.model.specs.Texture.{single, many, Piece, Given, givenSingle, givenMany, piecesOf, Entry, entry, barrier}
 use Rattle.model.specs.ListLaws.{each-map, each-at, each-ext, at-ext}
 use Rattle.set_storage.specs.Storage.{numbersOf, endHalf, heldOf, listFrom}
-use Rattle.texture_barrier.specs.declared.transition.Task.{Task}
-use Rattle.texture_barrier.specs.Adds.{entriesAt}
-use Rattle.texture_barrier.specs.Steps.{stepEntries, toRanges, toStateIn, within-is}
-use Rattle.texture_barrier.specs.declared.mip.Step.{Step}
-use Rattle.texture_barrier.specs.declared.mip.Step.the-variants.{To, Within, From}
-use Rattle.texture_barrier.specs.Mips.{mips-same, mips-only, mips-one}
+use Rattle.texture_barrier.specs.{declared.transition.Task.Task, declared.mip.Step.Step}
+use Rattle.texture_barrier.specs.{declared.mip.Step.the-variants.{To, Within, From}, Adds.entriesAt}
+use Rattle.texture_barrier.specs.{Steps.{stepEntries, toRanges, toStateIn, within-is}, Mips.{mips-same, mips-only, mips-one}}
 
 -- a state of what a selector names, as it is given
 abbrev pub piece : Selector → ℕ → Piece

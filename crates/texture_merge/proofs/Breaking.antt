@@ -1,20 +1,9 @@
 -- A texture becomes Many: its state tells COMPLEX, its mips are made anew, and those are changed by g.
-use Prim.Native.Nat.{ℕ, _+_}
-use native.Mathlib.Omega.{arith}
-use mathlib.Core.Path.{_≡_, sym, ap, subst, _∙_}
-use mathlib.Core.List.{List, [], _∷_}
-use lib.ListN.{getD, set, replicate}
-use lib.Seq.{getD-set-same}
-use Rattle.model.specs.declared.UsageFlags.{UsageFlags}
-use Rattle.model.specs.declared.Extent.{Extent}
-use Rattle.model.specs.declared.Range.{Range}
-use Rattle.model.specs.Sets.{Numbers}
-use Rattle.model.specs.RangedStates.{range}
+use Rattle.model.specs.Prelude.{ℕ, _+_, arith, _≡_, sym, ap, subst, _∙_, List, [], _∷_, getD, set, replicate, getD-set-same}
+use Rattle.model.specs.{declared.{UsageFlags.UsageFlags, Extent.Extent, Range.Range}, Sets.Numbers, RangedStates.range}
 use Rattle.model.specs.Texture.{many, freshMips}
-use Rattle.set_storage.specs.Storage.{numbersOf, flagsOf, mipsOf, complexAt, layersAt}
-use Rattle.set_storage.specs.Stays.{HalfFrame, keeps-then}
-use Rattle.set_storage.specs.Frames.{MipsBecome, frame-below, half-of, half-word}
-use Rattle.set_storage.specs.Slots.{HalfBecomes, become-many, half-low}
+use Rattle.set_storage.specs.{Storage.{numbersOf, flagsOf, mipsOf, complexAt, layersAt}, Stays.{HalfFrame, keeps-then}}
+use Rattle.set_storage.specs.{Frames.{MipsBecome, frame-below, half-of, half-word}, Slots.{HalfBecomes, become-many, half-low}}
 use Rattle.set_storage.specs.Texture.{TextureReady, texture-then, texture-dims}
 use Rattle.texture_merge.specs.Ready.{ManyReady, EveryReady, texture-every, fresh-many}
 

@@ -1,25 +1,12 @@
 -- What is given to a texture, range by range and mip by mip, while it keeps its layers and its mips.
-use Prim.Native.Nat.{ℕ, zero, suc, _+_, _≤_, _<_}
-use native.Mathlib.Omega.{arith}
-use native.Mathlib.Numerals.{add-one}
-use mathlib.Core.Path.{_≡_, sym, ap, subst, _∙_}
-use mathlib.Core.List.{List, [], _∷_}
-use lib.ListN.{length, getD, drop, drop-of-length-le}
-use lib.Seq.{drop-cons, getD-take, length-take-le}
-use Rattle.model.specs.declared.Range.{Range}
-use Rattle.model.specs.Sets.{Numbers}
-use Rattle.model.specs.Representation.{select}
-use Rattle.model.specs.RangedStates.{Tiles}
+use Rattle.model.specs.Prelude.{ℕ, zero, suc, _+_, _≤_, _<_, add-one, arith, _≡_, sym, ap, subst, _∙_, List, [], _∷_, length, getD, drop}
+use Rattle.model.specs.Prelude.{drop-of-length-le, drop-cons, getD-take, length-take-le}
+use Rattle.model.specs.{declared.Range.Range, Sets.Numbers, Representation.select, RangedStates.Tiles, RangeLaws.tiles-le}
 use Rattle.range_states.specs.View.{view, blank, decode, view-long}
+use Rattle.set_storage.specs.{declared.Located.Located, Storage.{numbersOf, startHalf, tableIndices, mipsIn, mipsOf, layersAt, mipsAt}}
+use Rattle.set_storage.specs.{Frames.{mips-same, mips-top, mip-at, mips-long}, Locate.LocatedAt, Texture.numbers-low}
+use Rattle.texture_merge.specs.{Ready.{MipTiled, Selects, lentPart, lent-is, lent-fits}, Giving.{GivenMip, GivenTexture}}
 use Rattle.range_states.proofs.Inserting.{next-is}
-use Rattle.set_storage.specs.Storage.{numbersOf, startHalf, tableIndices, mipsIn, mipsOf, layersAt, mipsAt}
-use Rattle.set_storage.specs.Frames.{mips-same, mips-top, mip-at, mips-long}
-use Rattle.set_storage.specs.Locate.{LocatedAt}
-use Rattle.set_storage.specs.declared.Located.{Located}
-use Rattle.set_storage.specs.Texture.{numbers-low}
-use Rattle.texture_merge.specs.Ready.{MipTiled, Selects, lentPart, lent-is, lent-fits}
-use Rattle.texture_merge.specs.Giving.{GivenMip, GivenTexture}
-use Rattle.model.specs.RangeLaws.{tiles-le}
 
 -- a table in which texture i has as many layers and mips as in another
 pub record SameTexture (t₀ t : List ℕ) (i : ℕ) : Type 0 where

@@ -1,24 +1,14 @@
 -- One lap of a loop over the mips of a texture, with any step: what the step needs holds, and what it leaves is the next place of the loop.
-use Prim.Native.Nat.{ℕ, _+_, _≤_, _<_}
-use native.Mathlib.Omega.{arith}
-use mathlib.Core.Path.{_≡_, refl, sym, subst, _∙_}
-use mathlib.Core.List.{List}
-use mathlib.Core.Option.{Option, none, some}
-use lib.ListN.{getD, set, replicate, drop-of-length-le}
-use Rattle.model.specs.declared.Range.{Range}
-use Rattle.model.specs.declared.Selector.{Selector}
-use Rattle.model.specs.declared.InvalidUse.{InvalidUse}
-use Rattle.model.specs.Base.{Stop, fine, walk}
-use Rattle.model.specs.Texture.{onMips}
-use Rattle.model.specs.Sets.{Numbers}
-use Rattle.model.specs.Representation.{mipStart, mipEnd, layerStart, layerEnd}
-use Rattle.model.specs.RangedStates.{Tiles}
+use Rattle.model.specs.Prelude.{ℕ, _+_, _≤_, _<_, arith, _≡_, refl, sym, subst, _∙_, Option, none, some, List, getD, set, replicate}
+use Rattle.model.specs.Prelude.{drop-of-length-le}
+use Rattle.model.specs.{declared.{Range.Range, Selector.Selector, InvalidUse.InvalidUse}, Base.{Stop, fine, walk}, Texture.onMips}
+use Rattle.model.specs.{Sets.Numbers, Representation.{mipStart, mipEnd, layerStart, layerEnd}, RangedStates.Tiles}
 use Rattle.set_storage.specs.Storage.{numbersOf, mipsIn, mipOf, mipsOf, layersAt}
 use Rattle.set_storage.specs.Frames.{Measured, MipsBecome, MipReady, mips-long, mips-top}
 use Rattle.texture_merge.specs.declared.Stopped.the-variants.{Nowhere, At}
 use Rattle.texture_merge.specs.Walking.{walk-rest, among, among-in, among-under, among-over, walk-edits, walk-fresh}
-use Rattle.texture_merge.specs.Walks.{MipWalk, MipWalked, MipsWalked, walk-from, walk-measured, walk-word, walk-count, walk-ready, walk-here, walk-on, walk-stopped, walk-done}
-use Rattle.texture_merge.specs.Ready.{MipTiled, ManyReady, PieceReady, Selects}
+use Rattle.texture_merge.specs.Walks.{MipWalk, MipWalked, MipsWalked, walk-from, walk-measured, walk-word, walk-count, walk-ready}
+use Rattle.texture_merge.specs.{Walks.{walk-here, walk-on, walk-stopped, walk-done}, Ready.{MipTiled, ManyReady, PieceReady, Selects}}
 
 pub lap-small : {h i m layers : ℕ} {t r : List ℕ} → ManyReady (numbersOf t) h t r i layers → m < mipsIn (numbersOf t) t i → m < 16
 lap-small {h} {i} {m} {layers} {t} {r} q b = omega (arith, mips-top (numbersOf t) t i, q .measured .mips)

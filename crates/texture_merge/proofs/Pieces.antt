@@ -1,28 +1,15 @@
 -- The loops over the ranges of a given mip, and over the given mips: what each lap needs, and where it leaves the storage.
-use Prim.Native.Nat.{ℕ, suc, _+_, _≤_, _<_}
-use native.Mathlib.Omega.{arith}
-use native.Mathlib.Numerals.{add-one}
-use mathlib.Core.Path.{_≡_, sym, subst}
-use mathlib.Core.List.{List, map}
-use mathlib.Core.Option.{none, some}
-use lib.ListN.{length, getD, drop}
-use Rattle.model.specs.declared.UsageFlags.{UsageFlags}
-use Rattle.model.specs.declared.Range.{Range}
-use Rattle.model.specs.declared.InvalidUse.{InvalidUse}
-use Rattle.model.specs.Base.{Stop, andThen, passes}
-use Rattle.model.specs.Representation.{select}
-use Rattle.model.specs.Texture.{piecesOf}
+use Rattle.model.specs.Prelude.{ℕ, suc, _+_, _≤_, _<_, add-one, arith, _≡_, sym, subst, none, some, List, map, length, getD, drop}
+use Rattle.model.specs.{declared.{UsageFlags.UsageFlags, Range.Range, InvalidUse.InvalidUse}, Base.{Stop, andThen, passes}}
+use Rattle.model.specs.{Representation.select, Texture.piecesOf}
 use Rattle.range_states.specs.View.{view, blank, decode}
-use Rattle.set_storage.specs.Storage.{numbersOf, mipsOf, layersAt}
-use Rattle.set_storage.specs.Locate.{LocatedAt}
-use Rattle.set_storage.specs.declared.Located.{Located}
-use Rattle.texture_merge.specs.declared.Stopped.{Stopped}
-use Rattle.texture_merge.specs.declared.Stopped.the-variants.{Nowhere, At}
-use Rattle.texture_merge.specs.declared.Doing.{Doing}
-use Rattle.texture_merge.specs.Walks.{stoppedOf, MipsWalked}
-use Rattle.texture_merge.specs.Ready.{ManyReady, HalfTiled, Selects, lentPart}
-use Rattle.texture_merge.specs.Giving.{taken, taken-tiled, passes-tiled, pieceOn, piecesFrom, passes-append, Giving, giving-start, giving-word, giving-ready, giving-turn, giving-stop, giving-end, GivenMip, GivenTexture}
-use Rattle.texture_merge.proofs.Given.{SameTexture, same-texture, range-none, range-next, range-inside, range-within, mips-none, mip-next, mip-tiles, mip-within}
+use Rattle.set_storage.specs.{declared.Located.Located, Storage.{numbersOf, mipsOf, layersAt}, Locate.LocatedAt}
+use Rattle.texture_merge.specs.{declared.Stopped.Stopped, declared.Stopped.the-variants.{Nowhere, At}, declared.Doing.Doing}
+use Rattle.texture_merge.specs.{Walks.{stoppedOf, MipsWalked}, Ready.{ManyReady, HalfTiled, Selects, lentPart}}
+use Rattle.texture_merge.specs.Giving.{taken, taken-tiled, passes-tiled, pieceOn, piecesFrom, passes-append, Giving, giving-start}
+use Rattle.texture_merge.specs.Giving.{giving-word, giving-ready, giving-turn, giving-stop, giving-end, GivenMip, GivenTexture}
+use Rattle.texture_merge.proofs.Given.{SameTexture, same-texture, range-none, range-next, range-inside, range-within, mips-none}
+use Rattle.texture_merge.proofs.Given.{mip-next, mip-tiles, mip-within}
 
 -- the texture at hand, where the loop has come to
 module _ {h i : ℕ} {goal : Stop InvalidUse (List (List Range))} {t₀ r₀ t r : List ℕ} {left : List (List Range) → Stop InvalidUse (List (List Range))} (m : ManyReady (numbersOf t₀) h t₀ r₀ i (getD t₀ (layersAt i) 0)) (g : Giving h i (getD t₀ (layersAt i) 0) goal t₀ r₀ left t r) where

@@ -1,29 +1,15 @@
 -- `insert` and `merge` of a texture of another set, case by case: what the code leaves is what the model gives.
-use Prim.Native.Nat.{ℕ, _+_, _<_}
-use native.Mathlib.Omega.{arith}
-use mathlib.Core.Path.{_≡_, refl, sym, ap, subst, _∙_}
-use mathlib.Core.List.{List, [], _∷_}
-use mathlib.Core.Option.{none, some}
-use lib.ListN.{getD, set, replicate}
-use Rattle.model.specs.declared.UsageFlags.{UsageFlags}
-use Rattle.model.specs.declared.Extent.{Extent}
-use Rattle.model.specs.declared.Range.{Range}
-use Rattle.model.specs.declared.InvalidUse.{InvalidUse}
-use Rattle.model.specs.Base.{Stop, passes}
-use Rattle.model.specs.Sets.{Numbers}
-use Rattle.model.specs.RangedStates.{range}
+use Rattle.model.specs.Prelude.{ℕ, _+_, _<_, arith, _≡_, refl, sym, ap, subst, _∙_, none, some, List, [], _∷_, getD, set, replicate}
+use Rattle.model.specs.{declared.{UsageFlags.UsageFlags, Extent.Extent, Range.Range, InvalidUse.InvalidUse}, Base.{Stop, passes}}
+use Rattle.model.specs.{Sets.Numbers, RangedStates.range}
 use Rattle.model.specs.Texture.{single, many, Given, givenSingle, piecesOf, fromHeld, freshMips, paintAll, insert, spreadPiece, merge}
-use Rattle.set_storage.specs.Storage.{numbersOf, countAt, mipsOf, heldOf, complexAt, layersAt}
-use Rattle.set_storage.specs.Stays.{Frame, keeps-then}
+use Rattle.set_storage.specs.{Storage.{numbersOf, countAt, mipsOf, heldOf, complexAt, layersAt}, Stays.{Frame, keeps-then}}
 use Rattle.set_storage.specs.Frames.{MipsBecome, frame-below, half-of, measured-then}
 use Rattle.set_storage.specs.Slots.{HalfBecomes, become-single, become-many, become-marked, held-single, held-many}
-use Rattle.texture_merge.specs.declared.Stopped.{Stopped}
-use Rattle.texture_merge.specs.declared.Stopped.the-variants.{Nowhere, At}
-use Rattle.texture_merge.specs.declared.Doing.the-variants.{Insert, Merge, Spread}
-use Rattle.texture_merge.specs.Walks.{stoppedOf, MipsWalked}
 use Rattle.set_storage.specs.Texture.{TextureReady, texture-then, texture-dims}
-use Rattle.texture_merge.specs.Ready.{ManyReady, HalfTiled, many-of, fresh-many}
-use Rattle.texture_merge.specs.Uses.{HalfMerged}
+use Rattle.texture_merge.specs.{declared.Stopped.Stopped, declared.Stopped.the-variants.{Nowhere, At}}
+use Rattle.texture_merge.specs.{declared.Doing.the-variants.{Insert, Merge, Spread}, Walks.{stoppedOf, MipsWalked}}
+use Rattle.texture_merge.specs.{Ready.{ManyReady, HalfTiled, many-of, fresh-many}, Uses.HalfMerged}
 use Rattle.texture_merge.specs.Giving.{taken, inserts, merges, spreads, GivenTexture}
 use Rattle.texture_merge.specs.FromSet.{SetReady, MergeReady, given-state, given-pieces, given-many}
 use Rattle.texture_merge.proofs.Breaking.{break-many, break-texture, break-then}

@@ -1,27 +1,13 @@
 -- `merge` of one use, case by case: what the code leaves is what the model's merge gives.
-use Prim.Native.Nat.{ℕ, _+_}
-use mathlib.Core.Path.{_≡_, refl, sym, ap, subst, _∙_}
-use mathlib.Core.Bool.{Bool, true, false}
-use mathlib.Core.List.{List}
-use mathlib.Core.Option.{none, some}
-use lib.Bits.{bitOr}
-use lib.ListN.{getD, set}
-use Rattle.model.specs.declared.UsageFlags.{UsageFlags}
-use Rattle.model.specs.declared.Extent.{Extent}
-use Rattle.model.specs.declared.Selector.{Selector}
-use Rattle.model.specs.declared.Range.{Range}
-use Rattle.model.specs.declared.InvalidUse.{InvalidUse}
-use Rattle.model.specs.Base.{Stop, walk}
-use Rattle.model.specs.StateRules.{unite}
-use Rattle.model.specs.Texture.{Held, single, many, mergeMip, mergeEvery, invalidUse, asMany, merge}
-use Rattle.set_storage.specs.Storage.{numbersOf, mipsOf, heldOf, complexAt}
-use Rattle.set_storage.specs.Stays.{keeps-refl}
+use Rattle.model.specs.Prelude.{ℕ, _+_, _≡_, refl, sym, ap, subst, _∙_, Bool, true, false, none, some, List, bitOr, getD, set}
+use Rattle.model.specs.declared.{UsageFlags.UsageFlags, Extent.Extent, Selector.Selector, Range.Range, InvalidUse.InvalidUse}
+use Rattle.model.specs.{Base.{Stop, walk}, StateRules.unite, Texture.{Held, single, many, mergeMip, mergeEvery, invalidUse, asMany, merge}}
+use Rattle.set_storage.specs.{Storage.{numbersOf, mipsOf, heldOf, complexAt}, Stays.keeps-refl}
 use Rattle.set_storage.specs.Slots.{HalfBecomes, become-single, become-many, held-single, held-many}
-use Rattle.texture_merge.specs.declared.Stopped.{Stopped}
-use Rattle.texture_merge.specs.declared.Stopped.the-variants.{Nowhere, At}
-use Rattle.texture_merge.specs.Walks.{MipsWalked}
+use Rattle.texture_merge.specs.{declared.Stopped.Stopped, declared.Stopped.the-variants.{Nowhere, At}, Walks.MipsWalked}
 use Rattle.texture_merge.specs.Ready.{HalfTiled, many-of}
-use Rattle.texture_merge.specs.Uses.{useOf, brokenUp, UseReady, HeldReady, SingleReady, HalfMerged, united, single-conflict, single-all, single-part, many-all, many-part}
+use Rattle.texture_merge.specs.Uses.{useOf, brokenUp, UseReady, HeldReady, SingleReady, HalfMerged, united, single-conflict}
+use Rattle.texture_merge.specs.Uses.{single-all, single-part, many-all, many-part}
 
 module _ {h i : ℕ} {sh : Extent} {all : Bool} {q : Selector} {p : UsageFlags} {new : ℕ} {t r : List ℕ} (x : UseReady (numbersOf t) h t r i sh all q p new) where
   complex-is : p .complex ≡ getD t complexAt 0

@@ -1,21 +1,10 @@
 -- A texture of another set, given to one half: what is asked for.
-use Prim.Native.Nat.{ℕ, _+_}
-use native.Mathlib.Omega.{arith}
-use mathlib.Core.Path.{_≡_, refl, sym, ap, _∙_}
-use mathlib.Core.Bool.{true}
-use mathlib.Core.List.{List}
-use lib.Bits.{bitOr}
-use lib.ListN.{getD}
-use Rattle.model.specs.declared.UsageFlags.{UsageFlags}
-use Rattle.model.specs.declared.Extent.{Extent}
-use Rattle.model.specs.Representation.{full}
+use Rattle.model.specs.Prelude.{ℕ, _+_, arith, _≡_, refl, sym, ap, _∙_, true, List, bitOr, getD}
+use Rattle.model.specs.{declared.{UsageFlags.UsageFlags, Extent.Extent}, Representation.full}
 use Rattle.model.specs.Texture.{givenSingle, givenMany, piecesOf, fromHeld}
-use Rattle.set_storage.specs.Storage.{numbersOf, flagsOf, mipsOf, heldOf, complexAt}
-use Rattle.set_storage.specs.Slots.{held-many, held-single}
+use Rattle.set_storage.specs.{Storage.{numbersOf, flagsOf, mipsOf, heldOf, complexAt}, Slots.{held-many, held-single}}
 use Rattle.set_storage.specs.Texture.{TextureReady, TextureHeld, RangesTile, texture-mips}
-use Rattle.texture_merge.specs.Ready.{many-of}
-use Rattle.texture_merge.specs.Giving.{GivenTexture}
-use Rattle.texture_merge.specs.Uses.{UseReady, HeldReady}
+use Rattle.texture_merge.specs.{Ready.many-of, Giving.GivenTexture, Uses.{UseReady, HeldReady}}
 
 -- texture i of the given set, in its half `from`, with the flags p
 pub record GivenReady (from : ℕ) (t₂ r₂ : List ℕ) (i : ℕ) (sh : Extent) (p : UsageFlags) : Type 0 where

@@ -1,35 +1,18 @@
 -- The pieces of another texture, given one after another to the mips of a texture in storage: what is left to give decides.
-use Prim.Native.Nat.{ℕ, zero, suc, _+_, _*_, _≤_, _<_}
-use native.Mathlib.Omega.{arith}
-use mathlib.Core.Path.{_≡_, refl, sym, ap, subst, _∙_}
-use mathlib.Core.Bool.{Bool, true, false}
-use mathlib.Core.List.{List, [], _∷_, _++_, map}
-use mathlib.Core.Option.{Option, none, some, Option·map}
-use lib.ListN.{length, getD}
-use Rattle.model.specs.declared.UsageFlags.{UsageFlags}
-use Rattle.model.specs.declared.Selector.{Selector}
-use Rattle.model.specs.declared.Range.{Range}
-use Rattle.model.specs.declared.InvalidUse.{InvalidUse}
-use Rattle.model.specs.Base.{eachAt, Stop, fine, ruled, andThen, onward, passes, walk}
-use Rattle.model.specs.StateRules.{unite, endAfter}
-use Rattle.model.specs.Sets.{Numbers}
-use Rattle.model.specs.Representation.{select, layerStart, layerEnd, inMips}
-use Rattle.model.specs.RangedStates.{paint, Tiles}
-use Rattle.model.specs.Texture.{Piece, onMips, paintAll, spreadPiece, spreadEnd, mergeMip, invalidUse}
-use Rattle.range_states.specs.View.{decode}
-use Rattle.texture_mips.specs.Merge.{merge-mip, merge-other}
-use Rattle.texture_mips.specs.Kept.{run-tiles, update-tiles}
-use Rattle.set_storage.specs.Storage.{numbersOf, mipsIn, mipsOf, layersAt, startHalf}
-use Rattle.set_storage.specs.Stays.{Frame, keeps-refl, keeps-then}
-use Rattle.set_storage.specs.Frames.{Measured, frame-below, measured-then, mip-at, mips-long}
-use Rattle.texture_merge.specs.declared.Stopped.{Stopped}
-use Rattle.texture_merge.specs.declared.Stopped.the-variants.{Nowhere, At}
-use Rattle.texture_merge.specs.declared.Doing.{Doing}
-use Rattle.texture_merge.specs.declared.Doing.the-variants.{Insert, Merge, Spread, Cover}
-use Rattle.texture_merge.specs.Walks.{stoppedOf, MipsWalked}
-use Rattle.texture_merge.specs.Ready.{updatedMips, ManyReady}
-use Rattle.model.specs.BoolLaws.{by-test}
+use Rattle.model.specs.Prelude.{ℕ, zero, suc, _+_, _*_, _≤_, _<_, arith, _≡_, refl, sym, ap, subst, _∙_, Bool, true, false, Option, none}
+use Rattle.model.specs.Prelude.{some, Option·map, List, [], _∷_, _++_, map, length, getD}
+use Rattle.model.specs.declared.{UsageFlags.UsageFlags, Selector.Selector, Range.Range, InvalidUse.InvalidUse}
+use Rattle.model.specs.{Base.{eachAt, Stop, fine, ruled, andThen, onward, passes, walk}, StateRules.{unite, endAfter}, Sets.Numbers}
+use Rattle.model.specs.{Representation.{select, layerStart, layerEnd, inMips}, RangedStates.{paint, Tiles}}
+use Rattle.model.specs.{Texture.{Piece, onMips, paintAll, spreadPiece, spreadEnd, mergeMip, invalidUse}, BoolLaws.by-test}
 use Rattle.model.specs.RangeLaws.{paint-tiles, tiles-le}
+use Rattle.range_states.specs.View.{decode}
+use Rattle.texture_mips.specs.{Merge.{merge-mip, merge-other}, Kept.{run-tiles, update-tiles}}
+use Rattle.set_storage.specs.{Storage.{numbersOf, mipsIn, mipsOf, layersAt, startHalf}, Stays.{Frame, keeps-refl, keeps-then}}
+use Rattle.set_storage.specs.Frames.{Measured, frame-below, measured-then, mip-at, mips-long}
+use Rattle.texture_merge.specs.{declared.Stopped.Stopped, declared.Stopped.the-variants.{Nowhere, At}, declared.Doing.Doing}
+use Rattle.texture_merge.specs.{declared.Doing.the-variants.{Insert, Merge, Spread, Cover}, Walks.{stoppedOf, MipsWalked}}
+use Rattle.texture_merge.specs.Ready.{updatedMips, ManyReady}
 
 -- ---- What one piece does to the mips
 unfoldable pub taken : Doing → UsageFlags → Piece → List (List Range) → Stop InvalidUse (List (List Range))

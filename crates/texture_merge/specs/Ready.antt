@@ -1,26 +1,14 @@
 -- What the code needs of a mip, or of all mips of a texture, to change it in place, and what it leaves: the part of the ranges that is lent on.
-use Prim.Native.Nat.{ℕ, _+_, _*_, _-_, _≤_, _<_}
-use native.Mathlib.Omega.{arith}
-use mathlib.Core.Path.{_≡_, sym, ap, subst, _∙_}
-use mathlib.Core.List.{List, [], _∷_, _++_}
-use lib.ListN.{length, getD, set, take, drop, getD-replicate}
-use Rattle.model.specs.declared.Extent.{Extent}
-use Rattle.model.specs.declared.Range.{Range}
-use Rattle.model.specs.declared.Selector.{Selector}
-use Rattle.model.specs.Representation.{mipStart, mipEnd, layerStart, layerEnd}
-use Rattle.model.specs.Sets.{Numbers}
-use Rattle.model.specs.RangedStates.{range, coalesce, paint, Tiles}
-use Rattle.model.specs.Texture.{onMips, freshMips}
+use Rattle.model.specs.Prelude.{ℕ, _+_, _*_, _-_, _≤_, _<_, arith, _≡_, sym, ap, subst, _∙_, List, [], _∷_, _++_, length, getD, set, take}
+use Rattle.model.specs.Prelude.{drop, getD-replicate}
+use Rattle.model.specs.{declared.{Extent.Extent, Range.Range, Selector.Selector}, Representation.{mipStart, mipEnd, layerStart, layerEnd}}
+use Rattle.model.specs.{Sets.Numbers, RangedStates.{range, coalesce, paint, Tiles}, Texture.{onMips, freshMips}, RangeLaws.tiles-one}
 use Rattle.range_states.specs.View.{decode}
-use Rattle.range_isolate.specs.Isolation.{IsolateRoom}
-use Rattle.range_isolate.specs.Tiling.{isolate-room}
-use Rattle.set_storage.specs.Part.{baseOf, partOf, part-length}
-use Rattle.set_storage.specs.Storage.{numbersOf, mipsIn, countAt, mipPart, mipOf, mipsOf, endHalf, complexAt, layerLimitAt, layersAt, mipLimitAt}
-use Rattle.set_storage.specs.Frames.{Measured, MipsBecome, MipReady, mip-is, mip-at, mip-put, room-of}
-use Rattle.set_storage.specs.Locate.{LocatedAt}
-use Rattle.set_storage.specs.declared.Located.{Located}
-use Rattle.set_storage.specs.Texture.{TextureReady, TextureHeld, SelectorWithin, tiles-few, texture-mips}
-use Rattle.model.specs.RangeLaws.{tiles-one}
+use Rattle.range_isolate.specs.{Isolation.IsolateRoom, Tiling.isolate-room}
+use Rattle.set_storage.specs.{declared.Located.Located, Part.{baseOf, partOf, part-length}}
+use Rattle.set_storage.specs.Storage.{numbersOf, mipsIn, countAt, mipPart, mipOf, mipsOf, endHalf, complexAt, layerLimitAt, layersAt}
+use Rattle.set_storage.specs.{Storage.mipLimitAt, Frames.{Measured, MipsBecome, MipReady, mip-is, mip-at, mip-put, room-of}}
+use Rattle.set_storage.specs.{Locate.LocatedAt, Texture.{TextureReady, TextureHeld, SelectorWithin, tiles-few, texture-mips}}
 
 -- the mips once what a selector names took a state: the others stay, and each of these is coalesced
 abbrev pub updatedMips : ℕ → Selector → ℕ → List (List Range) → List (List Range)

@@ -1,28 +1,14 @@
 -- One use of a texture, in one half: what is asked for, and the contracts of `insert` and `merge`.
-use Prim.Native.Nat.{ℕ, _+_}
-use native.Mathlib.Omega.{arith}
-use mathlib.Core.Path.{_≡_, refl, sym, ap}
-use mathlib.Core.Bool.{Bool, true, false, false≢true}
-use mathlib.Core.List.{List, [], _∷_}
-use mathlib.Core.Option.{Option, none, some}
-use lib.Bits.{bitOr}
-use lib.ListN.{getD}
-use Rattle.model.specs.declared.UsageFlags.{UsageFlags}
-use Rattle.model.specs.declared.Extent.{Extent}
-use Rattle.model.specs.declared.Selector.{Selector}
-use Rattle.model.specs.declared.Range.{Range}
-use Rattle.model.specs.declared.InvalidUse.{InvalidUse}
-use Rattle.model.specs.Base.{if_then_else_, Stop, fine, stopped, andThen, walk}
-use Rattle.model.specs.StateRules.{invalidState, unite}
-use Rattle.model.specs.Sets.{Numbers}
+use Rattle.model.specs.Prelude.{ℕ, _+_, arith, _≡_, refl, sym, ap, Bool, true, false, false≢true, Option, none, some, List, [], _∷_, bitOr}
+use Rattle.model.specs.Prelude.{getD}
+use Rattle.model.specs.declared.{UsageFlags.UsageFlags, Extent.Extent, Selector.Selector, Range.Range, InvalidUse.InvalidUse}
+use Rattle.model.specs.{Base.{if_then_else_, Stop, fine, stopped, andThen, walk}, StateRules.{invalidState, unite}, Sets.Numbers}
 use Rattle.model.specs.Representation.{full}
-use Rattle.model.specs.Texture.{Held, single, many, Given, givenSingle, givenMany, freshMips, spreadPiece, mergeMip, mergeEvery, invalidUse, asMany, merge}
-use Rattle.set_storage.specs.Storage.{numbersOf, flagsOf, complexAt}
-use Rattle.set_storage.specs.Slots.{HalfBecomes}
+use Rattle.model.specs.Texture.{Held, single, many, Given, givenSingle, givenMany, freshMips, spreadPiece, mergeMip, mergeEvery, invalidUse}
+use Rattle.model.specs.Texture.{asMany, merge}
+use Rattle.set_storage.specs.{Storage.{numbersOf, flagsOf, complexAt}, Slots.HalfBecomes}
 use Rattle.set_storage.specs.Texture.{TextureReady, RangesTile, SelectorWithin}
-use Rattle.texture_merge.specs.declared.Stopped.{Stopped}
-use Rattle.texture_merge.specs.Walks.{stoppedOf}
-use Rattle.texture_merge.specs.Ready.{updatedMips}
+use Rattle.texture_merge.specs.{declared.Stopped.Stopped, Walks.stoppedOf, Ready.updatedMips}
 
 -- a use of all of a texture, or of what a selector names
 abbrev pub useOf : Bool → Selector → ℕ → Given

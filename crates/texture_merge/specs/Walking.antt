@@ -1,20 +1,9 @@
 -- A walk over a list that is changed in place: what is done, then what is left; and walks that no conflict stops.
-use Prim.Native.Nat.{ℕ, zero, suc, _+_, _≤_, _<_}
-use native.Mathlib.Omega.{arith}
-use native.Mathlib.Numerals.{add-one}
-use mathlib.Core.Path.{_≡_, refl, sym, _∙_}
-use mathlib.Core.Bool.{Bool, true, false, _&&_}
-use mathlib.Core.List.{List, [], _∷_, _++_, append-assoc}
-use mathlib.Core.Option.{none, some}
-use lib.Dec.{leb}
-use lib.ListN.{length, getD, set, take, drop, replicate, take-append-drop}
-use lib.Seq.{take-suc, drop-cons, drop-set-lt, take-suc-set, set-split, getD-set-other}
-use borrow.Author.Tests.{le-leb, lt-leb, lt-ltb, le-ltb}
-use Rattle.model.specs.declared.Range.{Range}
-use Rattle.model.specs.declared.Selector.{Selector}
-use Rattle.model.specs.Base.{if_then_else_, Stop, fine, onward, walk}
-use Rattle.model.specs.Representation.{mipStart, mipEnd, inMips}
-use Rattle.model.specs.Texture.{onMips}
+use Rattle.model.specs.Prelude.{ℕ, zero, suc, _+_, _≤_, _<_, add-one, arith, _≡_, refl, sym, _∙_, Bool, true, false, _&&_, none, some, List}
+use Rattle.model.specs.Prelude.{[], _∷_, _++_, append-assoc, leb, length, getD, set, take, drop, replicate, take-append-drop, take-suc}
+use Rattle.model.specs.Prelude.{drop-cons, drop-set-lt, take-suc-set, set-split, getD-set-other, le-leb, lt-leb, lt-ltb, le-ltb}
+use Rattle.model.specs.{declared.{Range.Range, Selector.Selector}, Base.{if_then_else_, Stop, fine, onward, walk}}
+use Rattle.model.specs.{Representation.{mipStart, mipEnd, inMips}, Texture.onMips}
 
 module _ {C A : Type 0} (f : ℕ → A → Stop C A) where
   pub record Walking (l₀ : List A) (k : ℕ) (l : List A) : Type 0 where

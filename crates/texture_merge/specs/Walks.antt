@@ -1,20 +1,10 @@
 -- A walk over the mips of a texture, in place, that stops at the first conflict: the storage on the way.
-use Prim.Native.Nat.{ℕ, _+_, _≤_, _<_}
-use native.Mathlib.Omega.{arith}
-use mathlib.Core.Path.{_≡_, sym, ap, _∙_}
-use mathlib.Core.List.{List, []}
-use mathlib.Core.Option.{Option, none, some}
-use lib.ListN.{length, getD, set, drop}
-use Rattle.model.specs.declared.Range.{Range}
-use Rattle.model.specs.declared.InvalidUse.{InvalidUse}
-use Rattle.model.specs.Base.{Stop, fine, walk}
-use Rattle.model.specs.Sets.{Numbers}
-use Rattle.set_storage.specs.Storage.{mipsIn, mipOf, mipsOf, mipsAt, startHalf}
-use Rattle.set_storage.specs.Stays.{Frame, keeps-refl, keeps-then}
+use Rattle.model.specs.Prelude.{ℕ, _+_, _≤_, _<_, arith, _≡_, sym, ap, _∙_, Option, none, some, List, [], length, getD, set, drop}
+use Rattle.model.specs.{declared.{Range.Range, InvalidUse.InvalidUse}, Base.{Stop, fine, walk}, Sets.Numbers}
+use Rattle.set_storage.specs.{Storage.{mipsIn, mipOf, mipsOf, mipsAt, startHalf}, Stays.{Frame, keeps-refl, keeps-then}}
 use Rattle.set_storage.specs.Frames.{Measured, MipsBecome, MipReady, frame-below, measured-then, mips-same, mips-top, mip-at, mips-long}
+use Rattle.texture_merge.specs.{declared.Stopped.Stopped, declared.Stopped.the-variants.{Nowhere, At}}
 use Rattle.texture_merge.specs.Walking.{InPlace, place-skip, place-turn, walk-stop, walk-end}
-use Rattle.texture_merge.specs.declared.Stopped.{Stopped}
-use Rattle.texture_merge.specs.declared.Stopped.the-variants.{Nowhere, At}
 
 abbrev pub stoppedOf : Stopped → Option InvalidUse
 stoppedOf Nowhere = none

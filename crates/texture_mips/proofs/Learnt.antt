@@ -1,19 +1,11 @@
 -- The loop of `learn`: what is left to learn, from here, is what was to learn from the start.
-use Prim.Native.Nat.{ℕ, _+_, _*_, _≤_, _<_}
-use native.Mathlib.Omega.{arith}
-use mathlib.Core.Path.{_≡_, refl, sym, _∙_}
-use mathlib.Core.List.{List, [], _∷_}
-use borrow.Author.Tests.{eq-eqb, ne-eqb}
-use lib.ListN.{length, getD, drop}
-use lib.Seq.{slice-empty}
-use Rattle.model.specs.declared.Range.{Range}
-use Rattle.model.specs.RangedStates.{coalesce, paint}
-use Rattle.model.specs.Texture.{learn}
+use Rattle.model.specs.Prelude.{ℕ, _+_, _*_, _≤_, _<_, arith, _≡_, refl, sym, _∙_, List, [], _∷_, length, getD, drop, slice-empty, eq-eqb}
+use Rattle.model.specs.Prelude.{ne-eqb}
+use Rattle.model.specs.{declared.Range.Range, RangedStates.{coalesce, paint}, Texture.learn}
 use Rattle.range_states.specs.View.{view, decode, blank}
 use Rattle.range_isolate.specs.Isolation.{IsolateRoom}
+use Rattle.texture_mips.specs.{Paint.Leaves, Learn.{learnt, LearnFits, LearnRoom}}
 use Rattle.range_states.proofs.Inserting.{next-is}
-use Rattle.texture_mips.specs.Paint.{Leaves}
-use Rattle.texture_mips.specs.Learn.{learnt, LearnFits, LearnRoom}
 
 pub record Learning (s₀ : List ℕ) (len : ℕ) (ends : List ℕ) (from to u new : ℕ) (s : List ℕ) (n k : ℕ) : Type 0 where
   pub low : from ≤ k

@@ -1,21 +1,11 @@
 -- A run that takes one state, and a mip made anew.
-use Prim.Native.Nat.{ℕ, _+_, _*_, _≤_}
-use native.Mathlib.Omega.{arith}
-use mathlib.Core.Path.{_≡_, refl, ap, _∙_}
-use mathlib.Core.Bool.{Bool, false}
-use mathlib.Core.List.{List, [], _∷_, _++_, map}
-use lib.ListN.{length, drop}
-use lib.Seq.{take-suc-set}
-use Rattle.model.specs.declared.Range.{Range}
-use Rattle.model.specs.RangedStates.{range, inState, isolate, coalesce, paint}
-use Rattle.range_states.specs.View.{view, decode, Put, Becomes, view-long, becomes-live}
-use Rattle.range_states.specs.Coalescing.{Coalesced}
-use Rattle.range_isolate.specs.Isolation.{Isolating}
-use Rattle.range_isolate.specs.declared.isolation.Isolated.{Isolated}
-use Rattle.texture_mips.specs.Pass.{passed}
-use Rattle.texture_mips.specs.Paint.{Leaves}
-use Rattle.texture_mips.proofs.Passing.{Passing, finish}
-use Rattle.texture_mips.proofs.Runs.{coalesced-live, ran}
+use Rattle.model.specs.Prelude.{ℕ, _+_, _*_, _≤_, arith, _≡_, refl, ap, _∙_, Bool, false, List, [], _∷_, _++_, map, length, drop}
+use Rattle.model.specs.Prelude.{take-suc-set}
+use Rattle.model.specs.{declared.Range.Range, RangedStates.{range, inState, isolate, coalesce, paint}}
+use Rattle.range_states.specs.{View.{view, decode, Put, Becomes, view-long, becomes-live}, Coalescing.Coalesced}
+use Rattle.range_isolate.specs.{declared.isolation.Isolated.Isolated, Isolation.Isolating}
+use Rattle.texture_mips.specs.{Pass.passed, Paint.Leaves}
+use Rattle.texture_mips.proofs.{Passing.{Passing, finish}, Runs.{coalesced-live, ran}}
 
 -- ---- `set_run`: a pass that nothing stops
 abbrev pub never : Range → Bool

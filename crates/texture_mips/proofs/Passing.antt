@@ -1,16 +1,11 @@
 -- A loop over the records from `from` up to `to` that changes each and stops at the first where a test says so, over plain lists.
-use Prim.Native.Nat.{ℕ, suc, _+_, _*_, _≤_, _<_}
-use native.Mathlib.Numerals.{add-one}
-use native.Mathlib.Omega.{arith}
-use mathlib.Core.Path.{_≡_, refl, sym, _∙_}
-use mathlib.Core.Bool.{Bool, true, false}
-use mathlib.Core.List.{List, [], _∷_, _++_, append-assoc}
-use lib.ListN.{length, getD, take, drop, take-append-drop, length-append, length-drop}
-use lib.Seq.{drop-set-lt, take-suc-set, slice-cons, slice-empty, length-take-le}
-use Rattle.range_states.proofs.Agree.{agree-drop, agree-at, drop-cut}
+use Rattle.model.specs.Prelude.{ℕ, suc, _+_, _*_, _≤_, _<_, add-one, arith, _≡_, refl, sym, _∙_, Bool, true, false, List, [], _∷_, _++_}
+use Rattle.model.specs.Prelude.{append-assoc, length, getD, take, drop, take-append-drop, length-append, length-drop, drop-set-lt}
+use Rattle.model.specs.Prelude.{take-suc-set, slice-cons, slice-empty, length-take-le}
 use Rattle.model.specs.declared.Range.{Range}
 use Rattle.range_states.specs.View.{view, spare, decode, blank, Put, view-long}
 use Rattle.texture_mips.specs.Pass.{passed, passedCount, Passed}
+use Rattle.range_states.proofs.Agree.{agree-drop, agree-at, drop-cut}
 
 pub record Passing (stop : Range → Bool) (f : Range → Range) (s₀ : List ℕ) (from to : ℕ) (s : List ℕ) (k : ℕ) : Type 0 where
   pub low : from ≤ k

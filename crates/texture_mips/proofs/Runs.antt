@@ -1,14 +1,8 @@
 -- A run of ranges in the middle of a mip is changed, and what is before and after it stays.
-use Prim.Native.Nat.{ℕ, _+_, _*_, _-_, _≤_}
-use native.Mathlib.Omega.{arith}
-use mathlib.Core.Path.{_≡_, sym, ap, _∙_}
-use mathlib.Core.List.{List, _++_, append-assoc}
-use lib.ListN.{length, take, drop, replicate, length-append}
-use lib.Seq.{take-take, take-at, drop-at, take-add, length-take-le, take-append-add}
-use Rattle.model.specs.declared.Range.{Range}
-use Rattle.model.specs.RangedStates.{coalesce}
-use Rattle.range_states.specs.View.{view, blank, decode, Becomes, view-long, becomes-live}
-use Rattle.range_states.specs.Coalescing.{Coalesced}
+use Rattle.model.specs.Prelude.{ℕ, _+_, _*_, _-_, _≤_, arith, _≡_, sym, ap, _∙_, List, _++_, append-assoc, length, take, drop, replicate}
+use Rattle.model.specs.Prelude.{length-append, take-take, take-at, drop-at, take-add, length-take-le, take-append-add}
+use Rattle.model.specs.{declared.Range.Range, RangedStates.coalesce}
+use Rattle.range_states.specs.{View.{view, blank, decode, Becomes, view-long, becomes-live}, Coalescing.Coalesced}
 
 -- a change of the first m records, seen among the first n
 becomes-within : {l : List ℕ} {m : ℕ} {xs : List Range} {l′ : List ℕ} → 3 * m ≤ length l → Becomes l m xs l′ → (n : ℕ) (ys zs : List Range) → m ≤ n → length ys ≡ m → decode n l ≡ ys ++ zs → decode n l′ ≡ xs ++ zs

@@ -1,26 +1,12 @@
 -- The pass of `merge_run` is the model's walk; the mip is coalesced where nothing stopped it.
-use Prim.Native.Nat.{ℕ, suc, _+_, _*_, _≤_, _<_}
-use native.Mathlib.Omega.{arith}
-use mathlib.Core.Path.{_≡_, refl, sym, ap, _∙_}
-use mathlib.Core.Bool.{Bool, true, false}
-use mathlib.Core.List.{List, [], _∷_, _++_, append-nil}
-use mathlib.Core.Option.{Option, none, some, Option·map}
-use lib.ListN.{length, getD}
-use lib.Seq.{length-take-le, getD-append-add, getD-take}
-use Rattle.model.specs.declared.Range.{Range}
-use Rattle.model.specs.declared.UsageFlags.{UsageFlags}
-use Rattle.model.specs.declared.InvalidUse.{InvalidUse}
-use Rattle.model.specs.Base.{if_then_else_, Stop, walk}
-use Rattle.model.specs.StateRules.{uniteKnown}
-use Rattle.model.specs.RangedStates.{inState, Cut, isolate}
-use Rattle.model.specs.Representation.{select}
+use Rattle.model.specs.Prelude.{ℕ, suc, _+_, _*_, _≤_, _<_, arith, _≡_, refl, sym, ap, _∙_, Bool, true, false, Option, none, some}
+use Rattle.model.specs.Prelude.{Option·map, List, [], _∷_, _++_, append-nil, length, getD, length-take-le, getD-append-add, getD-take}
+use Rattle.model.specs.{declared.{Range.Range, UsageFlags.UsageFlags, InvalidUse.InvalidUse}, Base.{if_then_else_, Stop, walk}}
+use Rattle.model.specs.{StateRules.uniteKnown, RangedStates.{inState, Cut, isolate}, Representation.select}
 use Rattle.model.specs.Texture.{invalidUse, mergeRange, mergeEvery, settled}
-use Rattle.range_states.specs.View.{view, blank, decode, Becomes, view-long, becomes-live}
-use Rattle.range_states.specs.Coalescing.{Coalesced}
-use Rattle.range_isolate.specs.Isolation.{Isolating}
-use Rattle.range_isolate.specs.declared.isolation.Isolated.{Isolated}
-use Rattle.texture_mips.specs.declared.uniting.Merged.{Merged}
-use Rattle.texture_mips.specs.declared.uniting.Met.the-variants.{Nothing, Conflict}
+use Rattle.range_states.specs.{View.{view, blank, decode, Becomes, view-long, becomes-live}, Coalescing.Coalesced}
+use Rattle.range_isolate.specs.{declared.isolation.Isolated.Isolated, Isolation.Isolating}
+use Rattle.texture_mips.specs.{declared.uniting.Merged.Merged, declared.uniting.Met.the-variants.{Nothing, Conflict}}
 use Rattle.texture_mips.specs.Pass.{passed, passedCount, Passed}
 use Rattle.texture_mips.specs.Merge.{runStops, runTakes, mergeRun, Walked, PieceMerged, EveryMerged}
 use Rattle.texture_mips.proofs.Runs.{coalesced-live, the-run, into-run, ran}

@@ -1,22 +1,10 @@
 -- A mip that tiles its layers goes on tiling them under every function here, and has room for it with as many records as layers.
-use Prim.Native.Nat.{ℕ, suc, _+_, _*_, _≤_, _<_}
-use native.Mathlib.Omega.{arith}
-use mathlib.Core.Path.{_≡_, refl}
-use mathlib.Core.List.{List, [], _∷_, _++_}
-use mathlib.Core.Option.{Option, none, some}
-use lib.Dec.{eqb}
-use lib.ListN.{length}
-use Rattle.model.specs.declared.Range.{Range}
-use Rattle.model.specs.declared.UsageFlags.{UsageFlags}
-use Rattle.model.specs.Base.{walk}
-use Rattle.model.specs.StateRules.{uniteKnown}
-use Rattle.model.specs.RangedStates.{isolate, paint, coalesce, Tiles}
-use Rattle.model.specs.Texture.{mergeRange, settled, learn}
-use Rattle.range_states.specs.View.{decode}
-use Rattle.texture_mips.specs.Merge.{mergeRun}
-use Rattle.texture_mips.specs.Learn.{learnt, LearnFits, LearnRoom}
-use Rattle.model.specs.BoolLaws.{by-test}
+use Rattle.model.specs.Prelude.{ℕ, suc, _+_, _*_, _≤_, _<_, arith, _≡_, refl, Option, none, some, List, [], _∷_, _++_, eqb, length}
+use Rattle.model.specs.{declared.{Range.Range, UsageFlags.UsageFlags}, Base.walk, StateRules.uniteKnown}
+use Rattle.model.specs.{RangedStates.{isolate, paint, coalesce, Tiles}, Texture.{mergeRange, settled, learn}, BoolLaws.by-test}
 use Rattle.model.specs.RangeLaws.{tiles-append, isolate-cuts, isolate-few, paint-tiles, coalesce-tiles}
+use Rattle.range_states.specs.View.{decode}
+use Rattle.texture_mips.specs.{Merge.mergeRun, Learn.{learnt, LearnFits, LearnRoom}}
 
 -- ---- merging: a range keeps its layers
 walk-tiles : (p : UsageFlags) (k new i : ℕ) (s : List Range) (a e : ℕ) → Tiles a s e → Tiles a (walk (λ (j : ℕ). mergeRange p k new) i s .value) e

@@ -1,12 +1,6 @@
 -- The room that a mip of the start needs while it learns.
-use Prim.Native.Nat.{ℕ, _*_, _≤_}
-use mathlib.Core.Path.{_≡_}
-use mathlib.Core.List.{List, [], _∷_}
-use lib.Dec.{eqb}
-use lib.ListN.{length}
-use Rattle.model.specs.declared.Range.{Range}
-use Rattle.model.specs.Base.{if_then_else_}
-use Rattle.model.specs.RangedStates.{listOf, isolate, paint, coalesce}
+use Rattle.model.specs.Prelude.{ℕ, _*_, _≤_, _≡_, List, [], _∷_, eqb, length}
+use Rattle.model.specs.{declared.Range.Range, Base.if_then_else_, RangedStates.{listOf, isolate, paint, coalesce}}
 use Rattle.range_states.specs.View.{decode}
 
 -- what the start is after one range of the end: the step of the model's `learn`

@@ -1,21 +1,10 @@
 -- The contracts of the merges on one mip, over the model's walk.
-use Prim.Native.Nat.{ℕ, suc, _*_, _≤_}
-use mathlib.Core.Path.{_≡_}
-use mathlib.Core.Bool.{Bool, true, false}
-use mathlib.Core.List.{List, _++_}
-use mathlib.Core.Option.{Option, none, some}
-use lib.ListN.{length}
-use Rattle.model.specs.declared.Range.{Range}
-use Rattle.model.specs.declared.UsageFlags.{UsageFlags}
-use Rattle.model.specs.declared.InvalidUse.{InvalidUse}
-use Rattle.model.specs.Base.{Stop, fine, walk}
-use Rattle.model.specs.StateRules.{uniteKnown}
-use Rattle.model.specs.Representation.{select, layerStart, layerEnd, inMips}
-use Rattle.model.specs.RangedStates.{inState, isolate}
+use Rattle.model.specs.Prelude.{ℕ, suc, _*_, _≤_, _≡_, Bool, true, false, Option, none, some, List, _++_, length}
+use Rattle.model.specs.{declared.{Range.Range, UsageFlags.UsageFlags, InvalidUse.InvalidUse}, Base.{Stop, fine, walk}}
+use Rattle.model.specs.{StateRules.uniteKnown, Representation.{select, layerStart, layerEnd, inMips}, RangedStates.{inState, isolate}}
 use Rattle.model.specs.Texture.{Piece, invalidUse, mergeRange, settled, mergeMip, mergeEvery}
 use Rattle.range_states.specs.View.{decode}
-use Rattle.texture_mips.specs.declared.uniting.Met.{Met}
-use Rattle.texture_mips.specs.declared.uniting.Met.the-variants.{Nothing, Conflict}
+use Rattle.texture_mips.specs.{declared.uniting.Met.Met, declared.uniting.Met.the-variants.{Nothing, Conflict}}
 use Rattle.texture_mips.specs.declared.uniting.Merged.{Merged}
 
 -- ---- One range: it stops where there is no union, and otherwise takes it

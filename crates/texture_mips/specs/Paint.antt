@@ -1,8 +1,5 @@
 -- The contracts of what gives a run one state.
-use Prim.Native.Nat.{ℕ, _*_, _≤_}
-use mathlib.Core.Path.{_≡_}
-use mathlib.Core.List.{List}
-use lib.ListN.{length}
+use Rattle.model.specs.Prelude.{ℕ, _*_, _≤_, _≡_, List, length}
 use Rattle.model.specs.declared.Range.{Range}
 use Rattle.range_states.specs.View.{decode}
 

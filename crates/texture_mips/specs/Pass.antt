@@ -1,11 +1,6 @@
 -- A pass that changes each range in turn and stops at the first where a test says so: the contract of a loop over a run.
-use Prim.Native.Nat.{ℕ, zero, suc, _+_, _≤_}
-use mathlib.Core.Path.{_≡_}
-use mathlib.Core.Bool.{Bool}
-use mathlib.Core.List.{List, [], _∷_, _++_}
-use lib.ListN.{drop}
-use Rattle.model.specs.declared.Range.{Range}
-use Rattle.model.specs.Base.{if_then_else_}
+use Rattle.model.specs.Prelude.{ℕ, zero, suc, _+_, _≤_, _≡_, Bool, List, [], _∷_, _++_, drop}
+use Rattle.model.specs.{declared.Range.Range, Base.if_then_else_}
 use Rattle.range_states.specs.View.{decode, Becomes}
 
 -- each element changed by f, up to the first at which `stop` holds; and how many those are

@@ -1,24 +1,13 @@
 -- A Single texture of a tracker, where the given set holds a Single one: its transitions and what it becomes.
-use Prim.Native.Nat.{ℕ, _+_}
-use mathlib.Core.Path.{_≡_, sym, ap, _∙_}
-use mathlib.Core.Bool.{true, not}
-use mathlib.Core.List.{List}
-use lib.Dec.{eqb}
-use lib.ListN.{getD, set}
-use borrow.Author.Tests.{ne-eqb, eqb-false, not-true}
-use Rattle.model.specs.declared.UsageFlags.{UsageFlags}
-use Rattle.model.specs.Texture.{barrier}
-use Rattle.model.specs.BoolLaws.{and-both as both}
-use Rattle.set_storage.specs.Storage.{numbersOf, endHalf, complexAt, ownedAt, stateAt, trackerSlot}
-use Rattle.set_storage.specs.Stays.{onlyOwned}
-use Rattle.set_storage.specs.Slots.{held-single}
+use Rattle.model.specs.Prelude.{ℕ, _+_, _≡_, sym, ap, _∙_, true, not, List, eqb, getD, set, ne-eqb, eqb-false, not-true}
+use Rattle.model.specs.{declared.UsageFlags.UsageFlags, Texture.barrier, BoolLaws.{and-both as both}}
+use Rattle.set_storage.specs.{Storage.{numbersOf, endHalf, complexAt, ownedAt, stateAt, trackerSlot}, Stays.onlyOwned, Slots.held-single}
 use Rattle.texture_update.specs.FromSet.{from-use}
-use Rattle.texture_update.proofs.Cases.{all-single}
-use Rattle.texture_update.proofs.SetCases.{state-given}
-use Rattle.set_ready.specs.Half.{half-held}
-use Rattle.set_ready.specs.Given.{givenAt, given-update, where-owned, only-owned}
+use Rattle.set_ready.specs.{Half.half-held, Given.{givenAt, given-update, where-owned, only-owned}}
 use Rattle.texture_track.specs.Slot.{SlotSet, tracker-old, tracker-named}
 use Rattle.texture_track.specs.GivenSlot.{SetsAt, bothSingle, slotAfter, givenEntries, singleEntry}
+use Rattle.texture_update.proofs.Cases.{all-single}
+use Rattle.texture_update.proofs.SetCases.{state-given}
 
 -- what the test of the words tells
 module _ (t g : List ℕ) (h i : ℕ) (e : bothSingle t g h i ≡ true) where

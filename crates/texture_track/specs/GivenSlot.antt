@@ -1,21 +1,9 @@
 -- One texture of a tracker and what a given set holds at its index: the transitions, and what is asked for where the set owns the index.
-use Prim.Native.Nat.{ℕ, _+_}
-use mathlib.Core.Path.{_≡_}
-use mathlib.Core.Bool.{Bool, _&&_, not}
-use mathlib.Core.List.{List, []}
-use lib.Dec.{eqb}
-use lib.ListN.{getD}
-use Rattle.model.specs.declared.UsageFlags.{UsageFlags}
-use Rattle.model.specs.declared.Extent.{Extent}
-use Rattle.model.specs.Base.{if_then_else_}
-use Rattle.model.specs.Representation.{Ends, full}
-use Rattle.model.specs.StateRules.{moveOf}
-use Rattle.model.specs.Sets.{Slot}
-use Rattle.model.specs.Calls.{setGiven}
-use Rattle.model.specs.Texture.{Held, Given, Entry, entry, fromHeld, barrier, ranged}
+use Rattle.model.specs.Prelude.{ℕ, _+_, _≡_, Bool, _&&_, not, List, [], eqb, getD}
+use Rattle.model.specs.{declared.{UsageFlags.UsageFlags, Extent.Extent}, Base.if_then_else_, Representation.{Ends, full}, StateRules.moveOf}
+use Rattle.model.specs.{Sets.Slot, Calls.setGiven, Texture.{Held, Given, Entry, entry, fromHeld, barrier, ranged}}
 use Rattle.set_storage.specs.Storage.{numbersOf, flagsOf, extentOf, ownedOf, endHalf, heldOf, slotWith, complexAt}
-use Rattle.set_ready.specs.Half.{HalfReady, BothReady}
-use Rattle.set_ready.specs.Given.{givenAt, HalfGiven, WhereOwned}
+use Rattle.set_ready.specs.{Half.{HalfReady, BothReady}, Given.{givenAt, HalfGiven, WhereOwned}}
 
 -- ---- The change: the texture is ready, and a start and an end are given
 pub record BothGiven (t : List ℕ) (i : ℕ) (sh : Extent) (from to : ℕ) (g a b : List ℕ) (p : UsageFlags) : Type 0 where

@@ -1,22 +1,10 @@
 -- One texture of a tracker: the contracts of its change and of its transitions.
-use Prim.Native.Nat.{ℕ}
-use native.Mathlib.Omega.{arith}
-use mathlib.Core.Path.{_≡_, refl, subst}
-use mathlib.Core.Bool.{Bool, true, false}
-use mathlib.Core.List.{List, [], _∷_, append-nil}
-use lib.ListN.{getD, set}
-use borrow.Author.Tests.{ne-eqb, eq-eqb}
-use Rattle.model.specs.declared.UsageFlags.{UsageFlags}
-use Rattle.model.specs.declared.Extent.{Extent}
-use Rattle.model.specs.Base.{if_then_else_}
-use Rattle.model.specs.Representation.{Ends}
-use Rattle.model.specs.Sets.{Numbers, Slot, withTracker}
-use Rattle.model.specs.Calls.{setSlot, logSlot}
-use Rattle.model.specs.Log.{pending}
+use Rattle.model.specs.Prelude.{ℕ, arith, _≡_, refl, subst, Bool, true, false, List, [], _∷_, append-nil, getD, set, ne-eqb, eq-eqb}
+use Rattle.model.specs.{declared.{UsageFlags.UsageFlags, Extent.Extent}, Base.if_then_else_, Representation.Ends}
+use Rattle.model.specs.{Sets.{Numbers, Slot, withTracker}, Calls.{setSlot, logSlot}, Log.pending}
 use Rattle.model.specs.Texture.{Held, Given, Entry, insert, update, barrier, ranged}
 use Rattle.set_storage.specs.Storage.{numbersOf, startHalf, endHalf, endsOf, slotWith, trackerOf, maskAt, ownedAt, trackerSlot}
-use Rattle.set_storage.specs.Frames.{Measured}
-use Rattle.set_storage.specs.Stays.{only, both-refl, both-then, both-more, TrackerFrame}
+use Rattle.set_storage.specs.{Frames.Measured, Stays.{only, both-refl, both-then, both-more, TrackerFrame}}
 use Rattle.set_storage.specs.Slots.{HalfBecomes, ownWords, tracker-own, tracker-both, tracker-slots}
 use Rattle.texture_update.specs.Both.{BothBecome, low-of, start-then-end}
 use Rattle.texture_barrier.specs.Adds.{entriesAt}

@@ -1,26 +1,12 @@
 -- THE CONTRACT of a tracker's call: the answer, and the content of what was lent; and what it is check by check.
-use Prim.Native.Nat.{ℕ, _/_}
-use mathlib.Core.Path.{_≡_, refl}
-use mathlib.Core.Bool.{Bool, true, false}
-use mathlib.Core.List.{List}
-use lib.ListN.{length}
-use Rattle.model.specs.declared.Answered.{Answered}
-use Rattle.model.specs.declared.InvalidUse.{InvalidUse}
-use Rattle.model.specs.declared.LogHead.{LogHead}
-use Rattle.model.specs.declared.PendingTransition.{PendingTransition}
-use Rattle.model.specs.declared.Refusal.{Refusal}
+use Rattle.model.specs.Prelude.{ℕ, _/_, _≡_, refl, Bool, true, false, List, length}
 use Rattle.model.specs.declared.Refusal.the-variants.{NotWellFormed, LogTooShort}
-use Rattle.model.specs.Sets.{Tracker}
-use Rattle.model.specs.Calls.{CallResult, done}
-use Rattle.model.specs.Calls as calls
-use Rattle.model.specs.Log.{pending}
-use Rattle.model.specs.Texture.{Held, Entry}
-use Rattle.set_storage.specs.Storage.{numbersOf, trackerOf}
-use Rattle.set_storage.specs.Lent.{LentTracker}
-use Rattle.set_storage.specs.Stays.{TrackerFrame, both-refl}
+use Rattle.model.specs.declared.{Answered.Answered, InvalidUse.InvalidUse, LogHead.LogHead, PendingTransition.PendingTransition}
+use Rattle.model.specs.{declared.Refusal.Refusal, Sets.Tracker, Calls.{CallResult, done}, Log.pending, Texture.{Held, Entry}}
+use Rattle.set_storage.specs.{Storage.{numbersOf, trackerOf}, Lent.LentTracker, Stays.{TrackerFrame, both-refl}}
 use Rattle.set_ready.specs.Named.{within}
-use Rattle.log_head.specs.Log.{headWithin, refusedWith}
-use Rattle.log_head.specs.Called.{Called, Changed, changed}
+use Rattle.log_head.specs.{Log.{headWithin, refusedWith}, Called.{Called, Changed, changed}}
+use Rattle.model.specs.Calls as calls
 use Rattle.log_head.specs.Called as called
 
 -- every number of a tracker stays

@@ -1,24 +1,14 @@
 -- `update` of one use, case by case: what the code leaves is what the model's update gives.
-use Prim.Native.Nat.{ℕ}
-use native.Mathlib.Omega.{arith}
-use mathlib.Core.Path.{_≡_, refl, sym, ap, subst, _∙_}
-use mathlib.Core.Bool.{false}
-use mathlib.Core.List.{List}
-use lib.ListN.{getD, set}
-use Rattle.model.specs.declared.UsageFlags.{UsageFlags}
-use Rattle.model.specs.declared.Extent.{Extent}
-use Rattle.model.specs.declared.Selector.{Selector}
-use Rattle.model.specs.declared.Range.{Range}
-use Rattle.model.specs.Representation.{Ends}
+use Rattle.model.specs.Prelude.{ℕ, arith, _≡_, refl, sym, ap, subst, _∙_, false, List, getD, set}
+use Rattle.model.specs.{declared.{UsageFlags.UsageFlags, Extent.Extent, Selector.Selector, Range.Range}, Representation.Ends}
 use Rattle.model.specs.Texture.{Held, single, many, Given, givenSingle, learnAll, metBy, update}
 use Rattle.set_storage.specs.Storage.{numbersOf, startHalf, endHalf, mipsOf, heldOf, endsOf, complexAt, stateAt}
 use Rattle.set_storage.specs.Frames.{Measured, MipsBecome}
-use Rattle.set_storage.specs.Slots.{HalfBecomes, become-single, become-many, held-single, held-many, half-low}
-use Rattle.texture_merge.specs.Uses.{useOf, brokenUp}
-use Rattle.texture_merge.specs.Ready.{updatedMips}
-use Rattle.set_storage.specs.Texture.{measured-low}
+use Rattle.set_storage.specs.{Slots.{HalfBecomes, become-single, become-many, held-single, held-many, half-low}, Texture.measured-low}
+use Rattle.texture_merge.specs.{Uses.{useOf, brokenUp}, Ready.updatedMips}
 use Rattle.texture_update.specs.Both.{BothBecome, BothMips, start-then-end, end-alone, mips-become}
-use Rattle.texture_update.specs.Update.{UpdateReady, Selecting, complex-is, state-single, state-kept, state-learnt, use-single, use-kept, use-learnt}
+use Rattle.texture_update.specs.Update.{UpdateReady, Selecting, complex-is, state-single, state-kept, state-learnt, use-single}
+use Rattle.texture_update.specs.Update.{use-kept, use-learnt}
 
 module _ {t s e : List ℕ} {i : ℕ} {sh : Extent} {p : UsageFlags} {new : ℕ} (r : UpdateReady t s e i sh p new) where
   plain : new ≡ getD t complexAt 0 → ⊥

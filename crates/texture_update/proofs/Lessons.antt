@@ -1,27 +1,13 @@
 -- The start learns from the end, mip by mip: what each step needs holds, and what it leaves is the next place of the loop.
-use Prim.Native.Nat.{ℕ, _+_, _≤_, _<_}
-use native.Mathlib.Omega.{arith}
-use mathlib.Core.Path.{_≡_, refl, ap, subst, _∙_}
-use mathlib.Core.Logic.{inl}
-use mathlib.Core.List.{List}
-use lib.ListN.{length, getD, set}
-use Rattle.model.specs.declared.Range.{Range}
-use Rattle.model.specs.declared.InvalidUse.{InvalidUse}
-use Rattle.model.specs.Base.{Stop, fine}
-use Rattle.model.specs.Sets.{Numbers}
-use Rattle.model.specs.Texture.{learn, learnAll}
+use Rattle.model.specs.Prelude.{ℕ, _+_, _≤_, _<_, arith, _≡_, refl, ap, subst, _∙_, inl, List, length, getD, set}
+use Rattle.model.specs.{declared.{Range.Range, InvalidUse.InvalidUse}, Base.{Stop, fine}, Sets.Numbers, Texture.{learn, learnAll}}
 use Rattle.range_states.specs.View.{decode}
-use Rattle.texture_mips.specs.Learn.{LearnRoom}
-use Rattle.texture_mips.specs.Kept.{learn-room, tiles-within}
-use Rattle.set_storage.specs.Storage.{numbersOf, startHalf, endHalf, mipsIn, mipOf, mipsOf, layersAt}
-use Rattle.set_storage.specs.Frames.{MipsBecome, half-of, mips-top}
-use Rattle.set_storage.specs.Locate.{LocatedAt}
-use Rattle.set_storage.specs.declared.Located.{Located}
-use Rattle.texture_merge.specs.Ready.{lentPart, lent-fits, lent-layers, lent-tiled}
-use Rattle.texture_merge.specs.Walks.{MipWalk, walk-measured, walk-word}
+use Rattle.texture_mips.specs.{Learn.LearnRoom, Kept.{learn-room, tiles-within}}
+use Rattle.set_storage.specs.{declared.Located.Located, Storage.{numbersOf, startHalf, endHalf, mipsIn, mipOf, mipsOf, layersAt}}
+use Rattle.set_storage.specs.{Frames.{MipsBecome, half-of, mips-top}, Locate.LocatedAt}
+use Rattle.texture_merge.specs.{Ready.{lentPart, lent-fits, lent-layers, lent-tiled}, Walks.{MipWalk, walk-measured, walk-word}}
+use Rattle.texture_update.specs.{Both.{away-mip, tiled-low}, Learning.{PairTiled, BothReady, walk-learn}}
 use Rattle.texture_merge.proofs.Laps.{lap-tiled, lap-on, lap-end}
-use Rattle.texture_update.specs.Both.{away-mip, tiled-low}
-use Rattle.texture_update.specs.Learning.{PairTiled, BothReady, walk-learn}
 
 -- one mip: the room that the start's part needs
 pub lesson-room : {t s e : List ℕ} {i m : ℕ} → PairTiled t s e i m → {x y : Located} → LocatedAt t startHalf i m (length s) x → LocatedAt t endHalf i m (length e) y → (u new : ℕ) → LearnRoom (lentPart x s) (x .len) u new (decode (y .len) (lentPart y e))

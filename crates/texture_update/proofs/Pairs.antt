@@ -1,22 +1,12 @@
 -- An update of one mip of both halves: the run that was isolated is what the start learns by, and what is painted.
-use Prim.Native.Nat.{ℕ}
-use native.Mathlib.Omega.{arith}
-use mathlib.Core.Path.{_≡_, sym, ap, subst, _∙_}
-use mathlib.Core.List.{List, _++_, map}
-use lib.ListN.{drop, take-append-drop}
-use lib.Seq.{take-take}
-use Rattle.model.specs.declared.Range.{Range}
-use Rattle.model.specs.RangedStates.{inState, isolate}
-use Rattle.model.specs.Texture.{learn}
-use Rattle.range_states.specs.View.{view, decode, Becomes, becomes-none, becomes-live}
-use Rattle.range_states.specs.Coalescing.{Coalesced}
-use Rattle.range_isolate.specs.Isolation.{Isolating}
-use Rattle.range_isolate.specs.declared.isolation.Isolated.{Isolated}
-use Rattle.texture_mips.specs.Learn.{LearnRoom}
-use Rattle.texture_mips.specs.Paint.{Leaves}
+use Rattle.model.specs.Prelude.{ℕ, arith, _≡_, sym, ap, subst, _∙_, List, _++_, map, drop, take-append-drop, take-take}
+use Rattle.model.specs.{declared.Range.Range, RangedStates.{inState, isolate}, Texture.learn}
+use Rattle.range_states.specs.{View.{view, decode, Becomes, becomes-none, becomes-live}, Coalescing.Coalesced}
+use Rattle.range_isolate.specs.{declared.isolation.Isolated.Isolated, Isolation.Isolating}
+use Rattle.texture_mips.specs.{Learn.LearnRoom, Paint.Leaves}
+use Rattle.texture_update.specs.Pair.{PairLeft}
 use Rattle.texture_mips.proofs.Runs.{the-run}
 use Rattle.texture_mips.proofs.Painted.{paint-is, update-is}
-use Rattle.texture_update.specs.Pair.{PairLeft}
 
 module _ {a z u : ℕ} {e : List ℕ} {elen : ℕ} {i : Isolated} {e₁ : List ℕ} (is : Isolating e elen a z u i e₁) where
   -- what stands at the told place is the run

@@ -1,22 +1,11 @@
 -- One piece of another texture on both halves: what the code needs holds, and what it leaves is what the model's update gives.
-use Prim.Native.Nat.{ℕ, _+_}
-use mathlib.Core.Path.{_≡_, refl, sym, ap, subst, _∙_}
-use mathlib.Core.List.{List}
-use lib.ListN.{getD}
-use borrow.Author.Tests.{eq-eqb, ne-eqb}
-use Rattle.model.specs.declared.UsageFlags.{UsageFlags}
-use Rattle.model.specs.Sets.{Numbers}
-use Rattle.model.specs.Texture.{Held, many, Piece, learnAll, metBy}
+use Rattle.model.specs.Prelude.{ℕ, _+_, _≡_, refl, sym, ap, subst, _∙_, List, getD, eq-eqb, ne-eqb}
+use Rattle.model.specs.{declared.UsageFlags.UsageFlags, Sets.Numbers, Texture.{Held, many, Piece, learnAll, metBy}, BoolLaws.by-eq}
 use Rattle.set_storage.specs.Storage.{numbersOf, startHalf, endHalf, mipsOf, heldOf, endsOf, complexAt, layersAt, stateAt}
-use Rattle.set_storage.specs.Frames.{MipsBecome}
-use Rattle.set_storage.specs.Slots.{become-many, held-many, held-single}
-use Rattle.texture_merge.specs.Ready.{HalfTiled}
-use Rattle.texture_merge.specs.Giving.{many-ready}
-use Rattle.set_storage.specs.Stays.{both-refl}
-use Rattle.texture_update.specs.Both.{BothBecome, BothMips, mips-become, end-alone}
-use Rattle.texture_update.specs.Learning.{BothReady}
+use Rattle.set_storage.specs.{Frames.MipsBecome, Slots.{become-many, held-many, held-single}, Stays.both-refl}
+use Rattle.texture_merge.specs.{Ready.HalfTiled, Giving.many-ready}
+use Rattle.texture_update.specs.{Both.{BothBecome, BothMips, mips-become, end-alone}, Learning.BothReady}
 use Rattle.texture_update.specs.Pieces.{paintedBy, updated, HeldTiled, ManyTiled, PairReady}
-use Rattle.model.specs.BoolLaws.{by-eq}
 
 -- ---- a half that tiles its layers
 many-word : (d : Numbers) (h : ℕ) (t r : List ℕ) (i w : ℕ) → ManyTiled w (heldOf d h t r i) → getD t (h + i) 0 ≡ getD t complexAt 0

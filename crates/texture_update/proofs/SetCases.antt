@@ -1,32 +1,16 @@
 -- `update` from a texture of another set, case by case: what the code leaves is what the model's update gives.
-use Prim.Native.Nat.{ℕ, suc, _+_}
-use native.Mathlib.Omega.{arith}
-use mathlib.Core.Path.{_≡_, sym, ap, subst, _∙_}
-use mathlib.Core.List.{List, [], _∷_}
-use lib.ListN.{getD, set, replicate}
-use Rattle.model.specs.declared.UsageFlags.{UsageFlags}
-use Rattle.model.specs.declared.Extent.{Extent}
-use Rattle.model.specs.declared.Range.{Range}
-use Rattle.model.specs.declared.InvalidUse.{InvalidUse}
-use Rattle.model.specs.Base.{Stop, passes}
-use Rattle.model.specs.Representation.{Ends}
-use Rattle.model.specs.RangedStates.{range}
-use Rattle.model.specs.Texture.{Held, single, Given, givenSingle, piecesOf, fromHeld, spreadEnd, update}
-use Rattle.set_storage.specs.Storage.{numbersOf, startHalf, endHalf, mipsOf, heldOf, endsOf, layersAt, stateAt}
-use Rattle.set_storage.specs.Frames.{MipsBecome}
-use Rattle.texture_merge.specs.declared.Stopped.{Stopped}
-use Rattle.texture_merge.specs.declared.Doing.the-variants.{Cover}
-use Rattle.texture_merge.specs.Walks.{MipsWalked}
-use Rattle.texture_merge.specs.Ready.{ManyReady}
-use Rattle.texture_merge.specs.Giving.{taken, covers, GivenTexture, many-tiled}
-use Rattle.texture_merge.specs.FromSet.{given-state, given-pieces, given-many}
-use Rattle.texture_merge.proofs.Breaking.{break-many, break-texture, break-then}
-use Rattle.texture_update.specs.Both.{BothBecome}
-use Rattle.texture_update.specs.Update.{UpdateReady, start-many, end-many}
+use Rattle.model.specs.Prelude.{ℕ, suc, _+_, arith, _≡_, sym, ap, subst, _∙_, List, [], _∷_, getD, set, replicate}
+use Rattle.model.specs.{declared.{UsageFlags.UsageFlags, Extent.Extent, Range.Range, InvalidUse.InvalidUse}, Base.{Stop, passes}}
+use Rattle.model.specs.{Representation.Ends, RangedStates.range}
+use Rattle.model.specs.{Texture.{Held, single, Given, givenSingle, piecesOf, fromHeld, spreadEnd, update}, BoolLaws.by-eq}
+use Rattle.set_storage.specs.{Storage.{numbersOf, startHalf, endHalf, mipsOf, heldOf, endsOf, layersAt, stateAt}, Frames.MipsBecome}
+use Rattle.texture_merge.specs.{declared.Stopped.Stopped, declared.Doing.the-variants.Cover, Walks.MipsWalked, Ready.ManyReady}
+use Rattle.texture_merge.specs.{Giving.{taken, covers, GivenTexture, many-tiled}, FromSet.{given-state, given-pieces, given-many}}
+use Rattle.texture_update.specs.{Both.BothBecome, Update.{UpdateReady, start-many, end-many}}
 use Rattle.texture_update.specs.Pieces.{updates, HeldTiled, ManyTiled, PairReady}
 use Rattle.texture_update.specs.FromSet.{UpdateFromReady, from-use, pieces-single, pieces-many}
+use Rattle.texture_merge.proofs.Breaking.{break-many, break-texture, break-then}
 use Rattle.texture_update.proofs.Cases as cases
-use Rattle.model.specs.BoolLaws.{by-eq}
 
 module _ {t s e : List ℕ} {i : ℕ} {sh : Extent} {from : ℕ} {t₂ r₂ : List ℕ} {p : UsageFlags} (x : UpdateFromReady t s e i sh from t₂ r₂ p) where
   abbrev gs : List (List Range)

@@ -1,30 +1,17 @@
 -- The loops over the ranges of a given mip, and over the given mips, on both halves: what each lap needs, and where it leaves the storage.
-use Prim.Native.Nat.{ℕ, suc, _+_, _≤_, _<_}
-use native.Mathlib.Omega.{arith}
-use native.Mathlib.Numerals.{add-one}
-use mathlib.Core.Path.{_≡_, refl, sym, ap, subst, _∙_}
-use mathlib.Core.List.{List, [], _∷_, map}
-use lib.ListN.{length, getD, drop}
-use Rattle.model.specs.declared.UsageFlags.{UsageFlags}
-use Rattle.model.specs.declared.Range.{Range}
-use Rattle.model.specs.Sets.{Numbers}
-use Rattle.model.specs.Representation.{Ends, select}
-use Rattle.model.specs.RangedStates.{Tiles}
-use Rattle.model.specs.Texture.{Held, piecesOf}
+use Rattle.model.specs.Prelude.{ℕ, suc, _+_, _≤_, _<_, add-one, arith, _≡_, refl, sym, ap, subst, _∙_, List, [], _∷_, map, length, getD}
+use Rattle.model.specs.Prelude.{drop}
+use Rattle.model.specs.{declared.{UsageFlags.UsageFlags, Range.Range}, Sets.Numbers, Representation.{Ends, select}, RangedStates.Tiles}
+use Rattle.model.specs.{Texture.{Held, piecesOf}, RangeLaws.tiles-le}
 use Rattle.range_states.specs.View.{view, blank, decode}
-use Rattle.set_storage.specs.Storage.{numbersOf, startHalf, endHalf, mipsOf, endsOf, layersAt}
-use Rattle.set_storage.specs.Frames.{Measured, mips-top}
-use Rattle.set_storage.specs.Locate.{LocatedAt}
 use Rattle.set_storage.specs.declared.Located.{Located}
-use Rattle.texture_merge.specs.Ready.{Selects, lentPart}
-use Rattle.texture_merge.specs.Giving.{pieceOn, piecesFrom, GivenMip, GivenTexture}
-use Rattle.texture_merge.proofs.Given.{SameTexture, same-texture, range-none, range-next, range-inside, range-within, mips-none, mip-next, mip-within}
-use Rattle.set_storage.specs.Stays.{BothFrame, both-refl, both-then}
+use Rattle.set_storage.specs.Storage.{numbersOf, startHalf, endHalf, mipsOf, endsOf, layersAt, layerLimitAt, texturesAt}
+use Rattle.set_storage.specs.{Frames.{Measured, mips-top}, Locate.LocatedAt, Stays.{BothFrame, both-refl, both-then}}
 use Rattle.set_storage.specs.Texture.{measured-low, numbers-low, flags-low}
+use Rattle.texture_merge.specs.{Ready.{Selects, lentPart}, Giving.{pieceOn, piecesFrom, GivenMip, GivenTexture}}
 use Rattle.texture_update.specs.Both.{BothBecome, low-of}
 use Rattle.texture_update.specs.Pieces.{updated, updates, updates-append, EndsTiled, updated-tiled, PairReady}
-use Rattle.model.specs.RangeLaws.{tiles-le}
-use Rattle.set_storage.specs.Storage.{layerLimitAt, texturesAt}
+use Rattle.texture_merge.proofs.Given.{SameTexture, same-texture, range-none, range-next, range-inside, range-within, mips-none, mip-next, mip-within}
 
 -- ---- The storage on the way: `left` is what is still to be done
 pub record Taking (i : ℕ) (p : UsageFlags) (goal : Ends Held) (t₀ s₀ e₀ : List ℕ) (left : Ends Held → Ends Held) (t s e : List ℕ) : Type 0 where

@@ -1,38 +1,21 @@
 -- Both halves change, mip by mip: what each step needs holds, and what it leaves is the next place of the loop.
-use Prim.Native.Nat.{ℕ, _+_, _-_, _≤_, _<_}
-use native.Mathlib.Omega.{arith}
-use mathlib.Core.Path.{_≡_, refl, ap, subst, _∙_}
-use mathlib.Core.Logic.{inl}
-use mathlib.Core.Bool.{Bool, true, false, _&&_}
-use mathlib.Core.List.{List, []}
-use lib.Dec.{leb}
-use lib.ListN.{length, getD, set}
-use borrow.Author.Tests.{le-leb, lt-leb, lt-ltb, le-ltb}
-use Rattle.model.specs.declared.Range.{Range}
-use Rattle.model.specs.declared.Selector.{Selector}
-use Rattle.model.specs.declared.InvalidUse.{InvalidUse}
-use Rattle.model.specs.Base.{Stop, fine}
-use Rattle.model.specs.Sets.{Numbers}
-use Rattle.model.specs.Representation.{mipStart, mipEnd, layerStart, layerEnd, inMips}
-use Rattle.model.specs.RangedStates.{isolate, coalesce, paint}
-use Rattle.model.specs.Texture.{learn, learnAll, metBy, onMips}
-use Rattle.model.specs.RangeLaws.{isolate-cuts}
+use Rattle.model.specs.Prelude.{ℕ, _+_, _-_, _≤_, _<_, arith, _≡_, refl, ap, subst, _∙_, inl, Bool, true, false, _&&_, List, [], leb}
+use Rattle.model.specs.Prelude.{length, getD, set, le-leb, lt-leb, lt-ltb, le-ltb}
+use Rattle.model.specs.{declared.{Range.Range, Selector.Selector, InvalidUse.InvalidUse}, Base.{Stop, fine}, Sets.Numbers}
+use Rattle.model.specs.{Representation.{mipStart, mipEnd, layerStart, layerEnd, inMips}, RangedStates.{isolate, coalesce, paint}}
+use Rattle.model.specs.{Texture.{learn, learnAll, metBy, onMips}, RangeLaws.isolate-cuts}
 use Rattle.range_states.specs.View.{decode}
 use Rattle.range_isolate.specs.Isolation.{IsolateRoom}
-use Rattle.texture_mips.specs.Learn.{LearnRoom}
-use Rattle.texture_mips.specs.Kept.{learn-room, tiles-within}
-use Rattle.set_storage.specs.Storage.{numbersOf, startHalf, endHalf, countAt, mipsIn, mipOf, mipsOf, layersAt, mipsAt, stateAt}
-use Rattle.set_storage.specs.Frames.{MipReady, MipsBecome, half-of, mip-put, mips-long, mips-same, mips-top}
-use Rattle.set_storage.specs.Slots.{half-low}
-use Rattle.set_storage.specs.Locate.{LocatedAt}
+use Rattle.texture_mips.specs.{Learn.LearnRoom, Kept.{learn-room, tiles-within}}
 use Rattle.set_storage.specs.declared.Located.{Located}
-use Rattle.texture_merge.specs.Ready.{Selects, lentPart, putBack, mip-left, part-long, lent-is, lent-fits, lent-layers, lent-tiled, lent-room}
+use Rattle.set_storage.specs.Storage.{numbersOf, startHalf, endHalf, countAt, mipsIn, mipOf, mipsOf, layersAt, mipsAt, stateAt}
+use Rattle.set_storage.specs.{Frames.{MipReady, MipsBecome, half-of, mip-put, mips-long, mips-same, mips-top}, Slots.half-low}
+use Rattle.set_storage.specs.{Locate.LocatedAt, Stays.{BothFrame, both-refl, both-then}, Texture.{measured-low, numbers-low}}
+use Rattle.texture_merge.specs.Ready.{Selects, lentPart, putBack, mip-left, part-long, lent-is, lent-fits, lent-layers, lent-tiled}
+use Rattle.texture_merge.specs.Ready.{lent-room}
 use Rattle.texture_merge.specs.Walking.{InPlace, place-skip, walk-rest, walk-end, among, among-under, among-over, walk-edits}
 use Rattle.texture_merge.specs.Walks.{next-mip, next-turn}
-use Rattle.texture_update.specs.declared.pair.Both.{Both}
-use Rattle.texture_update.specs.Pair.{PairLeft}
-use Rattle.set_storage.specs.Stays.{BothFrame, both-refl, both-then}
-use Rattle.set_storage.specs.Texture.{measured-low, numbers-low}
+use Rattle.texture_update.specs.{declared.pair.Both.Both, Pair.PairLeft}
 use Rattle.texture_update.specs.Both.{BothMips, low-of, tiled-low, away-mips, mips-then-mips}
 use Rattle.texture_update.specs.Learning.{PairTiled, BothReady, walk-learn}
 

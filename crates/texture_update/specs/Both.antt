@@ -1,21 +1,12 @@
 -- A change of both halves of one texture of a tracker: what it leaves as it was, and how changes follow one another.
-use Prim.Native.Nat.{ℕ, _+_, _≤_, _<_}
-use native.Mathlib.Omega.{arith}
-use mathlib.Core.Path.{_≡_, refl, sym, subst, _∙_}
-use mathlib.Core.Logic.{_⊎_, inl, inr}
-use mathlib.Core.List.{List}
-use lib.ListN.{length, getD}
-use Rattle.model.specs.declared.Range.{Range}
-use Rattle.model.specs.Sets.{Numbers}
-use Rattle.model.specs.Representation.{Ends}
-use Rattle.model.specs.RangedStates.{Tiles}
-use Rattle.model.specs.Texture.{Held, many}
+use Rattle.model.specs.Prelude.{ℕ, _+_, _≤_, _<_, arith, _≡_, refl, sym, subst, _∙_, _⊎_, inl, inr, List, length, getD}
+use Rattle.model.specs.{declared.Range.Range, Sets.Numbers, Representation.Ends, RangedStates.Tiles, Texture.{Held, many}}
 use Rattle.set_storage.specs.Lists.{list-ext}
-use Rattle.set_storage.specs.Storage.{halfLength, numbersOf, startHalf, endHalf, countAt, mipOf, mipsIn, mipsOf, heldOf, endsOf, complexAt, layersAt, mipsAt, stateAt}
+use Rattle.set_storage.specs.Storage.{halfLength, numbersOf, startHalf, endHalf, countAt, mipOf, mipsIn, mipsOf, heldOf, endsOf, complexAt}
+use Rattle.set_storage.specs.Storage.{layersAt, mipsAt, stateAt}
 use Rattle.set_storage.specs.Stays.{HalfFrame, BothFrame, stays-refl, stays-at, stays-more, both-then}
 use Rattle.set_storage.specs.Frames.{Measured, MipsBecome, frame-below, frame-above, half-of, half-below, half-above, mips-top, mips-same}
-use Rattle.set_storage.specs.Slots.{HalfBecomes, mip-ext, half-low, half-away, held-many}
-use Rattle.set_storage.specs.Texture.{measured-low}
+use Rattle.set_storage.specs.{Slots.{HalfBecomes, mip-ext, half-low, half-away, held-many}, Texture.measured-low}
 use Rattle.texture_merge.specs.Ready.{MipTiled, ManyReady}
 
 -- ---- Only the states, the counts and the ranges of texture i may differ: a change of one half

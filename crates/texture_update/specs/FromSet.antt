@@ -1,16 +1,10 @@
 -- `update` from a texture of another set: what is asked for, and the model's update by pieces, case by case.
-use Prim.Native.Nat.{ℕ}
-use mathlib.Core.Path.{_≡_, refl, sym}
-use mathlib.Core.List.{List}
-use Rattle.model.specs.declared.UsageFlags.{UsageFlags}
-use Rattle.model.specs.declared.Extent.{Extent}
-use Rattle.model.specs.declared.Range.{Range}
+use Rattle.model.specs.Prelude.{ℕ, _≡_, refl, sym, List}
+use Rattle.model.specs.declared.{UsageFlags.UsageFlags, Extent.Extent, Range.Range}
 use Rattle.model.specs.Texture.{Held, single, many, givenMany, Piece, freshMips, spreadEnd, update}
-use Rattle.set_storage.specs.Storage.{numbersOf, flagsOf, startHalf, endHalf}
-use Rattle.set_storage.specs.Texture.{TextureHeld}
+use Rattle.set_storage.specs.{Storage.{numbersOf, flagsOf, startHalf, endHalf}, Texture.TextureHeld}
 use Rattle.texture_merge.specs.FromSet.{GivenReady}
-use Rattle.texture_update.specs.Update.{UpdateReady}
-use Rattle.texture_update.specs.Pieces.{updates, updates-are}
+use Rattle.texture_update.specs.{Update.UpdateReady, Pieces.{updates, updates-are}}
 
 -- texture i of a tracker, with the extent that it has in the given set
 pub record UpdateFromReady (t s e : List ℕ) (i : ℕ) (sh : Extent) (from : ℕ) (t₂ r₂ : List ℕ) (p : UsageFlags) : Type 0 where

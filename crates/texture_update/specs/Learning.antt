@@ -1,11 +1,6 @@
 -- Every mip of the start learns from the end's: what the code needs, and the model's `learnAll` as a walk.
-use Prim.Native.Nat.{ℕ, zero, suc}
-use mathlib.Core.Path.{_≡_, refl}
-use mathlib.Core.List.{List}
-use lib.ListN.{getD}
-use Rattle.model.specs.declared.Range.{Range}
-use Rattle.model.specs.Base.{fine, walk}
-use Rattle.model.specs.Texture.{learn, learnAll}
+use Rattle.model.specs.Prelude.{ℕ, zero, suc, _≡_, refl, List, getD}
+use Rattle.model.specs.{declared.Range.Range, Base.{fine, walk}, Texture.{learn, learnAll}}
 use Rattle.set_storage.specs.Storage.{numbersOf, startHalf, endHalf, listFrom, layersAt}
 use Rattle.texture_merge.specs.Ready.{MipTiled, HalfTiled}
 

@@ -1,8 +1,6 @@
 -- The contract of an update of one mip of both halves, as two parts.
-use Prim.Native.Nat.{ℕ}
-use mathlib.Core.List.{List}
-use Rattle.model.specs.RangedStates.{isolate, paint, coalesce}
-use Rattle.model.specs.Texture.{learn}
+use Rattle.model.specs.Prelude.{ℕ, List}
+use Rattle.model.specs.{RangedStates.{isolate, paint, coalesce}, Texture.learn}
 use Rattle.range_states.specs.View.{decode}
 use Rattle.texture_mips.specs.Paint.{Leaves}
 use Rattle.texture_update.specs.declared.pair.Both.{Both}

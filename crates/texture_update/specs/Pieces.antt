@@ -1,24 +1,12 @@
 -- The pieces of another texture, one after another, on a texture whose end is Many: the model's `updateAll`, and that tiling is kept.
-use Prim.Native.Nat.{ℕ, suc, _+_, _≤_, _<_}
-use native.Mathlib.Omega.{arith}
-use mathlib.Core.Path.{_≡_, refl}
-use mathlib.Core.Bool.{Bool, true, false}
-use mathlib.Core.List.{List, [], _∷_, _++_}
-use lib.Dec.{eqb}
-use lib.ListN.{getD}
-use Rattle.model.specs.declared.UsageFlags.{UsageFlags}
-use Rattle.model.specs.declared.Range.{Range}
-use Rattle.model.specs.Base.{if_then_else_}
-use Rattle.model.specs.Representation.{Ends, layerStart, layerEnd, inMips}
-use Rattle.model.specs.RangedStates.{isolate, Tiles}
-use Rattle.model.specs.Texture.{Held, single, many, Piece, learnAll, learnHeld, metBy, updateAll}
-use Rattle.model.specs.BoolLaws.{by-test}
+use Rattle.model.specs.Prelude.{ℕ, suc, _+_, _≤_, _<_, arith, _≡_, refl, Bool, true, false, List, [], _∷_, _++_, eqb, getD}
+use Rattle.model.specs.{declared.{UsageFlags.UsageFlags, Range.Range}, Base.if_then_else_}
+use Rattle.model.specs.{Representation.{Ends, layerStart, layerEnd, inMips}, RangedStates.{isolate, Tiles}}
+use Rattle.model.specs.{Texture.{Held, single, many, Piece, learnAll, learnHeld, metBy, updateAll}, BoolLaws.by-test}
 use Rattle.model.specs.RangeLaws.{isolate-cuts}
 use Rattle.texture_mips.specs.Kept.{Within, learn-tiles, tiles-within, update-tiles}
-use Rattle.set_storage.specs.Storage.{numbersOf, flagsOf, startHalf, endHalf, endsOf, layerLimitAt, layersAt, texturesAt}
-use Rattle.set_storage.specs.Frames.{Measured}
-use Rattle.texture_merge.specs.Ready.{updatedMips}
-use Rattle.texture_merge.specs.Giving.{Tiled, on-tiled}
+use Rattle.set_storage.specs.{Storage.{numbersOf, flagsOf, startHalf, endHalf, endsOf, layerLimitAt, layersAt, texturesAt}, Frames.Measured}
+use Rattle.texture_merge.specs.{Ready.updatedMips, Giving.{Tiled, on-tiled}}
 
 -- ---- What one piece does
 -- to the end's mips

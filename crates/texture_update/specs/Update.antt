@@ -1,19 +1,9 @@
 -- `update` of one texture of a tracker: what the code needs, and the model's `update` of one use, case by case.
-use Prim.Native.Nat.{ℕ}
-use mathlib.Core.Path.{_≡_, refl, ap, _∙_}
-use mathlib.Core.Bool.{false, false≢true}
-use mathlib.Core.List.{List}
-use lib.ListN.{getD}
-use borrow.Author.Tests.{ne-eqb}
-use Rattle.model.specs.declared.UsageFlags.{UsageFlags}
-use Rattle.model.specs.declared.Extent.{Extent}
-use Rattle.model.specs.declared.Selector.{Selector}
-use Rattle.model.specs.declared.Range.{Range}
+use Rattle.model.specs.Prelude.{ℕ, _≡_, refl, ap, _∙_, false, false≢true, List, getD, ne-eqb}
+use Rattle.model.specs.declared.{UsageFlags.UsageFlags, Extent.Extent, Selector.Selector, Range.Range}
 use Rattle.model.specs.Texture.{Held, single, many, givenSingle, learnAll, metBy, spreadEnd, updateAll, update}
-use Rattle.set_storage.specs.Storage.{numbersOf, flagsOf, startHalf, endHalf, complexAt, stateAt}
-use Rattle.set_storage.specs.Texture.{TextureHeld, SelectorWithin}
-use Rattle.texture_merge.specs.Ready.{updatedMips, HalfTiled, many-of}
-use Rattle.texture_merge.specs.Uses.{useOf, UseReady, brokenUp}
+use Rattle.set_storage.specs.{Storage.{numbersOf, flagsOf, startHalf, endHalf, complexAt, stateAt}, Texture.{TextureHeld, SelectorWithin}}
+use Rattle.texture_merge.specs.{Ready.{updatedMips, HalfTiled, many-of}, Uses.{useOf, UseReady, brokenUp}}
 use Rattle.texture_update.specs.Learning.{BothReady}
 
 -- ---- What the checks and the test of the set have shown

@@ -1,25 +1,12 @@
 -- What else is proved of every trace of the public calls' contracts (Demand3 has demand 3): each claim is a statement with the name of its proof.
-use mathlib.Core.Bool.{false}
-use mathlib.Core.List.{List, [], _∷_, _++_, map}
-use mathlib.Core.Logic.{_↔_}
-use mathlib.Core.Option.{Option, some}
-use mathlib.Core.Path.{_≡_}
-use Prim.Native.Nat.{ℕ}
-use lib.ListN.{getElem?}
-use Rattle.model.specs.declared.Extent.{Extent}
-use Rattle.model.specs.declared.Selector.{Selector}
-use Rattle.model.specs.declared.TrackerIndex.{TrackerIndex}
-use Rattle.model.specs.Sets.{Set}
-use Rattle.model.specs.Calls.{callMergeSingle, newly}
-use Rattle.model.specs.Texture.{ranged}
-use Rattle.model.specs.Log.{isRefused}
-use Rattle.agreement.specs.Shared.{afterCalls}
-use Rattle.agreement.specs.WebGpu.{Usage, Renders, Histories, histories, InConflict, GivenUsage, NotCompatible}
+use Rattle.model.specs.Prelude.{ℕ, _≡_, _↔_, false, Option, some, List, [], _∷_, _++_, map, getElem?}
+use Rattle.model.specs.{declared.{Extent.Extent, Selector.Selector, TrackerIndex.TrackerIndex}, Sets.Set, Calls.{callMergeSingle, newly}}
+use Rattle.model.specs.{Texture.ranged, Log.isRefused, Base.All}
+use Rattle.agreement.specs.{Shared.afterCalls, WebGpu.{Usage, Renders, Histories, histories, InConflict, GivenUsage, NotCompatible}}
 use Rattle.set_storage.specs.Lent.{LentScope, scopeIn}
-use Rattle.track.specs.Trace.{Lent, viewOf, Ready, ScopeOpening, TrackerOpening, scopeAsked, trackerAsked, openedSets, Step, Trace, callsOf, setsAfter, seenOutcome, ModelAlong}
-use Rattle.track.specs.TraceLaws.{trace-runs, model-runs}
+use Rattle.track.specs.Trace.{Lent, viewOf, Ready, ScopeOpening, TrackerOpening, scopeAsked, trackerAsked, openedSets, Step, Trace}
+use Rattle.track.specs.{Trace.{callsOf, setsAfter, seenOutcome, ModelAlong}, TraceLaws.{trace-runs, model-runs}}
 use Rattle.track.specs.UsageLaws.{trace-judged}
-use Rattle.model.specs.Base.{All}
 
 -- ---- The ranged model's run of the same calls: each step is its call, and at the end the numbers hold its sets
 -- "the port gives what the Rust gives: every strip range by range, start and end states, clashes, and pending transitions in their order", the Rust on lists

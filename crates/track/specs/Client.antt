@@ -1,17 +1,9 @@
 -- What the client in code (src/client.rt) shows: its second call, as a step of a trace, shares with the grid's run what demand 3 lists.
-use mathlib.Core.List.{List, [], _∷_}
-use mathlib.Core.Option.{Option}
-use Prim.Native.Nat.{ℕ}
-use Rattle.model.specs.declared.Extent.{Extent}
-use Rattle.model.specs.declared.Selector.{Selector}
-use Rattle.model.specs.declared.TrackerIndex.{TrackerIndex}
-use Rattle.model.specs.declared.UsageFlags.{UsageFlags}
-use Rattle.model.specs.Calls.{CallResult, Call, callSetSingle, Sets, step, newly}
-use Rattle.model.specs.Sets.{Opening}
-use Rattle.model.specs.StateRules.{Move}
+use Rattle.model.specs.Prelude.{ℕ, Option, List, [], _∷_}
+use Rattle.model.specs.declared.{Extent.Extent, Selector.Selector, TrackerIndex.TrackerIndex, UsageFlags.UsageFlags, Answered.Answered}
+use Rattle.model.specs.{Calls.{CallResult, Call, callSetSingle, Sets, step, newly}, Sets.Opening, StateRules.Move}
 use Rattle.agreement.specs.Grid.{SubresourceConflict, grid}
 use Rattle.call_open.specs.Open.{asked}
-use Rattle.model.specs.declared.Answered.{Answered}
 use Rattle.track.specs.Trace.{Step}
 
 -- 01's bench samples: their flags, and a tracker of 1 texture, 2 mips and 4 layers

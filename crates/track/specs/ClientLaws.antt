@@ -1,45 +1,22 @@
 -- The client's calls are a trace: newly opened, the log emptied before each of two calls, with a free entry for every subresource.
-use mathlib.Core.Bool.{Bool, true, false}
-use mathlib.Core.List.{List, [], _∷_}
-use mathlib.Core.Option.{Option, none, some}
-use mathlib.Core.Path.{_≡_, refl, sym, ap, subst, _∙_}
-use Prim.Native.Nat.{ℕ, _+_, _-_, _/_, _≤_, min}
-use native.Mathlib.Nat.{le-trans, le-min}
-use native.Mathlib.Omega.{arith}
-use lib.Dec.{ltb}
-use lib.ListN.{length}
-use borrow.Author.Tests.{le-ltb, ltb-false}
-use Rattle.model.specs.declared.Extent.{Extent}
-use Rattle.model.specs.declared.InvalidUse.{InvalidUse}
-use Rattle.model.specs.declared.LogHead.{LogHead}
-use Rattle.model.specs.declared.Outcome.{Outcome}
-use Rattle.model.specs.declared.Refusal.{Refusal}
+use Rattle.model.specs.Prelude.{ℕ, _+_, _-_, _/_, _≤_, min, le-trans, le-min, arith, _≡_, refl, sym, ap, subst, _∙_, Bool, true, false}
+use Rattle.model.specs.Prelude.{Option, none, some, List, [], _∷_, ltb, length, le-ltb, ltb-false}
 use Rattle.model.specs.declared.Refusal.the-variants.{NoFreeEntry}
-use Rattle.model.specs.declared.Selector.{Selector}
-use Rattle.model.specs.declared.TrackerIndex.{TrackerIndex}
-use Rattle.model.specs.Base.{if_then_else_}
-use Rattle.model.specs.Flags.{flagsFit}
-use Rattle.model.specs.Sets.{Numbers, Tracker, capacity}
-use Rattle.model.specs.Refusals.{firstFailing, openingRefusal, opens}
+use Rattle.model.specs.declared.{Extent.Extent, InvalidUse.InvalidUse, LogHead.LogHead, Outcome.Outcome, Refusal.Refusal, Selector.Selector}
+use Rattle.model.specs.{declared.{TrackerIndex.TrackerIndex, Answered.Answered}, Base.if_then_else_, Flags.flagsFit}
+use Rattle.model.specs.{Sets.{Numbers, Tracker, capacity}, Refusals.{firstFailing, openingRefusal, opens}}
 use Rattle.model.specs.Calls.{Answer, done, refused, inConflict, CallResult, Call, callSetSingle, setSingle}
 use Rattle.model.specs.Texture.{Held, Entry, ranged}
 use Rattle.model.specs.Log.{Log, Logged, pending, logging, unlessLogged, refusalOf, orNext, setsCheck, headCheck, freeCheck}
-use Rattle.set_storage.specs.Storage.{numbersOf, trackerOf, texturesAt, mipLimitAt, layerLimitAt}
-use Rattle.set_storage.specs.Slots.{tracker-head}
-use Rattle.texture_barrier.specs.Entries.{entriesOf, entries-long}
-use Rattle.agreement.specs.WellFormedSets.{Word}
-use Rattle.agreement.specs.LogBound.{capacityOf, ownedOf}
-use Rattle.agreement.specs.Claims.{owned-within}
-use Rattle.call_open.specs.Open.{OpenedTracker}
-use Rattle.model.specs.declared.Answered.{Answered}
-use Rattle.track.specs.Trace.{Lent, viewOf, Ready, TrackerOpening, trackerAsked, openedSets, Step, Meets, Trace, SharedAt}
-use Rattle.track.specs.LogLaws.{emptied-head}
-use Rattle.track.specs.OpenedLaws.{tracker-done, opened-ready}
-use Rattle.track.specs.TraceLaws.{ready-after, ready-fits}
-use Rattle.track.specs.Demand3.{demand3}
-use Rattle.track.specs.Client.{clientFlags, clientAsked, clientRun, clientStep}
-use Rattle.log_head.specs.Log.{logOf, Emptying}
+use Rattle.set_storage.specs.{Storage.{numbersOf, trackerOf, texturesAt, mipLimitAt, layerLimitAt}, Slots.tracker-head}
 use Rattle.set_storage.specs.Lent.{LentTracker, trackerIn, trackerTest}
+use Rattle.texture_barrier.specs.Entries.{entriesOf, entries-long}
+use Rattle.agreement.specs.{WellFormedSets.Word, LogBound.{capacityOf, ownedOf}, Claims.owned-within}
+use Rattle.call_open.specs.Open.{OpenedTracker}
+use Rattle.track.specs.Trace.{Lent, viewOf, Ready, TrackerOpening, trackerAsked, openedSets, Step, Meets, Trace, SharedAt}
+use Rattle.track.specs.{LogLaws.emptied-head, OpenedLaws.{tracker-done, opened-ready}, TraceLaws.{ready-after, ready-fits}}
+use Rattle.track.specs.{Demand3.demand3, Client.{clientFlags, clientAsked, clientRun, clientStep}}
+use Rattle.log_head.specs.Log.{logOf, Emptying}
 use Rattle.call_set.specs.Contract.{SetSingle}
 
 -- ---- A call that logs moves the head on: written and free stay the same together

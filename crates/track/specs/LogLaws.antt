@@ -1,32 +1,14 @@
 -- The log of a step: emptied, it fits and is empty; a call of the model then runs as if there were no log; and its entries tell the model's transitions.
-use mathlib.Core.Bool.{Bool, true, false, _&&_}
-use mathlib.Core.List.{List, [], _∷_, _++_, append-assoc}
-use mathlib.Core.Option.{Option, none, some}
-use mathlib.Core.Path.{_≡_, refl, ap, _∙_}
-use Prim.Native.Nat.{ℕ, _+_, _≤_}
-use native.Mathlib.Nat.{zero-add}
-use native.Mathlib.Omega.{arith}
-use lib.Dec.{eqb}
-use lib.ListN.{length, take}
-use borrow.Author.Tests.{le-ltb}
-use Rattle.model.specs.declared.InvalidUse.{InvalidUse}
-use Rattle.model.specs.declared.LogHead.{LogHead}
+use Rattle.model.specs.Prelude.{ℕ, _+_, _≤_, zero-add, arith, _≡_, refl, ap, _∙_, Bool, true, false, _&&_, Option, none, some, List, []}
+use Rattle.model.specs.Prelude.{_∷_, _++_, append-assoc, eqb, length, take, le-ltb}
 use Rattle.model.specs.declared.Outcome.the-variants.{Done}
-use Rattle.model.specs.declared.PendingTransition.{PendingTransition}
-use Rattle.model.specs.declared.Refusal.{Refusal}
-use Rattle.model.specs.Base.{if_then_else_}
-use Rattle.model.specs.Representation.{holds}
-use Rattle.model.specs.Refusals.{firstFailing}
-use Rattle.model.specs.Calls.{Indexed, done, CallResult, unless}
-use Rattle.model.specs.StateRules.{Move}
-use Rattle.model.specs.Texture.{Entry}
+use Rattle.model.specs.declared.{InvalidUse.InvalidUse, LogHead.LogHead, PendingTransition.PendingTransition, Refusal.Refusal}
+use Rattle.model.specs.{declared.Answered.Answered, Base.if_then_else_, Representation.holds, Refusals.firstFailing}
+use Rattle.model.specs.{Calls.{Indexed, done, CallResult, unless}, StateRules.Move, Texture.Entry}
 use Rattle.model.specs.Log.{Log, Logged, pendingOf, pending, headCheck, emptied, emptying, logging, outcomeOf}
 use Rattle.texture_barrier.specs.Entries.{entriesOf}
-use Rattle.model.specs.declared.Answered.{Answered}
 use Rattle.log_head.specs.Log.{logOf, Logs}
-use Rattle.agreement.specs.Shared.{entriesAt, loggedAt}
-use Rattle.agreement.specs.LogBound.{entries}
-use Rattle.agreement.specs.LogRoom.{entries-written}
+use Rattle.agreement.specs.{Shared.{entriesAt, loggedAt}, LogBound.entries, LogRoom.entries-written}
 use Rattle.track.specs.Trace.{transitionsAt}
 
 -- ---- Emptying

@@ -1,24 +1,10 @@
 -- Newly opened storage: its view is the model's newly opened sets, and every set in it is well formed with the room that is lent for it.
-use mathlib.Core.Bool.{Bool, true, false, not, false≢true}
-use mathlib.Core.List.{List, [], _∷_, _++_, map}
-use mathlib.Core.Option.{Option, none, some}
-use mathlib.Core.Path.{_≡_, refl, sym, ap, _∙_}
-use Prim.Native.Nat.{_/_, _≤_}
-use native.Mathlib.Nat.{le-trans, min-le-left, min-le-right}
-use lib.ListN.{length}
-use borrow.Author.Tests.{ltb-false, le-leb}
-use Rattle.model.specs.declared.Refusal.{Refusal}
-use Rattle.model.specs.declared.Refusal.the-variants.{NumbersOutOfLimits, FlagsBreakRule, ShortRoom}
-use Rattle.model.specs.Base.{if_then_else_, each, All}
-use Rattle.model.specs.Flags.{flagsFit}
-use Rattle.model.specs.Sets.{Opening, openSet, openTracker, numbersFit, capacity}
-use Rattle.model.specs.Refusals.{firstFailing, openingRefusal, accepted, opens}
-use Rattle.model.specs.Calls.{newly}
-use Rattle.model.specs.Texture.{single, ranged}
-use Rattle.model.specs.WellFormed.{scopeFits, trackerFits}
-use Rattle.model.specs.Log.{verdict}
-use Rattle.model.specs.ListLaws.{all-join}
-use Rattle.model.specs.BoolLaws.{by-test, by-test₂, both, and-left}
+use Rattle.model.specs.Prelude.{_/_, _≤_, le-trans, min-le-left, min-le-right, _≡_, refl, sym, ap, _∙_, Bool, true, false, not, false≢true}
+use Rattle.model.specs.Prelude.{Option, none, some, List, [], _∷_, _++_, map, length, ltb-false, le-leb}
+use Rattle.model.specs.{declared.Refusal.Refusal, declared.Refusal.the-variants.{NumbersOutOfLimits, FlagsBreakRule, ShortRoom}}
+use Rattle.model.specs.{Base.{if_then_else_, each, All}, Flags.flagsFit, Sets.{Opening, openSet, openTracker, numbersFit, capacity}}
+use Rattle.model.specs.{Refusals.{firstFailing, openingRefusal, accepted, opens}, Calls.newly, Texture.{single, ranged}}
+use Rattle.model.specs.{WellFormed.{scopeFits, trackerFits}, Log.verdict, ListLaws.all-join, BoolLaws.{by-test, by-test₂, both, and-left}}
 use Rattle.agreement.specs.CallsAgree.{opened-fits}
 use Rattle.set_storage.specs.Lent.{LentScope, LentTracker, scopeIn, trackerIn, scopeTest, trackerTest}
 use Rattle.track.specs.Trace.{viewOf, Ready, ScopeOpening, TrackerOpening, scopeAsked, trackerAsked, isDone, openedSets}

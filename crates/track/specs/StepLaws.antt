@@ -1,44 +1,30 @@
 -- A step that meets its call's contract, from well-formed sets, is the model's step on their view: its answer, its sets and its entries; and they stay well formed.
-use mathlib.Core.Bool.{Bool, true, false, _&&_}
-use mathlib.Core.List.{List, [], _∷_, map}
-use mathlib.Core.Option.{Option, none, some, Option·map}
-use mathlib.Core.Path.{_≡_, refl, sym, ap, subst, _∙_}
-use Prim.Native.Nat.{ℕ, _/_, _≤_}
-use native.Mathlib.Nat.{le-trans}
-use lib.Dec.{eqb, leb}
-use lib.ListN.{length, set, getElem?}
-use Rattle.model.specs.declared.Extent.{Extent}
-use Rattle.model.specs.declared.InvalidUse.{InvalidUse}
-use Rattle.model.specs.declared.LogHead.{LogHead}
-use Rattle.model.specs.declared.Refusal.{Refusal}
-use Rattle.model.specs.declared.Selector.{Selector}
-use Rattle.model.specs.declared.TrackerIndex.{TrackerIndex}
-use Rattle.model.specs.Base.{if_then_else_, All, AllO}
+use Rattle.model.specs.Prelude.{ℕ, _/_, _≤_, le-trans, _≡_, refl, sym, ap, subst, _∙_, Bool, true, false, _&&_, Option, none, some}
+use Rattle.model.specs.Prelude.{Option·map, List, [], _∷_, map, eqb, leb, length, set, getElem?}
+use Rattle.model.specs.declared.{Extent.Extent, InvalidUse.InvalidUse, LogHead.LogHead, Refusal.Refusal, Selector.Selector}
+use Rattle.model.specs.{declared.{TrackerIndex.TrackerIndex, Answered.Answered}, Base.{if_then_else_, All, AllO}}
 use Rattle.model.specs.Sets.{Numbers, Set, Tracker, slotAt, headOf, capacity}
 use Rattle.model.specs.Refusals.{firstFailing, singleRefusal, setRefusal, sparseRefusal}
-use Rattle.model.specs.Calls.{done, CallResult, unless, Call, callMergeSingle, callMergeUsageScope, callSetSingle, callSetFromUsageScope, callSetFromTracker, callSetAndRemoveSparse, mergeSingle, mergeUsageScope, setSingle, setFromUsageScope, setFromTracker, setAndRemoveSparse, sparseOne, sparseAll, Sets, nothing, into, withScopes, withTrackers, with₁, with₂, step}
-use Rattle.model.specs.Texture.{Held, single, Entry, ranged}
-use Rattle.model.specs.WellFormed.{scopeFits, trackerFits}
-use Rattle.model.specs.Log.{pending, outcomeOf, merging, logging}
-use Rattle.model.specs.ListLaws.{all-set, all-elem, elem-map, set-map}
+use Rattle.model.specs.Calls.{done, CallResult, unless, Call, callMergeSingle, callMergeUsageScope, callSetSingle, callSetFromUsageScope}
+use Rattle.model.specs.Calls.{callSetFromTracker, callSetAndRemoveSparse, mergeSingle, mergeUsageScope, setSingle, setFromUsageScope}
+use Rattle.model.specs.Calls.{setFromTracker, setAndRemoveSparse, sparseOne, sparseAll, Sets, nothing, into, withScopes, withTrackers}
+use Rattle.model.specs.{Calls.{with₁, with₂, step}, Texture.{Held, single, Entry, ranged}, WellFormed.{scopeFits, trackerFits}}
+use Rattle.model.specs.{Log.{pending, outcomeOf, merging, logging}, ListLaws.{all-set, all-elem, elem-map, set-map}}
 use Rattle.model.specs.BoolLaws.{by-test, both, and-left, and-right}
 use Rattle.set_checks.specs.Head.{selectorOf}
-use Rattle.call_merge.specs.Merged.{Merged}
-use Rattle.model.specs.declared.Answered.{Answered}
+use Rattle.call_merge.specs.{Merged.Merged, Contract.{MergeSingle, MergeUsageScope}}
 use Rattle.log_head.specs.Log.{logOf, Logs}
-use Rattle.set_storage.specs.Stays.{only}
-use Rattle.call_remove.specs.Removed.{Removed}
-use Rattle.agreement.specs.WellFormedSets.{Word, GivenWord}
-use Rattle.agreement.specs.LogBound.{entries, ownedStates, ofTracker, ownedOf}
-use Rattle.agreement.specs.EachCall.{merge-single-fits, merge-usage-scope-fits, set-single-fits, set-from-usage-scope-fits, set-from-tracker-fits, sparse-fits, set-single-owned, set-from-usage-scope-owned, set-from-tracker-owned, sparse-owned}
-use Rattle.set_storage.specs.Lent.{LentScope, LentTracker, scopeIn, trackerIn, scopeTest, trackerTest}
-use Rattle.call_merge.specs.Contract.{MergeSingle, MergeUsageScope}
+use Rattle.set_storage.specs.{Stays.only, Lent.{LentScope, LentTracker, scopeIn, trackerIn, scopeTest, trackerTest}}
+use Rattle.call_remove.specs.Removed.{Removed, SetAndRemoveSparse}
+use Rattle.agreement.specs.{WellFormedSets.{Word, GivenWord}, LogBound.{entries, ownedStates, ofTracker, ownedOf}}
+use Rattle.agreement.specs.EachCall.{merge-single-fits, merge-usage-scope-fits, set-single-fits, set-from-usage-scope-fits}
+use Rattle.agreement.specs.EachCall.{set-from-tracker-fits, sparse-fits, set-single-owned, set-from-usage-scope-owned}
+use Rattle.agreement.specs.EachCall.{set-from-tracker-owned, sparse-owned}
 use Rattle.texture_track.specs.Tracked.{TrackerCall}
 use Rattle.call_set.specs.Contract.{SetSingle}
 use Rattle.call_join.specs.Contract.{SetFromUsageScope, SetFromTracker}
-use Rattle.call_remove.specs.Removed.{SetAndRemoveSparse}
-use Rattle.track.specs.Trace.{Lent, viewOf, Ready, Step, selectionOf, LogStays, NoCall, MergedAt, TrackedAt, RemovedAt, At₁, At₂, Ran, written}
-use Rattle.track.specs.LogLaws.{Empty, AsOwn, as-own}
+use Rattle.track.specs.Trace.{Lent, viewOf, Ready, Step, selectionOf, LogStays, NoCall, MergedAt, TrackedAt, RemovedAt, At₁, At₂, Ran}
+use Rattle.track.specs.{Trace.written, LogLaws.{Empty, AsOwn, as-own}}
 
 -- ---- A set that passes its test is well formed
 pub scope-well : (a : LentScope) → scopeTest a ≡ true → scopeFits (scopeIn a) ≡ true

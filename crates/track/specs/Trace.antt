@@ -1,39 +1,20 @@
 -- Demand 3, over the numbers that callers lend and the public calls' own contracts: what a trace of calls is, and what is shared at each of
 -- its steps. Definitions only; Demand3 and Claims state the theorems.
-use mathlib.Core.Bool.{Bool, true, false, _&&_}
-use mathlib.Core.List.{List, [], _∷_, map}
-use mathlib.Core.Option.{Option, none, some}
-use mathlib.Core.Path.{_≡_}
-use Prim.Native.Nat.{ℕ, _+_, _/_, _≤_, min}
-use lib.Dec.{eqb}
-use lib.ListN.{length, set, getElem?, take}
-use Rattle.model.specs.declared.InvalidUse.{InvalidUse}
-use Rattle.model.specs.declared.LogHead.{LogHead}
-use Rattle.model.specs.declared.Outcome.{Outcome}
-use Rattle.model.specs.declared.Outcome.the-variants.{Done, Refused, Conflict}
-use Rattle.model.specs.declared.PendingTransition.{PendingTransition}
-use Rattle.model.specs.declared.Refusal.{Refusal}
-use Rattle.model.specs.declared.Selection.{Selection}
-use Rattle.model.specs.declared.Selection.the-variants.{Full, Part}
-use Rattle.model.specs.declared.Selector.{Selector}
-use Rattle.model.specs.declared.UsageFlags.{UsageFlags}
-use Rattle.model.specs.Base.{if_then_else_, each, All}
-use Rattle.model.specs.Representation.{holds}
-use Rattle.model.specs.Refusals.{numberOf}
-use Rattle.model.specs.Sets.{Tracker, Opening}
-use Rattle.model.specs.Calls.{Answer, done, refused, inConflict, CallResult, Call, callMergeSingle, callMergeUsageScope, callSetSingle, callSetFromUsageScope, callSetFromTracker, callSetAndRemoveSparse, Sets, step}
-use Rattle.model.specs.StateRules.{Move}
-use Rattle.model.specs.Texture.{Held, Entry, ranged}
-use Rattle.model.specs.Log.{outcomeOf, pending}
+use Rattle.model.specs.Prelude.{ℕ, _+_, _/_, _≤_, min, _≡_, Bool, true, false, _&&_, Option, none, some, List, [], _∷_, map, eqb, length}
+use Rattle.model.specs.Prelude.{set, getElem?, take}
+use Rattle.model.specs.{declared.Outcome.the-variants.{Done, Refused, Conflict}, declared.Selection.the-variants.{Full, Part}}
+use Rattle.model.specs.declared.{InvalidUse.InvalidUse, LogHead.LogHead, Outcome.Outcome, PendingTransition.PendingTransition}
+use Rattle.model.specs.declared.{Refusal.Refusal, Selection.Selection, Selector.Selector, UsageFlags.UsageFlags, Answered.Answered}
+use Rattle.model.specs.{Base.{if_then_else_, each, All}, Representation.holds, Refusals.numberOf, Sets.{Tracker, Opening}}
+use Rattle.model.specs.Calls.{Answer, done, refused, inConflict, CallResult, Call, callMergeSingle, callMergeUsageScope, callSetSingle}
+use Rattle.model.specs.{Calls.{callSetFromUsageScope, callSetFromTracker, callSetAndRemoveSparse, Sets, step}, StateRules.Move}
+use Rattle.model.specs.{Texture.{Held, Entry, ranged}, Log.{outcomeOf, pending}}
 use Rattle.set_storage.specs.Lent.{LentScope, LentTracker, scopeIn, trackerIn, scopeTest, trackerTest}
 use Rattle.texture_barrier.specs.Entries.{entriesOf}
-use Rattle.agreement.specs.Grid.{Grid, SubresourceConflict, grid}
-use Rattle.agreement.specs.Shared.{gridOf, gridEnds, firstOf, seen, itself, movedAt}
-use Rattle.agreement.specs.WellFormedSets.{GivenWord}
-use Rattle.agreement.specs.LogBound.{ownedOf, listed}
+use Rattle.agreement.specs.{Grid.{Grid, SubresourceConflict, grid}, Shared.{gridOf, gridEnds, firstOf, seen, itself, movedAt}}
+use Rattle.agreement.specs.{WellFormedSets.GivenWord, LogBound.{ownedOf, listed}}
 use Rattle.call_open.specs.Open.{OpenedScope, OpenedTracker, asked}
 use Rattle.log_head.specs.Log.{Emptying}
-use Rattle.model.specs.declared.Answered.{Answered}
 use Rattle.call_merge.specs.Contract.{MergeSingle, MergeUsageScope}
 use Rattle.call_set.specs.Contract.{SetSingle}
 use Rattle.call_join.specs.Contract.{SetFromUsageScope, SetFromTracker}

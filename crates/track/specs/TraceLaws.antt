@@ -1,35 +1,16 @@
 -- Every trace from well-formed storage is, step by step, the ranged model's run, and so shares with the grid's what demand 3 lists.
-use mathlib.Core.Bool.{true, false, Bool, true≢false}
-use mathlib.Core.List.{List, [], _∷_, map}
-use mathlib.Core.Option.{Option}
-use mathlib.Core.Path.{_≡_, refl, sym, ap, subst, _∙_}
-use Prim.Native.Nat.{ℕ}
-use native.Mathlib.Omega.{arith}
-use lib.Dec.{eqb}
-use Rattle.model.specs.declared.InvalidUse.{InvalidUse}
-use Rattle.model.specs.declared.Outcome.the-variants.{Done, Refused}
-use Rattle.model.specs.declared.Refusal.{Refusal}
-use Rattle.model.specs.Sets.{Set, Tracker}
-use Rattle.model.specs.Refusals.{numberOf}
-use Rattle.model.specs.Calls.{Answer, done, refused, inConflict, CallResult, Sets, step, newly}
-use Rattle.model.specs.StateRules.{Move}
-use Rattle.model.specs.Texture.{Held, ranged}
-use Rattle.model.specs.WellFormed.{scopeFits, trackerFits}
-use Rattle.model.specs.Log.{outcomeOf}
-use Rattle.model.specs.BoolLaws.{both}
-use Rattle.model.specs.ListLaws.{all-every, all-map}
-use Rattle.model.specs.Base.{if_then_else_}
+use Rattle.model.specs.Prelude.{ℕ, arith, _≡_, refl, sym, ap, subst, _∙_, true, false, Bool, true≢false, Option, List, [], _∷_, map, eqb}
+use Rattle.model.specs.{declared.Outcome.the-variants.{Done, Refused}, declared.{InvalidUse.InvalidUse, Refusal.Refusal}}
+use Rattle.model.specs.{Sets.{Set, Tracker}, Refusals.numberOf, Calls.{Answer, done, refused, inConflict, CallResult, Sets, step, newly}}
+use Rattle.model.specs.{StateRules.Move, Texture.{Held, ranged}, WellFormed.{scopeFits, trackerFits}, Log.outcomeOf, BoolLaws.both}
+use Rattle.model.specs.{ListLaws.{all-every, all-map}, Base.if_then_else_}
 use Rattle.agreement.specs.Grid.{SubresourceConflict, grid}
-use Rattle.agreement.specs.Shared.{gridOf, gridEnds, toGrids, seenAnswer, seen, Shares, Agree, afterCalls}
-use Rattle.agreement.specs.WellFormedSets.{wellFormed}
-use Rattle.agreement.specs.LogBound.{listed}
-use Rattle.agreement.specs.Agree.{opened-grids}
-use Rattle.agreement.specs.CallsAgree.{agrees-from}
-use Rattle.agreement.specs.OwnRefusals.{own-refusals}
+use Rattle.agreement.specs.{Shared.{gridOf, gridEnds, toGrids, seenAnswer, seen, Shares, Agree, afterCalls}, WellFormedSets.wellFormed}
+use Rattle.agreement.specs.{LogBound.listed, Agree.opened-grids, CallsAgree.agrees-from, OwnRefusals.own-refusals}
 use Rattle.set_storage.specs.Lent.{LentScope, LentTracker, scopeIn, trackerIn, scopeTest, trackerTest}
-use Rattle.track.specs.Trace.{Lent, viewOf, Ready, ScopeOpening, TrackerOpening, scopeAsked, trackerAsked, openedSets, Step, Meets, Trace, callsOf, setsAfter, seenOutcome, SharedAt, SharedAlong, IsModel, ModelAlong}
-use Rattle.track.specs.LogLaws.{empty-log, transitions-logged}
-use Rattle.track.specs.OpenedLaws.{opened-view, opened-ready}
+use Rattle.track.specs.Trace.{Lent, viewOf, Ready, ScopeOpening, TrackerOpening, scopeAsked, trackerAsked, openedSets, Step, Meets}
+use Rattle.track.specs.Trace.{Trace, callsOf, setsAfter, seenOutcome, SharedAt, SharedAlong, IsModel, ModelAlong}
+use Rattle.track.specs.{LogLaws.{empty-log, transitions-logged}, OpenedLaws.{opened-view, opened-ready}}
 use Rattle.track.specs.StepLaws.{scope-well, tracker-well, Follows, follows}
 
 -- an answer as a public call tells it, seen as the model's

@@ -1,26 +1,14 @@
 -- "More room is ignored", of the public calls' own contracts: what no call changes, whatever it answers.
-use Prim.Native.Nat.{ℕ, _≤_, _<_}
-use mathlib.Core.Path.{_≡_}
-use mathlib.Core.Bool.{false}
-use mathlib.Core.List.{List}
-use lib.ListN.{getD}
-use Rattle.model.specs.declared.Extent.{Extent}
-use Rattle.model.specs.declared.LogHead.{LogHead}
-use Rattle.model.specs.declared.Outcome.{Outcome}
-use Rattle.model.specs.declared.Selection.{Selection}
-use Rattle.model.specs.declared.Selector.{Selector}
-use Rattle.model.specs.declared.TrackerIndex.{TrackerIndex}
-use Rattle.set_storage.specs.Storage.{numbersOf, tableIndices, rangesAt, texturesAt}
-use Rattle.set_storage.specs.Stays.{only, ownedBy, ScopeFrame, TrackerFrame}
-use Rattle.model.specs.Log.{isRefused}
-use Rattle.set_ready.specs.Named.{within, WordsStay, scope-room, scope-past, scope-unnamed, tracker-room, tracker-past, tracker-unnamed}
-use Rattle.model.specs.declared.Answered.{Answered}
-use Rattle.call_remove.specs.Gone.{Listed, disowned}
+use Rattle.model.specs.Prelude.{ℕ, _≤_, _<_, _≡_, false, List, getD}
+use Rattle.model.specs.declared.{Extent.Extent, LogHead.LogHead, Outcome.Outcome, Selection.Selection, Selector.Selector}
+use Rattle.model.specs.{declared.{TrackerIndex.TrackerIndex, Answered.Answered}, Log.isRefused}
+use Rattle.set_storage.specs.{Storage.{numbersOf, tableIndices, rangesAt, texturesAt}, Stays.{only, ownedBy, ScopeFrame, TrackerFrame}}
 use Rattle.set_storage.specs.Lent.{LentScope, LentTracker}
+use Rattle.set_ready.specs.Named.{within, WordsStay, scope-room, scope-past, scope-unnamed, tracker-room, tracker-past, tracker-unnamed}
+use Rattle.call_remove.specs.{Gone.{Listed, disowned}, Removed.SetAndRemoveSparse}
 use Rattle.call_merge.specs.Contract.{MergeSingle, MergeUsageScope}
 use Rattle.call_set.specs.Contract.{SetSingle}
 use Rattle.call_join.specs.Contract.{SetFromUsageScope, SetFromTracker}
-use Rattle.call_remove.specs.Removed.{SetAndRemoveSparse}
 
 -- ---- Of a scope: every number from 3 × N × M × W on, every word of an index from N on, every word of a texture that is not named
 pub record ScopeUntouched (named : ℕ → Type 0) (s s′ : LentScope) : Type 0 where

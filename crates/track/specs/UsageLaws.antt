@@ -1,32 +1,17 @@
 -- The last step of a trace, where it is a single merge of a usage: the WebGPU rule of crate `agreement`, carried over to the lent numbers.
-use mathlib.Core.Bool.{false, false≢true}
-use mathlib.Core.List.{List, [], _∷_, _++_, map}
-use mathlib.Core.Logic.{_↔_}
-use mathlib.Core.Option.{Option, none, some, Option·map}
-use mathlib.Core.Path.{_≡_, refl, sym, ap, subst, _∙_}
-use Prim.Native.Nat.{ℕ}
-use lib.ListN.{getElem?}
-use Rattle.model.specs.declared.Extent.{Extent}
-use Rattle.model.specs.declared.InvalidUse.{InvalidUse}
-use Rattle.model.specs.declared.Outcome.{Outcome}
-use Rattle.model.specs.declared.Refusal.{Refusal}
-use Rattle.model.specs.declared.Selector.{Selector}
-use Rattle.model.specs.declared.TrackerIndex.{TrackerIndex}
-use Rattle.model.specs.Sets.{Set, headOf}
-use Rattle.model.specs.Refusals.{singleRefusal}
-use Rattle.model.specs.Calls.{Answer, done, refused, inConflict, Call, callMergeSingle, Sets, step, newly}
-use Rattle.model.specs.Texture.{Held, ranged}
-use Rattle.model.specs.Log.{isRefused, outcomeOf}
-use Rattle.agreement.specs.Shared.{seenAnswer, afterCalls}
-use Rattle.agreement.specs.WellFormedSets.{GivenWord}
+use Rattle.model.specs.Prelude.{ℕ, _≡_, refl, sym, ap, subst, _∙_, _↔_, false, false≢true, Option, none, some, Option·map, List, [], _∷_}
+use Rattle.model.specs.Prelude.{_++_, map, getElem?}
+use Rattle.model.specs.declared.{Extent.Extent, InvalidUse.InvalidUse, Outcome.Outcome, Refusal.Refusal, Selector.Selector}
+use Rattle.model.specs.{declared.TrackerIndex.TrackerIndex, Sets.{Set, headOf}, Refusals.singleRefusal}
+use Rattle.model.specs.{Calls.{Answer, done, refused, inConflict, Call, callMergeSingle, Sets, step, newly}, Texture.{Held, ranged}}
+use Rattle.model.specs.{Log.{isRefused, outcomeOf}, ListLaws.elem-map, Base.All}
+use Rattle.agreement.specs.{Shared.{seenAnswer, afterCalls}, WellFormedSets.GivenWord}
 use Rattle.agreement.specs.WebGpu.{Usage, Renders, Histories, histories, InConflict, GivenUsage, NotCompatible}
 use Rattle.agreement.specs.UsagesJudged.{usages-judged}
 use Rattle.set_storage.specs.Lent.{LentScope, scopeIn}
-use Rattle.track.specs.Trace.{Lent, viewOf, ScopeOpening, TrackerOpening, scopeAsked, trackerAsked, openedSets, Step, Meets, Trace, callsOf, setsAfter, seenOutcome}
-use Rattle.track.specs.OpenedLaws.{opened-ready}
+use Rattle.track.specs.Trace.{Lent, viewOf, ScopeOpening, TrackerOpening, scopeAsked, trackerAsked, openedSets, Step, Meets, Trace}
+use Rattle.track.specs.{Trace.{callsOf, setsAfter, seenOutcome}, OpenedLaws.opened-ready}
 use Rattle.track.specs.TraceLaws.{told-seen, steps-on, ready-after, trace-runs}
-use Rattle.model.specs.ListLaws.{elem-map}
-use Rattle.model.specs.Base.{All}
 
 -- ---- A trace and its last step
 front : (steps : List Step) (s : Step) (k : Lent) → Trace k (steps ++ (s ∷ [])) → Trace k steps

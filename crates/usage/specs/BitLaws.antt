@@ -1,11 +1,8 @@
 -- The bits of a union, of what two numbers share, and of a number less some bits.
-use mathlib.Core.Path.{_≡_, refl, sym, ap, ap₂, _∙_}
-use Prim.Native.Nat.{ℕ, zero, suc, _+_, _-_, _*_, _/_, _%_, _^_, _<_, min, max}
-use native.Mathlib.Omega.{arith}
+use Rattle.model.specs.Prelude.{ℕ, zero, suc, _+_, _-_, _*_, _/_, _%_, _^_, _<_, min, max, decLt, arith, _≡_, refl, sym, ap, ap₂, _∙_}
+use Rattle.model.specs.Prelude.{bitAnd, bitOr, and-step, or-step, and-zero-l, and-zero-r, or-add-and, and-le-l, and-le-r, or-disjoint}
 use lib.Arith.{bin-ind}
-use lib.Bits.{bitAnd, bitOr, and-step, or-step, and-zero-l, and-zero-r, or-add-and, and-le-l, and-le-r, or-disjoint}
 use lib.Count.{onesIn}
-use native.Mathlib.Decide.{decLt}
 
 digits-half : (x y : ℕ) → y < 2 → (x * 2 + y) / 2 ≡ x
 digits-half x y h = omega arith

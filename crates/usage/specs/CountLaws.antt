@@ -1,9 +1,5 @@
 -- Counts of the low bits of a number, over every width.
-use mathlib.Core.Path.{_≡_, _∙_}
-use Prim.Native.Nat.{ℕ, zero, suc, _-_, _/_, _%_, _^_}
-use native.Mathlib.Numerals.{add-one}
-use native.Mathlib.Omega.{arith}
-use lib.Bits.{bitAnd, and-mask}
+use Rattle.model.specs.Prelude.{ℕ, zero, suc, _-_, _/_, _%_, _^_, add-one, arith, _≡_, _∙_, bitAnd, and-mask}
 use lib.Count.{ones, onesIn, ones-step}
 use lib.Pow.{field, mod-mod-pow}
 

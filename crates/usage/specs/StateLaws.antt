@@ -1,9 +1,6 @@
 -- One law on states of sixteen bits.
-use mathlib.Core.Path.{_≡_, refl}
-use Prim.Native.Nat.{ℕ}
-use Rattle.model.specs.declared.UsageFlags.{UsageFlags}
-use Rattle.model.specs.Flags.{incompatible}
-use Rattle.model.specs.StateRules.{invalidState}
+use Rattle.model.specs.Prelude.{ℕ, _≡_, refl}
+use Rattle.model.specs.{declared.UsageFlags.UsageFlags, Flags.incompatible, StateRules.invalidState}
 
 -- ---- the Rust's `invalid_resource_state` is 01's "incompatible"
 pub invalid-is : (p : UsageFlags) (s : ℕ) → invalidState p s ≡ incompatible p s

@@ -1,8 +1,6 @@
 -- What an answer `United` means.
-use mathlib.Core.Option.{Option, none, some}
-use Prim.Native.Nat.{ℕ}
-use Rattle.usage.specs.declared.united.United.{United}
-use Rattle.usage.specs.declared.united.United.the-variants.{Conflict, State}
+use Rattle.model.specs.Prelude.{ℕ, Option, none, some}
+use Rattle.usage.specs.{declared.united.United.United, declared.united.United.the-variants.{Conflict, State}}
 
 -- the model's answer: `none` is a conflict (the Rust: an `Err` with `ResourceUsageCompatibilityError`)
 abbrev pub stateOf : United → Option ℕ

@@ -1,11 +1,8 @@
 -- `check` is 01's table, top to bottom.
-use native.Mathlib.Omega.{arith}
-use mathlib.Core.Path.{sym, _∙_}
-use borrow.Author.Tests.{not-true, not-false, lt-ltb, le-ltb}
-use Rattle.set_wellformed.proofs.Numbers.{numbers-in, small}
+use Rattle.model.specs.Prelude.{arith, sym, _∙_, not-true, not-false, lt-ltb, le-ltb, needs}
 use Rattle.model.specs.Refusals.{openingRefusal, firstFailing}
-use borrow.Author.Needs.{needs}
 use Rattle.call_open.proofs.check.Statement.{statement}
+use Rattle.set_wellformed.proofs.Numbers.{numbers-in, small}
 use Rattle.call_open.proofs.check.Tie as tie
 
 returns : tie.Need-returns

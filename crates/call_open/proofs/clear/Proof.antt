@@ -1,9 +1,5 @@
 -- `clear`: each lap writes the five words of one index.
-use native.Mathlib.Omega.{arith}
-use borrow.Author.Needs.{needs}
-use Prim.Native.Nat.{_-_, _≤_}
-use mathlib.Core.Path.{_≡_, refl, _∙_}
-use native.Mathlib.Numerals.{add-one}
+use Rattle.model.specs.Prelude.{_-_, _≤_, add-one, arith, _≡_, refl, _∙_, needs}
 use Rattle.call_open.specs.Open.{cleared}
 use Rattle.call_open.proofs.clear.Statement.{statement}
 use Rattle.call_open.proofs.clear.Tie as tie

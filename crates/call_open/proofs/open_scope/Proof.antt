@@ -1,7 +1,6 @@
 -- `open_scope`: the table that is opened, seen as a scope.
-use Rattle.call_open.proofs.Cleared.{opened-scope}
-use borrow.Author.Needs.{needs}
-use Rattle.call_open.proofs.open_scope.Statement.{statement}
+use Rattle.model.specs.Prelude.{needs}
+use Rattle.call_open.proofs.{Cleared.opened-scope, open_scope.Statement.statement}
 use Rattle.call_open.proofs.open_scope.Tie as tie
 
 returns : tie.Need-returns

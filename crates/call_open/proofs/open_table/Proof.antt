@@ -1,8 +1,6 @@
 -- `open_table`: what `check` answers is told, and only an opening that is not refused writes.
-use mathlib.Core.Option.{none, some}
-use Rattle.call_open.proofs.Cleared.{few-of, table-opened, any-mask}
-use borrow.Author.Needs.{needs}
-use Rattle.call_open.proofs.open_table.Statement.{statement}
+use Rattle.model.specs.Prelude.{none, some, needs}
+use Rattle.call_open.proofs.{Cleared.{few-of, table-opened, any-mask}, open_table.Statement.statement}
 use Rattle.call_open.proofs.open_table.Tie as tie
 
 clear-requires : tie.Need-clear-requires

@@ -1,7 +1,6 @@
 -- `open_tracker`: the table that is opened, seen as a tracker.
-use Rattle.call_open.proofs.Cleared.{opened-tracker}
-use borrow.Author.Needs.{needs}
-use Rattle.call_open.proofs.open_tracker.Statement.{statement}
+use Rattle.model.specs.Prelude.{needs}
+use Rattle.call_open.proofs.{Cleared.opened-tracker, open_tracker.Statement.statement}
 use Rattle.call_open.proofs.open_tracker.Tie as tie
 
 returns : tie.Need-returns

@@ -1,11 +1,6 @@
 -- `empty_log`: the head's check, and the model's emptied head.
-use lib.ListN.{length}
-use Prim.Native.Nat.{_/_}
-use native.Mathlib.Omega.{arith}
-use mathlib.Core.Path.{sym, _∙_}
-use borrow.Author.Tests.{not-true, not-false}
+use Rattle.model.specs.Prelude.{_/_, arith, sym, _∙_, length, not-true, not-false, needs}
 use Rattle.log_head.specs.Log.{head-le, empty-away, empty-done}
-use borrow.Author.Needs.{needs}
 use Rattle.log_head.proofs.empty_log.Statement.{statement}
 use Rattle.log_head.proofs.empty_log.Tie as tie
 

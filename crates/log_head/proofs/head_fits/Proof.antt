@@ -1,6 +1,5 @@
 -- `head_fits`: written and free against what was lent, without a sum that could overflow.
-use Rattle.log_head.proofs.Heads.{written-past, free-past, both-in}
-use Rattle.log_head.proofs.head_fits.Statement.{statement}
+use Rattle.log_head.proofs.{Heads.{written-past, free-past, both-in}, head_fits.Statement.statement}
 use Rattle.log_head.proofs.head_fits.Tie as tie
 
 returns : tie.Need-returns

@@ -1,6 +1,6 @@
 -- The product of numbers within the limits does not wrap.
 use Rattle.set_wellformed.proofs.Numbers.{small}
-use borrow.Author.Needs.{needs}
+use Rattle.model.specs.Prelude.{needs}
 use Rattle.log_head.proofs.subresources.Statement.{statement}
 use Rattle.log_head.proofs.subresources.Tie as tie
 

@@ -1,9 +1,7 @@
 -- `coalesce` is its check, and then the work.
+use Rattle.model.specs.Prelude.{sym, needs}
 use Rattle.range_checks.specs.Accepted.{coalesce-accepted}
-use mathlib.Core.Path.{sym}
-use Rattle.range_calls.proofs.RefusedOrDone.{coalesce-refused, coalesce-done}
-use borrow.Author.Needs.{needs}
-use Rattle.range_calls.proofs.coalesce.Statement.{statement}
+use Rattle.range_calls.proofs.{RefusedOrDone.{coalesce-refused, coalesce-done}, coalesce.Statement.statement}
 use Rattle.range_calls.proofs.coalesce.Tie as tie
 
 coalesce-requires : tie.Need-coalesce-requires

@@ -1,9 +1,7 @@
 -- `isolate` is its checks, and then the work.
+use Rattle.model.specs.Prelude.{sym, needs}
 use Rattle.range_checks.specs.Accepted.{isolate-accepted}
-use mathlib.Core.Path.{sym}
-use Rattle.range_calls.proofs.RefusedOrDone.{isolate-refused, isolate-done}
-use borrow.Author.Needs.{needs}
-use Rattle.range_calls.proofs.isolate.Statement.{statement}
+use Rattle.range_calls.proofs.{RefusedOrDone.{isolate-refused, isolate-done}, isolate.Statement.statement}
 use Rattle.range_calls.proofs.isolate.Tie as tie
 
 isolate-requires : tie.Need-isolate-requires

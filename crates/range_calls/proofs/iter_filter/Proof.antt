@@ -1,9 +1,7 @@
 -- `iter_filter` is its checks, and then the work.
+use Rattle.model.specs.Prelude.{sym, needs}
 use Rattle.range_checks.specs.Accepted.{filter-accepted}
-use mathlib.Core.Path.{sym}
-use Rattle.range_calls.proofs.RefusedOrDone.{filter-refused, filter-done}
-use borrow.Author.Needs.{needs}
-use Rattle.range_calls.proofs.iter_filter.Statement.{statement}
+use Rattle.range_calls.proofs.{RefusedOrDone.{filter-refused, filter-done}, iter_filter.Statement.statement}
 use Rattle.range_calls.proofs.iter_filter.Tie as tie
 
 iter-filter-requires : tie.Need-iter-filter-requires

@@ -1,16 +1,8 @@
 -- `insert_record` opens a gap from the top down and writes the record there.
-use Prim.Native.Nat.{ℕ, _+_, _*_, _-_, _≤_, _<_}
-use native.Mathlib.Omega.{arith}
-use borrow.Author.Needs.{needs}
-use mathlib.Core.Path.{_≡_, refl, sym, _∙_}
-use mathlib.Core.List.{List}
-use lib.ListN.{length, getD}
-use lib.Seq.{length-take-le}
+use Rattle.model.specs.Prelude.{ℕ, _+_, _*_, _-_, _≤_, _<_, arith, _≡_, refl, sym, _∙_, List, length, getD, length-take-le, needs}
 use Rattle.model.specs.declared.Range.{Range}
-use Rattle.range_states.specs.View.{view, spare, decode, blank, Put, Becomes, view-long}
-use Rattle.range_states.specs.Insert.{insertAt, length-insertAt}
-use Rattle.range_isolate.proofs.Shift.{shifted, shifted-none, shifted-more, shifted-put}
-use Rattle.range_isolate.proofs.insert_record.Statement.{statement}
+use Rattle.range_states.specs.{View.{view, spare, decode, blank, Put, Becomes, view-long}, Insert.{insertAt, length-insertAt}}
+use Rattle.range_isolate.proofs.{Shift.{shifted, shifted-none, shifted-more, shifted-put}, insert_record.Statement.statement}
 use Rattle.range_isolate.proofs.insert_record.Tie as tie
 
 record Shifting (s₀ : List ℕ) (len at : ℕ) (s : List ℕ) (k : ℕ) : Type 0 where

@@ -1,22 +1,13 @@
 -- The second pass of `iter_filter`: the overlaps of ascending records stand together.
-use Prim.Native.Nat.{ℕ, zero, suc, _+_, _≤_, _<_}
-use native.Mathlib.Omega.{arith}
-use mathlib.Core.Path.{_≡_, refl, sym, ap, _∙_}
-use mathlib.Core.Bool.{Bool, true, false, _&&_}
-use mathlib.Core.List.{List, [], _∷_, _++_, map, map-append, append-assoc}
-use borrow.Author.Tests.{lt-ltb, le-ltb, le-leb, lt-leb}
-use lib.Dec.{leb, ltb}
-use lib.ListN.{length, getD, take, drop, length-append, length-drop, length-map}
-use lib.Seq.{take-suc, drop-cons, getD-drop, set-at, length-take-le, take-append-le, drop-append-le}
-use Rattle.model.specs.declared.Range.{Range}
-use Rattle.model.specs.Base.{if_then_else_}
-use Rattle.model.specs.RangedStates.{iterFilter}
-use Rattle.range_states.specs.View.{blank}
-use Rattle.range_states.specs.Filtering.{overlaps, clip}
-use Rattle.range_isolate.proofs.Covering.{by-order}
-use Rattle.range_records.specs.declared.decisions.Scan.{Scan}
-use Rattle.range_records.specs.Passes.{countOf, begun, lookOf, scanned, clipping}
+use Rattle.model.specs.Prelude.{ℕ, zero, suc, _+_, _≤_, _<_, arith, _≡_, refl, sym, ap, _∙_, Bool, true, false, _&&_, List, [], _∷_, _++_}
+use Rattle.model.specs.Prelude.{map, map-append, append-assoc, leb, ltb, length, getD, take, drop, length-append, length-drop, length-map}
+use Rattle.model.specs.Prelude.{take-suc, drop-cons, getD-drop, set-at, length-take-le, take-append-le, drop-append-le, lt-ltb, le-ltb}
+use Rattle.model.specs.Prelude.{le-leb, lt-leb}
+use Rattle.model.specs.{declared.Range.Range, Base.if_then_else_, RangedStates.iterFilter}
+use Rattle.range_states.specs.{View.blank, Filtering.{overlaps, clip}}
+use Rattle.range_records.specs.{declared.decisions.Scan.Scan, Passes.{countOf, begun, lookOf, scanned, clipping}}
 use Rattle.range_records.proofs.Laws.Pieces.{Ascends}
+use Rattle.range_isolate.proofs.Covering.{by-order}
 
 -- ---- how many records end at or before a, and how many overlap a .. e
 firsts : ℕ → List Range → ℕ

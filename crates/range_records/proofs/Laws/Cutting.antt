@@ -1,21 +1,13 @@
 -- The second pass of `isolate`: the pieces are written from the last to the first, and never onto a record that is still to be read.
-use Prim.Native.Nat.{ℕ, zero, suc, _-_, _≤_, _<_, min, max}
-use native.Mathlib.Omega.{arith}
-use mathlib.Core.Path.{_≡_, refl, sym, ap, _∙_}
-use mathlib.Core.List.{List, [], _∷_, _++_, append-assoc, append-nil}
-use borrow.Author.Tests.{lt-ltb, le-ltb, eq-eqb, ne-eqb}
-use lib.Dec.{eqb, eqb·suc-zero}
-use lib.ListN.{length, getD, take, drop, set, length-append, length-set}
-use lib.Seq.{take-suc, take-take, take-length, take-set-le, getD-take, drop-at, set-split, length-take-le}
-use Rattle.model.specs.declared.Range.{Range}
-use Rattle.model.specs.Base.{if_then_else_}
-use Rattle.model.specs.RangedStates.{range, listOf, isolate}
+use Rattle.model.specs.Prelude.{ℕ, zero, suc, _-_, _≤_, _<_, min, max, arith, _≡_, refl, sym, ap, _∙_, List, [], _∷_, _++_, append-assoc}
+use Rattle.model.specs.Prelude.{append-nil, eqb, eqb·suc-zero, length, getD, take, drop, set, length-append, length-set, take-suc}
+use Rattle.model.specs.Prelude.{take-take, take-length, take-set-le, getD-take, drop-at, set-split, length-take-le, lt-ltb, le-ltb, eq-eqb}
+use Rattle.model.specs.Prelude.{ne-eqb}
+use Rattle.model.specs.{declared.Range.Range, Base.if_then_else_, RangedStates.{range, listOf, isolate}}
 use Rattle.range_states.specs.View.{blank}
+use Rattle.range_records.specs.{declared.decisions.Piece.Piece, Passes.{begun, scanned, lowerOf, cutPiece, cutting}}
+use Rattle.range_records.proofs.{Laws.Pieces.{Ascends, part, part-some, part-none, slices, pieces, pieced}, Laws.Survey.scanned-end}
 use Rattle.range_isolate.proofs.Covering.{by-order}
-use Rattle.range_records.specs.declared.decisions.Piece.{Piece}
-use Rattle.range_records.specs.Passes.{begun, scanned, lowerOf, cutPiece, cutting}
-use Rattle.range_records.proofs.Laws.Pieces.{Ascends, part, part-some, part-none, slices, pieces, pieced}
-use Rattle.range_records.proofs.Laws.Survey.{scanned-end}
 
 -- ---- ascending records, one by one
 at : (from : ℕ) (rs : List Range) (i : ℕ) → i < length rs → Ascends from rs → (from ≤ getD rs i blank .start) × (getD rs i blank .start < getD rs i blank .end)

@@ -1,17 +1,9 @@
 -- The second pass of `coalesce`: what is written, zeros where records were read and not written again, and what is left to read.
-use Prim.Native.Nat.{ℕ, zero, suc, _+_, _-_, _<_}
-use native.Mathlib.Omega.{arith}
-use mathlib.Core.Path.{_≡_, refl, sym, ap, _∙_}
-use mathlib.Core.Bool.{Bool, true, false}
-use mathlib.Core.List.{List, [], _∷_, _++_, append-assoc}
-use borrow.Author.Tests.{lt-ltb}
-use lib.ListN.{length, getD, set, replicate, length-append, length-replicate}
-use lib.Seq.{set-at, getD-at}
-use Rattle.model.specs.declared.Range.{Range}
-use Rattle.model.specs.RangedStates.{range, joins, coalesceFrom, coalesce}
+use Rattle.model.specs.Prelude.{ℕ, zero, suc, _+_, _-_, _<_, arith, _≡_, refl, sym, ap, _∙_, Bool, true, false, List, [], _∷_, _++_}
+use Rattle.model.specs.Prelude.{append-assoc, length, getD, set, replicate, length-append, length-replicate, set-at, getD-at, lt-ltb}
+use Rattle.model.specs.{declared.Range.Range, RangedStates.{range, joins, coalesceFrom, coalesce}}
 use Rattle.range_states.specs.View.{blank}
-use Rattle.range_records.specs.declared.decisions.Next.{Next}
-use Rattle.range_records.specs.Passes.{joinOf, Joined, joining}
+use Rattle.range_records.specs.{declared.decisions.Next.Next, Passes.{joinOf, Joined, joining}}
 
 -- of m records xs are left, and the others are zeros
 abbrev pub joined : ℕ → List Range → List Range → Joined

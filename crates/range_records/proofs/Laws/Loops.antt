@@ -1,22 +1,12 @@
 -- What the passes' definitions say of one turn of their loops.
-use Prim.Native.Nat.{ℕ, zero, suc, _+_, _-_, _≤_, _<_, min, max}
-use mathlib.Core.Path.{_≡_, refl, ap, _∙_}
-use mathlib.Core.Bool.{Bool, true, false, _&&_}
-use mathlib.Core.List.{List, [], _∷_}
-use native.Mathlib.Nat.{le-refl, le-trans, add-le-add, not-suc-le-zero, le-of-suc-le-suc}
-use native.Mathlib.Numerals.{add-one, unary-clauses}
-use native.Mathlib.Omega.{arith}
-use lib.Dec.{leb, ltb, eqb}
-use lib.ListN.{length, take, getD, set, length-set}
-use Rattle.model.specs.declared.Range.{Range}
-use Rattle.model.specs.Base.{if_then_else_}
-use Rattle.model.specs.RangedStates.{range, joins}
-use Rattle.range_states.specs.View.{blank}
-use Rattle.range_states.specs.Filtering.{overlaps, clip}
-use Rattle.range_records.specs.declared.decisions.Scan.{Scan}
-use Rattle.range_records.specs.declared.decisions.Piece.{Piece}
-use Rattle.range_records.specs.declared.decisions.Next.{Next}
-use Rattle.range_records.specs.Passes.{countOf, cutsOf, begun, lookOf, scanned, Few, endOf, leftOf, lowerOf, cutPiece, cutting, joinOf, joining, clipping}
+use Rattle.model.specs.Prelude.{ℕ, zero, suc, _+_, _-_, _≤_, _<_, min, max, le-refl, le-trans, add-le-add, not-suc-le-zero}
+use Rattle.model.specs.Prelude.{le-of-suc-le-suc, add-one, unary-clauses, arith, _≡_, refl, ap, _∙_, Bool, true, false, _&&_, List, [], _∷_}
+use Rattle.model.specs.Prelude.{leb, ltb, eqb, length, take, getD, set, length-set}
+use Rattle.model.specs.{declared.Range.Range, Base.if_then_else_, RangedStates.{range, joins}}
+use Rattle.range_states.specs.{View.blank, Filtering.{overlaps, clip}}
+use Rattle.range_records.specs.{declared.decisions.Scan.Scan, declared.decisions.Piece.Piece, declared.decisions.Next.Next}
+use Rattle.range_records.specs.Passes.{countOf, cutsOf, begun, lookOf, scanned, Few, endOf, leftOf, lowerOf, cutPiece, cutting}
+use Rattle.range_records.specs.Passes.{joinOf, joining, clipping}
 
 -- ---- survey
 pub scanned-none : (a e : ℕ) (s : Scan) (xs : List Range) → s ≡ scanned a e s (take 0 xs)

@@ -1,15 +1,8 @@
 -- The model's `isolate` piece by piece: what each record, and each gap before one, leaves.
-use Prim.Native.Nat.{ℕ, _≤_, _<_, min, max}
-use native.Mathlib.Omega.{arith}
-use mathlib.Core.Path.{_≡_, refl, sym, ap}
-use mathlib.Core.Bool.{true, _&&_}
-use mathlib.Core.List.{List, [], _∷_, _++_, append-assoc}
-use borrow.Author.Tests.{lt-ltb, le-ltb, le-leb, lt-leb, leb-true, ltb-true}
-use lib.Dec.{leb, ltb}
-use Rattle.model.specs.declared.Range.{Range}
-use Rattle.model.specs.Base.{if_then_else_}
-use Rattle.model.specs.RangedStates.{range, Cut, Rest, rest, withRun, cutAt, withBefore, listOf, isolateFrom, isolate}
-use Rattle.model.specs.RangeCalls.{ascends}
+use Rattle.model.specs.Prelude.{ℕ, _≤_, _<_, min, max, arith, _≡_, refl, sym, ap, true, _&&_, List, [], _∷_, _++_, append-assoc, leb, ltb}
+use Rattle.model.specs.Prelude.{lt-ltb, le-ltb, le-leb, lt-leb, leb-true, ltb-true}
+use Rattle.model.specs.{declared.Range.Range, Base.if_then_else_}
+use Rattle.model.specs.{RangedStates.{range, Cut, Rest, rest, withRun, cutAt, withBefore, listOf, isolateFrom, isolate}, RangeCalls.ascends}
 use Rattle.model.specs.BoolLaws.{and-both as both}
 use Rattle.range_isolate.specs.Isolation.{allOf, gapBefore}
 use Rattle.range_isolate.proofs.Covering.{by-order, from-before, from-last, from-more}

@@ -1,22 +1,12 @@
 -- What the first pass finds: whether the records ascend, and how many of everything there are.
-use Prim.Native.Nat.{ℕ, suc, _+_, _≤_, _<_, min, max}
-use native.Mathlib.Omega.{arith}
-use mathlib.Core.Path.{_≡_, refl, sym, ap, _∙_}
-use mathlib.Core.Bool.{Bool, true, false, _&&_, and-true, and-assoc}
-use mathlib.Core.List.{List, [], _∷_}
-use borrow.Author.Tests.{lt-ltb, le-ltb, le-leb, lt-leb}
-use lib.Dec.{leb, ltb}
-use lib.ListN.{length, getD, length-append}
-use Rattle.model.specs.declared.Range.{Range}
-use Rattle.model.specs.Base.{if_then_else_}
-use Rattle.model.specs.RangedStates.{range, listOf, isolate}
-use Rattle.model.specs.RangeCalls.{ascends}
-use Rattle.range_states.specs.View.{blank}
-use Rattle.range_states.specs.Filtering.{overlaps}
-use Rattle.range_isolate.proofs.Covering.{by-order}
+use Rattle.model.specs.Prelude.{ℕ, suc, _+_, _≤_, _<_, min, max, arith, _≡_, refl, sym, ap, _∙_, Bool, true, false, _&&_, and-true}
+use Rattle.model.specs.Prelude.{and-assoc, List, [], _∷_, leb, ltb, length, getD, length-append, lt-ltb, le-ltb, le-leb, lt-leb}
+use Rattle.model.specs.{declared.Range.Range, Base.if_then_else_, RangedStates.{range, listOf, isolate}, RangeCalls.ascends}
+use Rattle.range_states.specs.{View.blank, Filtering.overlaps}
 use Rattle.range_records.specs.declared.decisions.Scan.{Scan}
 use Rattle.range_records.specs.Passes.{countOf, begun, followsOf, lookOf, scanned, gapsOf, lengthOf, Few}
 use Rattle.range_records.proofs.Laws.Pieces.{Ascends, part, pieces, belows, middles, pieced}
+use Rattle.range_isolate.proofs.Covering.{by-order}
 
 -- ---- no count is more than one a record
 count-few : (b : Bool) → countOf b ≤ 1

@@ -1,38 +1,23 @@
 -- The passes are the model's calls: what each answers and leaves, for every input.
-use Prim.Native.Nat.{ℕ, _+_, _≤_, min, max}
-use native.Mathlib.Omega.{arith}
-use mathlib.Core.Path.{_≡_, _∙_}
-use mathlib.Core.Bool.{false, _||_, not}
-use mathlib.Core.List.{List}
-use mathlib.Core.Option.{none, some}
-use borrow.Author.Tests.{lt-ltb, le-ltb, le-leb, lt-leb, leb-false, ltb-false, not-false}
-use lib.Dec.{leb, ltb}
-use lib.ListN.{length, take, drop, take-append-drop, length-take}
-use lib.Seq.{length-take-le}
-use Rattle.model.specs.declared.Range.{Range}
-use Rattle.model.specs.declared.Refusal.{Refusal}
+use Rattle.model.specs.Prelude.{ℕ, _+_, _≤_, min, max, arith, _≡_, _∙_, false, _||_, not, none, some, List, leb, ltb, length, take, drop}
+use Rattle.model.specs.Prelude.{take-append-drop, length-take, length-take-le, lt-ltb, le-ltb, le-leb, lt-leb, leb-false, ltb-false}
+use Rattle.model.specs.Prelude.{not-false}
 use Rattle.model.specs.declared.Refusal.the-variants.{SelectorEmpty, RangesOutOfOrder, NoFreeEntry}
-use Rattle.model.specs.Base.{if_then_else_}
-use Rattle.model.specs.Refusals.{firstFailing}
-use Rattle.model.specs.RangedStates.{listOf, isolate, iterFilter}
-use Rattle.model.specs.RangeCalls.{ascends, isolateRefusal, coalesceRefusal, filterRefusal}
+use Rattle.model.specs.{declared.{Range.Range, Refusal.Refusal, Verdict.Verdict}, Base.if_then_else_, Refusals.firstFailing}
+use Rattle.model.specs.{RangedStates.{listOf, isolate, iterFilter}, RangeCalls.{ascends, isolateRefusal, coalesceRefusal, filterRefusal}}
 use Rattle.model.specs.BoolLaws.{by-test, neither}
 use Rattle.range_states.specs.View.{blank}
+use Rattle.range_calls.specs.declared.FilterAnswer.{FilterAnswer}
+use Rattle.range_calls.specs.RangeContract.{isolateAnswer, isolateRecords, coalesceAnswer, coalesceRecords, filterAnswer, filterRecords}
+use Rattle.range_records.specs.{declared.decisions.Scan.Scan, declared.decisions.Plan.Plan}
+use Rattle.range_records.specs.Passes.{begun, scanned, gapsOf, lengthOf, refusedPlan, isolatePlan, verdictOf, grantedOf, coalescedOf}
+use Rattle.range_records.specs.Passes.{filterPlan, filterCount, cutting, Joined, joining, clipping}
+use Rattle.range_records.proofs.{Laws.Pieces.{Ascends, ascending}, Laws.Survey.{scanned-ascends, Tells, scanned-tells}}
+use Rattle.range_records.proofs.{Laws.Cutting.cuts, Laws.Joining.join-all, Laws.Clipping.{scanned-both, scanned-found, clips}}
 use Rattle.range_isolate.proofs.Covering.{by-order}
-use Rattle.model.specs.declared.Verdict.{Verdict}
 use Rattle.model.specs.declared.Verdict.the-variants as verdict
 use Rattle.range_calls.specs.declared.IsolateAnswer.the-variants as isolate
-use Rattle.range_calls.specs.declared.FilterAnswer.{FilterAnswer}
 use Rattle.range_calls.specs.declared.FilterAnswer.the-variants as filter
-use Rattle.range_calls.specs.RangeContract.{isolateAnswer, isolateRecords, coalesceAnswer, coalesceRecords, filterAnswer, filterRecords}
-use Rattle.range_records.specs.declared.decisions.Scan.{Scan}
-use Rattle.range_records.specs.declared.decisions.Plan.{Plan}
-use Rattle.range_records.specs.Passes.{begun, scanned, gapsOf, lengthOf, refusedPlan, isolatePlan, verdictOf, grantedOf, coalescedOf, filterPlan, filterCount, cutting, Joined, joining, clipping}
-use Rattle.range_records.proofs.Laws.Pieces.{Ascends, ascending}
-use Rattle.range_records.proofs.Laws.Survey.{scanned-ascends, Tells, scanned-tells}
-use Rattle.range_records.proofs.Laws.Cutting.{cuts}
-use Rattle.range_records.proofs.Laws.Joining.{join-all}
-use Rattle.range_records.proofs.Laws.Clipping.{scanned-both, scanned-found, clips}
 
 -- what the first pass finds among the records in use
 abbrev pub survey : ℕ → ℕ → ℕ → List Range → Scan

@@ -1,14 +1,8 @@
 -- `clear` fills with blank records from `from` on.
-use Prim.Native.Nat.{ℕ, _+_, _*_, _-_, _≤_, _<_}
-use native.Mathlib.Omega.{arith}
-use borrow.Author.Needs.{needs}
-use mathlib.Core.Path.{_≡_, refl, sym, _∙_}
-use mathlib.Core.List.{List, _++_, append-assoc}
-use lib.ListN.{length, replicate, length-append, length-replicate}
-use lib.Seq.{length-take-le}
+use Rattle.model.specs.Prelude.{ℕ, _+_, _*_, _-_, _≤_, _<_, arith, _≡_, refl, sym, _∙_, List, _++_, append-assoc, length, replicate}
+use Rattle.model.specs.Prelude.{length-append, length-replicate, length-take-le, needs}
 use Rattle.range_states.specs.View.{view, spare, decode, blank, Put, Becomes, view-long}
-use Rattle.range_states.proofs.Filled.{filled, filled-none, filled-more, filled-is}
-use Rattle.range_states.proofs.clear.Statement.{statement}
+use Rattle.range_states.proofs.{Filled.{filled, filled-none, filled-more, filled-is}, clear.Statement.statement}
 use Rattle.range_states.proofs.clear.Tie as tie
 
 record Clearing (s₀ : List ℕ) (from to : ℕ) (s : List ℕ) (k : ℕ) : Type 0 where

@@ -1,6 +1,5 @@
 -- `get` reads the three numbers that `view` reads.
-use borrow.Author.Needs.{needs}
-use native.Mathlib.Omega.{arith}
+use Rattle.model.specs.Prelude.{arith, needs}
 use Rattle.range_states.specs.View.{view-at}
 use Rattle.range_states.proofs.get.Statement.{statement}
 use Rattle.range_states.proofs.get.Tie as tie

@@ -1,7 +1,5 @@
 -- Three stores are a `Put`.
-use borrow.Author.Needs.{needs}
-use native.Mathlib.Omega.{arith}
-use lib.ListN.{length-set}
+use Rattle.model.specs.Prelude.{arith, length-set, needs}
 use Rattle.range_states.specs.View.{puts}
 use Rattle.range_states.proofs.put.Statement.{statement}
 use Rattle.range_states.proofs.put.Tie as tie

@@ -1,7 +1,5 @@
 -- The words of a line lie within the room for words.
-use native.Mathlib.Omega.{arith}
-use lib.Seq.{length-take-le}
-use borrow.Author.Needs.{needs}
+use Rattle.model.specs.Prelude.{arith, length-take-le, needs}
 use Rattle.replay.proofs.answer.Statement.{statement}
 use Rattle.replay.proofs.answer.Tie as tie
 

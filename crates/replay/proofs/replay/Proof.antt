@@ -1,7 +1,5 @@
 -- `replay` ends, since fewer pieces are left after each one, and every slice keeps its length.
-use mathlib.Core.Path.{_≡_}
-use lib.ListN.{length}
-use borrow.Author.Needs.{needs}
+use Rattle.model.specs.Prelude.{_≡_, length, needs}
 use Rattle.replay.proofs.replay.Statement.{statement}
 use Rattle.replay.proofs.replay.Tie as tie
 

@@ -1,7 +1,7 @@
 -- `check_selection`: no selector is no check.
+use Rattle.model.specs.Prelude.{needs}
 use Rattle.model.specs.Refusals.{firstFailing}
 use Rattle.set_checks.specs.Head.{selectorRefusal}
-use borrow.Author.Needs.{needs}
 use Rattle.set_checks.proofs.check_selection.Statement.{statement}
 use Rattle.set_checks.proofs.check_selection.Tie as tie
 

@@ -1,8 +1,8 @@
 -- `check_selector` is 01's table, 10 and 11.
 use Rattle.model.specs.Refusals.{firstFailing}
 use Rattle.set_checks.specs.Head.{selectorRefusal}
-use Rattle.usage.proofs.Comparisons.{tests}
 use Rattle.set_checks.proofs.check_selector.Statement.{statement}
+use Rattle.usage.proofs.Comparisons.{tests}
 use Rattle.set_checks.proofs.check_selector.Tie as tie
 
 returns : tie.Need-returns

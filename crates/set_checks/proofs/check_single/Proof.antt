@@ -1,7 +1,6 @@
 -- `check_single`: the texture's checks, then the selector's, then the state's; the first that fails is told.
-use Rattle.set_checks.proofs.Verdicts.{state-tells, selector-tells, texture-tells}
-use borrow.Author.Needs.{needs}
-use Rattle.set_checks.proofs.check_single.Statement.{statement}
+use Rattle.model.specs.Prelude.{needs}
+use Rattle.set_checks.proofs.{Verdicts.{state-tells, selector-tells, texture-tells}, check_single.Statement.statement}
 use Rattle.set_checks.proofs.check_single.Tie as tie
 
 returns : tie.Need-returns

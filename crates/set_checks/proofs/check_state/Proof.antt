@@ -1,8 +1,7 @@
 -- `check_state` is 01's table, 12 and 13.
-use mathlib.Core.Path.{sym, _∙_}
+use Rattle.model.specs.Prelude.{sym, _∙_, needs}
 use Rattle.model.specs.Refusals.{firstFailing}
 use Rattle.set_checks.specs.Head.{stateRefusal}
-use borrow.Author.Needs.{needs}
 use Rattle.set_checks.proofs.check_state.Statement.{statement}
 use Rattle.set_checks.proofs.check_state.Tie as tie
 

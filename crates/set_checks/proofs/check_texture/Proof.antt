@@ -1,12 +1,9 @@
 -- `check_texture` is 01's table, 7 to 9.
-use native.Mathlib.Omega.{arith}
-use Rattle.set_checks.proofs.Verdicts.{extent-tells}
-use mathlib.Core.Path.{sym, _∙_}
+use Rattle.model.specs.Prelude.{arith, sym, _∙_, needs}
 use Rattle.model.specs.Refusals.{firstFailing}
+use Rattle.set_checks.proofs.{Verdicts.extent-tells, check_texture.Statement.statement}
 use Rattle.set_checks.specs.Head.{textureRefusal}
 use Rattle.usage.proofs.Comparisons.{tests}
-use borrow.Author.Needs.{needs}
-use Rattle.set_checks.proofs.check_texture.Statement.{statement}
 use Rattle.set_checks.proofs.check_texture.Tie as tie
 
 returns : tie.Need-returns

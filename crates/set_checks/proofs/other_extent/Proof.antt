@@ -1,7 +1,6 @@
 -- An index that is not owned has no extent to differ from.
-use Rattle.set_checks.proofs.Passing.{other-is}
-use borrow.Author.Needs.{needs}
-use Rattle.set_checks.proofs.other_extent.Statement.{statement}
+use Rattle.model.specs.Prelude.{needs}
+use Rattle.set_checks.proofs.{Passing.other-is, other_extent.Statement.statement}
 use Rattle.set_checks.proofs.other_extent.Tie as tie
 
 returns : tie.Need-returns

@@ -1,5 +1,5 @@
 -- `is_full`: the four numbers are compared in the model's order.
-use borrow.Author.Tests.{eq-eqb, ne-eqb}
+use Rattle.model.specs.Prelude.{eq-eqb, ne-eqb}
 use Rattle.set_ready.proofs.is_full.Statement.{statement}
 use Rattle.set_ready.proofs.is_full.Tie as tie
 

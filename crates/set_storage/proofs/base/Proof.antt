@@ -1,6 +1,5 @@
 -- `base`: the product fits, and its part lies within the room.
-use mathlib.Core.Path.{refl}
-use native.Mathlib.Omega.{arith}
+use Rattle.model.specs.Prelude.{arith, refl}
 use Rattle.set_storage.specs.Part.{baseOf, Places, places-fit}
 use Rattle.set_storage.proofs.base.Statement.{statement}
 use Rattle.set_storage.proofs.base.Tie as tie

@@ -1,8 +1,6 @@
 -- `locate`: the place is the definition's, and the count is read there.
-use mathlib.Core.Path.{_≡_}
-use native.Mathlib.Omega.{arith}
+use Rattle.model.specs.Prelude.{arith, _≡_, needs}
 use Rattle.set_storage.specs.Part.{baseOf}
-use borrow.Author.Needs.{needs}
 use Rattle.set_storage.proofs.locate.Statement.{statement}
 use Rattle.set_storage.proofs.locate.Tie as tie
 

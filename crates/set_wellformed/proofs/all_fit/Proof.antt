@@ -1,9 +1,6 @@
 -- The words decide where one does not fit, or where none is Many; otherwise every index is looked at.
-use native.Mathlib.Omega.{arith}
-use mathlib.Core.Path.{sym, _∙_}
-use borrow.Author.Tests.{not-true, not-false}
-use Rattle.set_wellformed.proofs.Telling.{scope-not, scope-all}
-use Rattle.set_wellformed.proofs.all_fit.Statement.{statement}
+use Rattle.model.specs.Prelude.{arith, sym, _∙_, not-true, not-false}
+use Rattle.set_wellformed.proofs.{Telling.{scope-not, scope-all}, all_fit.Statement.statement}
 use Rattle.set_wellformed.proofs.all_fit.Tie as tie
 
 scope-words-requires : tie.Need-scope-words-requires

@@ -1,5 +1,5 @@
 -- An extent fits where neither number is outside.
-use borrow.Author.Needs.{needs}
+use Rattle.model.specs.Prelude.{needs}
 use Rattle.set_wellformed.proofs.extent_fits.Statement.{statement}
 use Rattle.set_wellformed.proofs.extent_fits.Tie as tie
 

@@ -1,10 +1,7 @@
 -- `head_fits` is the three tests, in order; the numbers' limits come before their product.
-use mathlib.Core.Path.{sym, _∙_}
-use borrow.Author.Tests.{not-true, not-false}
+use Rattle.model.specs.Prelude.{sym, _∙_, not-true, not-false, needs}
 use Rattle.set_wellformed.specs.Parts.{headFits}
-use Rattle.set_wellformed.proofs.Numbers.{numbers-in}
-use borrow.Author.Needs.{needs}
-use Rattle.set_wellformed.proofs.head_fits.Statement.{statement}
+use Rattle.set_wellformed.proofs.{Numbers.numbers-in, head_fits.Statement.statement}
 use Rattle.set_wellformed.proofs.head_fits.Tie as tie
 
 returns : tie.Need-returns

@@ -1,10 +1,8 @@
 -- `held_fits` tests the state, or, where it tells COMPLEX, the mips.
-use mathlib.Core.Path.{sym, ap, _∙_}
+use Rattle.model.specs.Prelude.{sym, ap, _∙_, needs}
 use Rattle.model.specs.declared.UsageFlags.{UsageFlags}
 use Rattle.set_storage.specs.Storage.{numbersOf}
-use Rattle.set_wellformed.proofs.Holding.{fits-many, fits-single}
-use borrow.Author.Needs.{needs}
-use Rattle.set_wellformed.proofs.held_fits.Statement.{statement}
+use Rattle.set_wellformed.proofs.{Holding.{fits-many, fits-single}, held_fits.Statement.statement}
 use Rattle.set_wellformed.proofs.held_fits.Tie as tie
 
 returns : tie.Need-returns

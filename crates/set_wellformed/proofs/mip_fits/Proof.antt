@@ -1,9 +1,7 @@
 -- `mip_fits` cuts out the part of a mip and tests its ranges; a count past the room is no ranges.
-use Rattle.set_storage.specs.Storage.{numbersOf}
-use Rattle.set_storage.specs.Frames.{within}
-use Rattle.set_wellformed.proofs.Mips.{mip-seen, mip-past}
-use borrow.Author.Needs.{needs}
-use Rattle.set_wellformed.proofs.mip_fits.Statement.{statement}
+use Rattle.model.specs.Prelude.{needs}
+use Rattle.set_storage.specs.{Storage.numbersOf, Frames.within}
+use Rattle.set_wellformed.proofs.{Mips.{mip-seen, mip-past}, mip_fits.Statement.statement}
 use Rattle.set_wellformed.proofs.mip_fits.Tie as tie
 
 returns : tie.Need-returns

@@ -1,11 +1,9 @@
 -- `mips_fit` tests mip by mip; the first that does not fit decides.
-use Prim.Native.Nat.{_-_}
+use Rattle.model.specs.Prelude.{_-_, needs}
 use Rattle.model.specs.WellFormed.{rangesFit}
 use Rattle.set_storage.specs.Storage.{numbersOf, mipOf}
 use Rattle.set_wellformed.specs.Parts.{Testing, testing-start, testing-stop, testing-turn, testing-end}
-use Rattle.set_wellformed.proofs.Mips.{mips-told, mip-ready}
-use borrow.Author.Needs.{needs}
-use Rattle.set_wellformed.proofs.mips_fit.Statement.{statement}
+use Rattle.set_wellformed.proofs.{Mips.{mips-told, mip-ready}, mips_fit.Statement.statement}
 use Rattle.set_wellformed.proofs.mips_fit.Tie as tie
 
 abbrev Inv-loop : tie.InvT-loop

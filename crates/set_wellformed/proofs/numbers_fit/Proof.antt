@@ -1,5 +1,5 @@
 -- The definition's three tests.
-use borrow.Author.Needs.{needs}
+use Rattle.model.specs.Prelude.{needs}
 use Rattle.set_wellformed.proofs.numbers_fit.Statement.{statement}
 use Rattle.set_wellformed.proofs.numbers_fit.Tie as tie
 

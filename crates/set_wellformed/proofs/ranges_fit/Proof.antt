@@ -1,8 +1,5 @@
 -- `ranges_fit` tests range by range; the first that does not fit decides.
-use Prim.Native.Nat.{_-_}
-use mathlib.Core.Path.{sym, _∙_}
-use borrow.Author.Needs.{needs}
-use borrow.Author.Tests.{not-true, not-false}
+use Rattle.model.specs.Prelude.{_-_, sym, _∙_, not-true, not-false, needs}
 use Rattle.set_wellformed.proofs.Tiling.{Tiling, tiling-start, tiling-turn, tiling-end, bad-start, bad-end, bad-state}
 use Rattle.set_wellformed.proofs.ranges_fit.Statement.{statement}
 use Rattle.set_wellformed.proofs.ranges_fit.Tie as tie

@@ -1,7 +1,6 @@
 -- The product of numbers within the limits does not wrap.
-use Rattle.set_wellformed.proofs.Numbers.{small}
-use borrow.Author.Needs.{needs}
-use Rattle.set_wellformed.proofs.room_fits.Statement.{statement}
+use Rattle.model.specs.Prelude.{needs}
+use Rattle.set_wellformed.proofs.{Numbers.small, room_fits.Statement.statement}
 use Rattle.set_wellformed.proofs.room_fits.Tie as tie
 
 mul-result : tie.Need-mul-result

@@ -1,10 +1,6 @@
 -- `scope_fits` tests the head, which makes storage safe to index, and then every index.
-use mathlib.Core.Path.{sym, _∙_}
-use borrow.Author.Tests.{not-true, not-false}
-use Rattle.set_wellformed.proofs.Numbers.{head-measured}
-use Rattle.set_wellformed.proofs.Holding.{scope-is}
-use borrow.Author.Needs.{needs}
-use Rattle.set_wellformed.proofs.scope_fits.Statement.{statement}
+use Rattle.model.specs.Prelude.{sym, _∙_, not-true, not-false, needs}
+use Rattle.set_wellformed.proofs.{Numbers.head-measured, Holding.scope-is, scope_fits.Statement.statement}
 use Rattle.set_wellformed.proofs.scope_fits.Tie as tie
 
 returns : tie.Need-returns

@@ -1,5 +1,5 @@
 -- `single_fits` is the definition's two tests.
-use borrow.Author.Needs.{needs}
+use Rattle.model.specs.Prelude.{needs}
 use Rattle.set_wellformed.proofs.single_fits.Statement.{statement}
 use Rattle.set_wellformed.proofs.single_fits.Tie as tie
 

@@ -1,8 +1,6 @@
 -- `slot_fits` looks at the ranges of an index that is Many; of any other the words are the whole test.
-use mathlib.Core.Path.{refl, sym, _∙_}
-use Rattle.set_wellformed.proofs.Telling.{scope-plain, scope-extent, scope-many}
-use borrow.Author.Needs.{needs}
-use Rattle.set_wellformed.proofs.slot_fits.Statement.{statement}
+use Rattle.model.specs.Prelude.{refl, sym, _∙_, needs}
+use Rattle.set_wellformed.proofs.{Telling.{scope-plain, scope-extent, scope-many}, slot_fits.Statement.statement}
 use Rattle.set_wellformed.proofs.slot_fits.Tie as tie
 
 returns : tie.Need-returns

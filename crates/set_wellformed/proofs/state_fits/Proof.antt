@@ -1,5 +1,5 @@
 -- `state_fits` is the definition's tests.
-use borrow.Author.Needs.{needs}
+use Rattle.model.specs.Prelude.{needs}
 use Rattle.set_wellformed.proofs.state_fits.Statement.{statement}
 use Rattle.set_wellformed.proofs.state_fits.Tie as tie
 

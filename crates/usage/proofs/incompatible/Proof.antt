@@ -1,6 +1,6 @@
 -- `incompatible` is the definition's two tests.
+use Rattle.model.specs.Prelude.{needs}
 use Rattle.model.specs.Flags.{incompatible}
-use borrow.Author.Needs.{needs}
 use Rattle.usage.proofs.incompatible.Statement.{statement}
 use Rattle.usage.proofs.incompatible.Tie as tie
 

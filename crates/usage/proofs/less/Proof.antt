@@ -1,8 +1,6 @@
 -- What is taken away is no more than there is.
-use mathlib.Core.Path.{refl}
-use lib.Bits.{and-le-r}
+use Rattle.model.specs.Prelude.{arith, refl, and-le-r}
 use Rattle.model.specs.StateRules.{less}
-use native.Mathlib.Omega.{arith}
 use Rattle.usage.proofs.less.Statement.{statement}
 use Rattle.usage.proofs.less.Tie as tie
 

@@ -1,19 +1,10 @@
 -- `set_checked`: 15 where the entries do not fit; otherwise they are written, and the textures change.
-use Prim.Native.Nat.{ℕ, _/_}
-use native.Mathlib.Omega.{arith}
-use mathlib.Core.Path.{refl}
-use mathlib.Core.Bool.{false≢true}
-use mathlib.Core.List.{List}
-use mathlib.Core.Logic.{⊎-elim}
-use lib.ListN.{length}
+use Rattle.model.specs.Prelude.{ℕ, _/_, arith, refl, ⊎-elim, false≢true, List, length, needs}
 use Rattle.model.specs.declared.PendingTransition.{PendingTransition}
 use Rattle.set_storage.specs.Stays.{both-refl}
-use Rattle.log_head.specs.Log.{head-le}
-use Rattle.log_head.specs.Called.{Fitting, counted-fits, all-fit, room-for, Wrote, wrote, not-enough, written}
+use Rattle.log_head.specs.{Log.head-le, Called.{Fitting, counted-fits, all-fit, room-for, Wrote, wrote, not-enough, written}}
 use Rattle.call_join.specs.Join.{joinedEntries}
-use Rattle.call_join.proofs.Logs.{logs-set}
-use borrow.Author.Needs.{needs}
-use Rattle.call_join.proofs.calls.set_checked.Statement.{statement}
+use Rattle.call_join.proofs.{Logs.logs-set, calls.set_checked.Statement.statement}
 use Rattle.call_join.proofs.calls.set_checked.Tie as tie
 
 -- the entry, from where the flags are read

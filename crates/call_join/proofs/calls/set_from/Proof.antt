@@ -1,10 +1,7 @@
 -- `set_from`: 5, then 6 to 9 in the table's order, and then the change.
-use mathlib.Core.Path.{refl, sym, _∙_}
-use borrow.Author.Tests.{not-true, not-false}
+use Rattle.model.specs.Prelude.{refl, sym, _∙_, not-true, not-false, needs}
 use Rattle.texture_track.specs.Tracked.{away-short}
-use Rattle.call_join.proofs.Joined.{joins, joined-few, from-done, from-away}
-use borrow.Author.Needs.{needs}
-use Rattle.call_join.proofs.calls.set_from.Statement.{statement}
+use Rattle.call_join.proofs.{Joined.{joins, joined-few, from-done, from-away}, calls.set_from.Statement.statement}
 use Rattle.call_join.proofs.calls.set_from.Tie as tie
 
 returns : tie.Need-returns

@@ -1,11 +1,10 @@
 -- `set_from_tracker`: the test of both sets, and then what both calls share.
+use Rattle.model.specs.Prelude.{needs}
 use Rattle.set_ready.specs.Tested.{tracker-tested}
 use Rattle.set_wellformed.specs.Whole.{tracker-unfit, tracker-fit, first-unfit, second-unfit, both-fit}
 use Rattle.texture_track.specs.Tracked.{away-unfit}
 use Rattle.call_join.specs.Join.{tracker-given}
-use Rattle.call_join.proofs.Joined.{tracker-room, from-tracker}
-use borrow.Author.Needs.{needs}
-use Rattle.call_join.proofs.calls.set_from_tracker.Statement.{statement}
+use Rattle.call_join.proofs.{Joined.{tracker-room, from-tracker}, calls.set_from_tracker.Statement.statement}
 use Rattle.call_join.proofs.calls.set_from_tracker.Tie as tie
 
 returns : tie.Need-returns

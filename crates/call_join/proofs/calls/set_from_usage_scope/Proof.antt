@@ -1,11 +1,10 @@
 -- `set_from_usage_scope`: the test of both sets, and then what both calls share.
+use Rattle.model.specs.Prelude.{needs}
 use Rattle.set_ready.specs.Tested.{tracker-tested, scope-tested}
 use Rattle.set_wellformed.specs.Whole.{scope-unfit, scope-fit, tracker-unfit, tracker-fit, first-unfit, second-unfit, both-fit}
 use Rattle.texture_track.specs.Tracked.{away-unfit}
 use Rattle.call_join.specs.Join.{scope-given}
-use Rattle.call_join.proofs.Joined.{scope-room, from-scope}
-use borrow.Author.Needs.{needs}
-use Rattle.call_join.proofs.calls.set_from_usage_scope.Statement.{statement}
+use Rattle.call_join.proofs.{Joined.{scope-room, from-scope}, calls.set_from_usage_scope.Statement.statement}
 use Rattle.call_join.proofs.calls.set_from_usage_scope.Tie as tie
 
 returns : tie.Need-returns

@@ -1,6 +1,5 @@
 -- `log_set`: the entries of the indices below `k` are added, in their order.
-use Prim.Native.Nat.{ℕ, _*_, _-_}
-use native.Mathlib.Omega.{arith}
+use Rattle.model.specs.Prelude.{ℕ, _*_, _-_, arith}
 use Rattle.texture_track.specs.GivenSlot.{givenEntries}
 use Rattle.texture_barrier.specs.Adds.{entriesAt, Adding, adding-start, adding-room, adding-turn, adding-end}
 use Rattle.log_head.specs.UpTo.{upLeft, up-all, up-next, up-done}

@@ -1,11 +1,10 @@
 -- `set_slots`: the slots below `k` are the model's, the others as they were.
-use Prim.Native.Nat.{_≤_, _-_}
-use native.Mathlib.Omega.{arith}
+use Rattle.model.specs.Prelude.{_≤_, _-_, arith}
 use Rattle.set_storage.specs.Stays.{ownedBy}
 use Rattle.set_ready.specs.Named.{within}
 use Rattle.call_join.proofs.Setting.{Setting, setting-start, setting-ready, setting-next, setting-end}
-use Rattle.texture_track.specs.GivenSlot.{slotAfter}
 use Rattle.call_join.proofs.every.set_slots.Statement.{statement}
+use Rattle.texture_track.specs.GivenSlot.{slotAfter}
 use Rattle.call_join.proofs.every.set_slots.Tie as tie
 
 abbrev Inv-loop : tie.InvT-loop

@@ -1,9 +1,6 @@
 -- `merge_slots`: each lap merges one texture, and those to come read as at entry.
-use borrow.Author.Needs.{needs}
-use Prim.Native.Nat.{_-_}
-use mathlib.Core.Path.{_∙_}
-use Rattle.call_merge.proofs.Slots.{Merging, start, lap-ready, turn, stop, finish}
-use Rattle.call_merge.proofs.scope.merge_slots.Statement.{statement}
+use Rattle.model.specs.Prelude.{_-_, _∙_, needs}
+use Rattle.call_merge.proofs.{Slots.{Merging, start, lap-ready, turn, stop, finish}, scope.merge_slots.Statement.statement}
 use Rattle.call_merge.proofs.scope.merge_slots.Tie as tie
 
 abbrev Inv-loop : tie.InvT-loop

@@ -1,9 +1,8 @@
 -- `merge_usage_scope`: the test of both scopes, the checks, then the walk over the textures.
+use Rattle.model.specs.Prelude.{needs}
 use Rattle.set_ready.specs.Tested.{scope-tested}
 use Rattle.set_wellformed.specs.Whole.{scope-unfit, scope-fit, first-unfit, second-unfit, both-fit}
-use Rattle.call_merge.proofs.OneUse.{not-fitting}
-use Rattle.call_merge.proofs.Scopes.{scope-away, scope-done, scope-ready}
-use borrow.Author.Needs.{needs}
+use Rattle.call_merge.proofs.{OneUse.not-fitting, Scopes.{scope-away, scope-done, scope-ready}}
 use Rattle.call_merge.proofs.scope.merge_usage_scope.Statement.{statement}
 use Rattle.call_merge.proofs.scope.merge_usage_scope.Tie as tie
 

@@ -1,8 +1,8 @@
 -- `merge_single`: the test, the checks, then the merge of one texture.
+use Rattle.model.specs.Prelude.{needs}
 use Rattle.set_ready.specs.Tested.{scope-tested}
 use Rattle.set_wellformed.specs.Whole.{scope-unfit, scope-fit}
 use Rattle.call_merge.proofs.OneUse.{not-fitting, single-away, single-done, single-ready, single-use}
-use borrow.Author.Needs.{needs}
 use Rattle.call_merge.proofs.single.merge_single.Statement.{statement}
 use Rattle.call_merge.proofs.single.merge_single.Tie as tie
 

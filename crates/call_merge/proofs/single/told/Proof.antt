@@ -1,5 +1,5 @@
 -- `told`: a walk's conflict becomes the call's.
-use borrow.Author.Needs.{needs}
+use Rattle.model.specs.Prelude.{needs}
 use Rattle.call_merge.proofs.single.told.Statement.{statement}
 use Rattle.call_merge.proofs.single.told.Tie as tie
 

@@ -1,6 +1,6 @@
 -- `use_of`: what a selection names is what the model takes for it.
+use Rattle.model.specs.Prelude.{needs}
 use Rattle.call_merge.specs.Single.{full-use, part-use}
-use borrow.Author.Needs.{needs}
 use Rattle.call_merge.proofs.single.use_of.Statement.{statement}
 use Rattle.call_merge.proofs.single.use_of.Tie as tie
 

@@ -1,10 +1,7 @@
 -- `merge_given_at`: an unowned texture is owned and inserted, an owned one merged.
-use mathlib.Core.Path.{refl}
-use Rattle.set_ready.specs.Half.{half-held}
-use Rattle.set_ready.specs.Given.{set-ready, merge-ready}
-use Rattle.set_ready.specs.Owned.{own-flags, own-ready}
+use Rattle.model.specs.Prelude.{refl, needs}
+use Rattle.set_ready.specs.{Half.half-held, Given.{set-ready, merge-ready}, Owned.{own-flags, own-ready}}
 use Rattle.call_merge.specs.Slot.{scope-new, scope-old}
-use borrow.Author.Needs.{needs}
 use Rattle.call_merge.proofs.slot.merge_given_at.Statement.{statement}
 use Rattle.call_merge.proofs.slot.merge_given_at.Tie as tie
 

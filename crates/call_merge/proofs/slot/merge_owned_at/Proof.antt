@@ -1,8 +1,7 @@
 -- `merge_owned_at`: what the given scope does not own leaves the texture.
-use borrow.Author.Tests.{eq-eqb, ne-eqb}
+use Rattle.model.specs.Prelude.{eq-eqb, ne-eqb, needs}
 use Rattle.set_ready.specs.Given.{where-owned, only-owned}
 use Rattle.call_merge.specs.Slot.{scope-kept, scope-named}
-use borrow.Author.Needs.{needs}
 use Rattle.call_merge.proofs.slot.merge_owned_at.Statement.{statement}
 use Rattle.call_merge.proofs.slot.merge_owned_at.Tie as tie
 

@@ -1,12 +1,9 @@
 -- `merge_use_at`: an unowned texture is owned and inserted, an owned one merged.
-use mathlib.Core.Path.{refl}
-use Rattle.texture_merge.proofs.UseCases.{single-ready, single-merged}
-use Rattle.set_ready.specs.Checked.{use-ready, held-ready}
-use Rattle.set_ready.specs.Half.{half-held}
-use Rattle.set_ready.specs.Owned.{own-flags, own-ready}
+use Rattle.model.specs.Prelude.{refl, needs}
+use Rattle.set_ready.specs.{Checked.{use-ready, held-ready}, Half.half-held, Owned.{own-flags, own-ready}}
 use Rattle.call_merge.specs.Slot.{scope-new, scope-old}
-use borrow.Author.Needs.{needs}
 use Rattle.call_merge.proofs.slot.merge_use_at.Statement.{statement}
+use Rattle.texture_merge.proofs.UseCases.{single-ready, single-merged}
 use Rattle.call_merge.proofs.slot.merge_use_at.Tie as tie
 
 insert-use-requires : tie.Need-insert-use-requires

@@ -1,13 +1,9 @@
 -- `log_listed`: the entries of one position after those of the positions before it; each index is marked as listed.
-use Prim.Native.Nat.{ℕ, _-_}
-use native.Mathlib.Omega.{arith}
-use lib.ListN.{length, getD}
-use borrow.Author.Needs.{needs}
+use Rattle.model.specs.Prelude.{ℕ, _-_, arith, length, getD, needs}
 use Rattle.texture_barrier.specs.Adds.{entriesAt, Adding, adding-start, adding-room, adding-few, adding-end}
 use Rattle.log_head.specs.UpTo.{upLeft, up-all, up-next, up-done}
 use Rattle.call_remove.specs.Logs.{mostEntries, listedEntries, entriesTo}
-use Rattle.call_remove.proofs.Seen.{Seen, seen-none, seen-next, once-is}
-use Rattle.call_remove.proofs.logged.log_listed.Statement.{statement}
+use Rattle.call_remove.proofs.{Seen.{Seen, seen-none, seen-next, once-is}, logged.log_listed.Statement.statement}
 use Rattle.call_remove.proofs.logged.log_listed.Tie as tie
 
 abbrev Inv-loop : tie.InvT-loop

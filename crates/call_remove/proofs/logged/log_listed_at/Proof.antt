@@ -1,12 +1,9 @@
 -- `log_listed_at`: none where the index was listed before or either set does not own it, one at most where both are Single, otherwise those of `log_owned_at`.
-use native.Mathlib.Omega.{arith}
-use mathlib.Core.Path.{sym, _∙_}
-use borrow.Author.Tests.{eq-eqb, ne-eqb}
+use Rattle.model.specs.Prelude.{arith, sym, _∙_, eq-eqb, ne-eqb, needs}
 use Rattle.set_storage.specs.Storage.{startHalf}
 use Rattle.texture_barrier.specs.Adds.{adds-none, adds-within}
-use Rattle.texture_track.proofs.Plain.{plain-entries}
-use borrow.Author.Needs.{needs}
 use Rattle.call_remove.proofs.logged.log_listed_at.Statement.{statement}
+use Rattle.texture_track.proofs.Plain.{plain-entries}
 use Rattle.call_remove.proofs.logged.log_listed_at.Tie as tie
 
 log-single-requires : tie.Need-log-single-requires

@@ -1,17 +1,9 @@
 -- `remove_checked`: 15 where the entries do not fit; otherwise they are written, and both sets change.
-use Prim.Native.Nat.{ℕ, _/_}
-use native.Mathlib.Omega.{arith}
-use mathlib.Core.Bool.{false≢true}
-use mathlib.Core.List.{List}
-use mathlib.Core.Logic.{⊎-elim}
-use lib.ListN.{length}
+use Rattle.model.specs.Prelude.{ℕ, _/_, arith, ⊎-elim, false≢true, List, length, needs}
 use Rattle.model.specs.declared.PendingTransition.{PendingTransition}
-use Rattle.log_head.specs.Log.{head-le}
-use Rattle.log_head.specs.Called.{Fitting, counted-fits, all-fit, room-for, Wrote, wrote}
+use Rattle.log_head.specs.{Log.head-le, Called.{Fitting, counted-fits, all-fit, room-for, Wrote, wrote}}
 use Rattle.call_remove.specs.Logs.{removedEntries, logs-listed}
-use Rattle.call_remove.proofs.Removal.{none-removed, all-removed}
-use borrow.Author.Needs.{needs}
-use Rattle.call_remove.proofs.sparse.remove_checked.Statement.{statement}
+use Rattle.call_remove.proofs.{Removal.{none-removed, all-removed}, sparse.remove_checked.Statement.statement}
 use Rattle.call_remove.proofs.sparse.remove_checked.Tie as tie
 
 -- the entry, from where the flags are read

@@ -1,11 +1,9 @@
 -- `set_and_remove_from_usage_scope_sparse`: each check turns the call away with everything lent as it was, and what passes them all is `remove_checked`.
-use mathlib.Core.Path.{sym, _∙_}
-use borrow.Author.Tests.{not-true, not-false}
+use Rattle.model.specs.Prelude.{sym, _∙_, not-true, not-false, needs}
 use Rattle.set_ready.specs.Tested.{tracker-tested, scope-tested}
 use Rattle.set_wellformed.specs.Whole.{scope-unfit, scope-fit, tracker-unfit, tracker-fit, first-unfit, second-unfit, both-fit}
 use Rattle.call_remove.specs.Removed.{away-unfit, away-short}
 use Rattle.call_remove.proofs.Removal.{removes, few-entries, most-entries, tracker-part, scope-part, call-done, call-away}
-use borrow.Author.Needs.{needs}
 use Rattle.call_remove.proofs.sparse.set_and_remove_from_usage_scope_sparse.Statement.{statement}
 use Rattle.call_remove.proofs.sparse.set_and_remove_from_usage_scope_sparse.Tie as tie
 

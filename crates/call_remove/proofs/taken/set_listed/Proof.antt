@@ -1,8 +1,5 @@
 -- `set_listed`: what is left of the list makes of the sets what all of it makes at entry.
-use Prim.Native.Nat.{_-_}
-use native.Mathlib.Omega.{arith}
-use lib.ListN.{length}
-use borrow.Author.Needs.{needs}
+use Rattle.model.specs.Prelude.{_-_, arith, length, needs}
 use Rattle.call_remove.specs.Taken.{Taking, taking-start, taking-ready, taking-turn, taking-end}
 use Rattle.call_remove.proofs.taken.set_listed.Statement.{statement}
 use Rattle.call_remove.proofs.taken.set_listed.Tie as tie

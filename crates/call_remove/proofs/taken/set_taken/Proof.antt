@@ -1,9 +1,7 @@
 -- `set_taken`: a texture that both sets hold as Single takes a state; otherwise it is what `set_owned_at` makes.
-use native.Mathlib.Omega.{arith}
-use mathlib.Core.Path.{sym, _∙_}
-use Rattle.texture_track.proofs.Plain.{plain-set}
-use borrow.Author.Needs.{needs}
+use Rattle.model.specs.Prelude.{arith, sym, _∙_, needs}
 use Rattle.call_remove.proofs.taken.set_taken.Statement.{statement}
+use Rattle.texture_track.proofs.Plain.{plain-set}
 use Rattle.call_remove.proofs.taken.set_taken.Tie as tie
 
 set-owned-at-requires : tie.Need-set-owned-at-requires

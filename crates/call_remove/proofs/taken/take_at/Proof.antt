@@ -1,6 +1,6 @@
 -- `take_at`: nothing where the scope does not own the texture, otherwise the tracker takes it and the scope's word of ownership is 0.
+use Rattle.model.specs.Prelude.{needs}
 use Rattle.call_remove.specs.Taken.{taken-not, taken-own}
-use borrow.Author.Needs.{needs}
 use Rattle.call_remove.proofs.taken.take_at.Statement.{statement}
 use Rattle.call_remove.proofs.taken.take_at.Tie as tie
 

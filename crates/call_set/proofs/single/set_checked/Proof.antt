@@ -1,20 +1,11 @@
 -- `set_checked`: 15 where the entries do not fit; otherwise they are written, and the texture changes.
-use Prim.Native.Nat.{ℕ, _/_}
-use native.Mathlib.Omega.{arith}
-use mathlib.Core.Path.{refl}
-use mathlib.Core.Bool.{false≢true}
-use mathlib.Core.List.{List}
-use mathlib.Core.Logic.{⊎-elim}
-use lib.ListN.{length}
+use Rattle.model.specs.Prelude.{ℕ, _/_, arith, refl, ⊎-elim, false≢true, List, length, needs}
 use Rattle.model.specs.declared.PendingTransition.{PendingTransition}
 use Rattle.set_storage.specs.Stays.{both-refl}
 use Rattle.texture_merge.specs.Uses.{useOf}
-use Rattle.log_head.specs.Log.{head-le}
-use Rattle.log_head.specs.Called.{room-for, Fitting, counted-fits, all-fit, Wrote, wrote, not-enough, written}
+use Rattle.log_head.specs.{Log.head-le, Called.{room-for, Fitting, counted-fits, all-fit, Wrote, wrote, not-enough, written}}
 use Rattle.call_set.specs.Used.{usedEntries}
-use Rattle.call_set.proofs.Uses.{used}
-use borrow.Author.Needs.{needs}
-use Rattle.call_set.proofs.single.set_checked.Statement.{statement}
+use Rattle.call_set.proofs.{Uses.used, single.set_checked.Statement.statement}
 use Rattle.call_set.proofs.single.set_checked.Tie as tie
 
 -- the entry, from where the flags are read

@@ -1,11 +1,9 @@
 -- `set_single`: the test, the log's head, the checks, and then the use.
-use mathlib.Core.Path.{sym, _∙_}
-use borrow.Author.Tests.{not-true, not-false}
+use Rattle.model.specs.Prelude.{sym, _∙_, not-true, not-false, needs}
 use Rattle.set_wellformed.specs.Whole.{tracker-unfit, tracker-fit}
 use Rattle.set_ready.specs.Tested.{tracker-tested}
 use Rattle.texture_track.specs.Tracked.{away-unfit, away-short}
 use Rattle.call_set.proofs.Uses.{single-away, single-done, single-few, single-ready, single-use, as-use}
-use borrow.Author.Needs.{needs}
 use Rattle.call_set.proofs.single.set_single.Statement.{statement}
 use Rattle.call_set.proofs.single.set_single.Tie as tie
 

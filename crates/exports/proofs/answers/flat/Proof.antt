@@ -1,5 +1,5 @@
 -- `flat`: each outcome becomes its numbers.
-use borrow.Author.Needs.{needs}
+use Rattle.model.specs.Prelude.{needs}
 use Rattle.exports.proofs.answers.flat.Statement.{statement}
 use Rattle.exports.proofs.answers.flat.Tie as tie
 

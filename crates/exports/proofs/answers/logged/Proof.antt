@@ -1,5 +1,5 @@
 -- `logged`: the outcome's numbers, and the head's.
-use borrow.Author.Needs.{needs}
+use Rattle.model.specs.Prelude.{needs}
 use Rattle.exports.proofs.answers.logged.Statement.{statement}
 use Rattle.exports.proofs.answers.logged.Tie as tie
 

@@ -1,5 +1,5 @@
 -- `refused`: the number and the place are 01's.
-use borrow.Author.Needs.{needs}
+use Rattle.model.specs.Prelude.{needs}
 use Rattle.exports.proofs.answers.refused.Statement.{statement}
 use Rattle.exports.proofs.answers.refused.Tie as tie
 

@@ -1,5 +1,5 @@
 -- `selection`: `part` decides which.
-use borrow.Author.Tests.{eq-eqb, ne-eqb}
+use Rattle.model.specs.Prelude.{eq-eqb, ne-eqb}
 use Rattle.exports.proofs.answers.selection.Statement.{statement}
 use Rattle.exports.proofs.answers.selection.Tie as tie
 

@@ -1,5 +1,5 @@
 -- `coalesced`: each answer becomes its numbers.
-use borrow.Author.Needs.{needs}
+use Rattle.model.specs.Prelude.{needs}
 use Rattle.exports.proofs.ranged.coalesced.Statement.{statement}
 use Rattle.exports.proofs.ranged.coalesced.Tie as tie
 

@@ -1,5 +1,5 @@
 -- `filtered`: each answer becomes its numbers.
-use borrow.Author.Needs.{needs}
+use Rattle.model.specs.Prelude.{needs}
 use Rattle.exports.proofs.ranged.filtered.Statement.{statement}
 use Rattle.exports.proofs.ranged.filtered.Tie as tie
 

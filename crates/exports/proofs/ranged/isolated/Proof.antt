@@ -1,5 +1,5 @@
 -- `isolated`: each answer becomes its numbers.
-use borrow.Author.Needs.{needs}
+use Rattle.model.specs.Prelude.{needs}
 use Rattle.exports.proofs.ranged.isolated.Statement.{statement}
 use Rattle.exports.proofs.ranged.isolated.Tie as tie
 

@@ -1,5 +1,5 @@
 -- `numbers`: the outcome's numbers, and the counts.
-use borrow.Author.Needs.{needs}
+use Rattle.model.specs.Prelude.{needs}
 use Rattle.exports.proofs.ranged.numbers.Statement.{statement}
 use Rattle.exports.proofs.ranged.numbers.Tie as tie
 

@@ -1,7 +1,6 @@
 -- `track_iter_filter`: the call beneath, told in numbers.
-use mathlib.Core.Path.{refl}
+use Rattle.model.specs.Prelude.{refl, needs}
 use Rattle.exports.specs.RangesAnswerLaws.{filter-told}
-use borrow.Author.Needs.{needs}
 use Rattle.exports.proofs.ranged.track_iter_filter.Statement.{statement}
 use Rattle.exports.proofs.ranged.track_iter_filter.Tie as tie
 

@@ -1,7 +1,6 @@
 -- `track_merge_single`: the call beneath, told in numbers.
+use Rattle.model.specs.Prelude.{refl, needs}
 use Rattle.exports.specs.AnswerLaws.{outcome-told}
-use mathlib.Core.Path.{refl}
-use borrow.Author.Needs.{needs}
 use Rattle.exports.proofs.scopes.track_merge_single.Statement.{statement}
 use Rattle.exports.proofs.scopes.track_merge_single.Tie as tie
 

@@ -1,5 +1,6 @@
 -- `set_and_remove_from_usage_scope_sparse` hands the tracker, the scope, the list, the log and the head to `track::set_and_remove_from_usage_scope_sparse`, and stores the head of the answer.
-use Rattle.log_heads.proofs.Thin.Names.{refl, List, [], _∷_, id⊢, !, and-then, no-more, u32, var, Param, given-ref, given, shared, _$_, addr, Table, points, lets, relent, hands-on}
+use Rattle.log_heads.proofs.Thin.Names.{refl, List, [], _∷_, id⊢, !, and-then, no-more, u32, var, Param, given-ref, given, shared}
+use Rattle.log_heads.proofs.Thin.Names.{_$_, addr, Table, points, lets, relent, hands-on}
 use Rattle.track.proofs.set_and_remove_from_usage_scope_sparse as core
 use Rattle.log_heads.proofs.logs.set_and_remove_from_usage_scope_sparse as here
 use Rattle.log_heads.proofs.logs.set_and_remove_from_usage_scope_sparse.Code as code

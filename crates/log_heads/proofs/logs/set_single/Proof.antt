@@ -1,5 +1,6 @@
 -- `set_single` hands the tracker, the use, the log and the head to `track::set_single`, and stores the head of the answer.
-use Rattle.log_heads.proofs.Thin.Names.{refl, List, [], _∷_, id⊢, !, and-then, no-more, u32, var, Param, given-ref, given, by-value, _$_, addr, Table, points, lets, relent, w16, number, struct, hands-on}
+use Rattle.log_heads.proofs.Thin.Names.{refl, List, [], _∷_, id⊢, !, and-then, no-more, u32, var, Param, given-ref, given, by-value}
+use Rattle.log_heads.proofs.Thin.Names.{_$_, addr, Table, points, lets, relent, w16, number, struct, hands-on}
 use Rattle.model.proofs.TrackerIndex as TrackerIndex
 use Rattle.model.proofs.Extent as Extent
 use Rattle.model.proofs.Selector as Selector

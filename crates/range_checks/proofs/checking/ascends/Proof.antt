@@ -1,8 +1,6 @@
 -- `ascends` is the definition's tests, range by range.
-use Prim.Native.Nat.{_-_}
-use Rattle.range_checks.proofs.Ascending.{Testing, start-of, early, empty, turn, finish}
-use borrow.Author.Needs.{needs}
-use Rattle.range_checks.proofs.checking.ascends.Statement.{statement}
+use Rattle.model.specs.Prelude.{_-_, needs}
+use Rattle.range_checks.proofs.{Ascending.{Testing, start-of, early, empty, turn, finish}, checking.ascends.Statement.statement}
 use Rattle.range_checks.proofs.checking.ascends.Tie as tie
 
 abbrev Inv-loop : tie.InvT-loop

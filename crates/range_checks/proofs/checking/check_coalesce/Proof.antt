@@ -1,7 +1,6 @@
 -- `check_coalesce` is check 14.
-use mathlib.Core.Path.{sym, _∙_}
+use Rattle.model.specs.Prelude.{sym, _∙_, needs}
 use Rattle.model.specs.Refusals.{firstFailing}
-use borrow.Author.Needs.{needs}
 use Rattle.range_checks.proofs.checking.check_coalesce.Statement.{statement}
 use Rattle.range_checks.proofs.checking.check_coalesce.Tie as tie
 

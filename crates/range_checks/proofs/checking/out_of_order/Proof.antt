@@ -1,8 +1,6 @@
 -- `out_of_order` is the definition's two tests, in its order.
-use borrow.Author.Tests.{lt-ltb, le-ltb}
+use Rattle.model.specs.Prelude.{arith, lt-ltb, le-ltb, needs}
 use Rattle.range_states.specs.View.{view-count}
-use native.Mathlib.Omega.{arith}
-use borrow.Author.Needs.{needs}
 use Rattle.range_checks.proofs.checking.out_of_order.Statement.{statement}
 use Rattle.range_checks.proofs.checking.out_of_order.Tie as tie
 

@@ -1,5 +1,5 @@
 -- A third of the numbers make the records.
-use mathlib.Core.Path.{sym}
+use Rattle.model.specs.Prelude.{sym}
 use Rattle.range_states.specs.View.{view-count}
 use Rattle.range_checks.proofs.checking.records.Statement.{statement}
 use Rattle.range_checks.proofs.checking.records.Tie as tie

@@ -1,8 +1,6 @@
 -- `added` counts what the loop of `cover` would add, record by record.
-use Prim.Native.Nat.{_-_}
+use Rattle.model.specs.Prelude.{_-_, arith, needs}
 use Rattle.range_isolate.proofs.Counting.{Counting, start-of, stop, last, turn, finish, gap-few}
-use borrow.Author.Needs.{needs}
-use native.Mathlib.Omega.{arith}
 use Rattle.range_isolate.proofs.isolation.added.Statement.{statement}
 use Rattle.range_isolate.proofs.isolation.added.Tie as tie
 

@@ -1,17 +1,10 @@
 -- `cover` goes on until one of its ways out: what is left to do, from here, is what was to do from the start.
-use Prim.Native.Nat.{ℕ, _+_, _-_, _*_, _≤_, _<_}
-use native.Mathlib.Omega.{arith}
-use borrow.Author.Needs.{needs}
-use mathlib.Core.Path.{_≡_, refl, _∙_}
-use mathlib.Core.List.{List}
-use mathlib.Core.Logic.{⊎-elim}
-use lib.ListN.{length, getD}
+use Rattle.model.specs.Prelude.{ℕ, _+_, _-_, _*_, _≤_, _<_, arith, _≡_, refl, _∙_, ⊎-elim, List, length, getD, needs}
 use Rattle.model.specs.declared.Range.{Range}
-use Rattle.range_isolate.specs.declared.isolation.Placed.{Placed}
+use Rattle.range_isolate.specs.{declared.isolation.Placed.Placed, Isolation.{Covered, Gapped, CoverRoom}}
 use Rattle.range_states.specs.View.{view, blank}
-use Rattle.range_isolate.specs.Isolation.{Covered, Gapped, CoverRoom}
-use Rattle.range_isolate.proofs.Covering.{cover-end, cover-before, cover-cut, cover-more, cover-room, cut-fits, room-gap, room-before, room-end}
-use Rattle.range_isolate.proofs.isolation.cover.Statement.{statement}
+use Rattle.range_isolate.proofs.Covering.{cover-end, cover-before, cover-cut, cover-more, cover-room, cut-fits, room-gap}
+use Rattle.range_isolate.proofs.{Covering.{room-before, room-end}, isolation.cover.Statement.statement}
 use Rattle.range_isolate.proofs.isolation.cover.Tie as tie
 
 -- what is left to do, from here, is what was to do from the start

@@ -1,9 +1,6 @@
 -- `cut_end` leaves the record or makes two of it.
-use Rattle.range_isolate.proofs.Covering.{uncut, cut, cut-room}
-use Prim.Native.Nat.{_*_, _+_, _≤_}
-use lib.ListN.{length}
-use borrow.Author.Needs.{needs}
-use Rattle.range_isolate.proofs.isolation.cut_end.Statement.{statement}
+use Rattle.model.specs.Prelude.{_*_, _+_, _≤_, length, needs}
+use Rattle.range_isolate.proofs.{Covering.{uncut, cut, cut-room}, isolation.cut_end.Statement.statement}
 use Rattle.range_isolate.proofs.isolation.cut_end.Tie as tie
 
 insert-record-requires : tie.Need-insert-record-requires

@@ -1,9 +1,6 @@
 -- `cut_start` leaves the record or makes two of it.
-use Rattle.range_isolate.proofs.Isolating.{start-end, start-uncut, start-cut, start-room}
-use Prim.Native.Nat.{_*_, _+_, _≤_}
-use lib.ListN.{length}
-use borrow.Author.Needs.{needs}
-use Rattle.range_isolate.proofs.isolation.cut_start.Statement.{statement}
+use Rattle.model.specs.Prelude.{_*_, _+_, _≤_, length, needs}
+use Rattle.range_isolate.proofs.{Isolating.{start-end, start-uncut, start-cut, start-room}, isolation.cut_start.Statement.statement}
 use Rattle.range_isolate.proofs.isolation.cut_start.Tie as tie
 
 insert-record-requires : tie.Need-insert-record-requires

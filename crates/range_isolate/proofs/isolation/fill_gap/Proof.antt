@@ -1,10 +1,7 @@
 -- `fill_gap` inserts a record or none.
-use Rattle.range_isolate.proofs.Covering.{gapped-yes, gapped-no}
-use borrow.Author.Needs.{needs}
-use borrow.Author.Tests.{lt-ltb}
-use mathlib.Core.Path.{_≡_}
+use Rattle.model.specs.Prelude.{_≡_, lt-ltb, needs}
+use Rattle.range_isolate.proofs.{Covering.{gapped-yes, gapped-no}, isolation.fill_gap.Statement.statement}
 use Rattle.range_isolate.specs.Isolation.{gapCount}
-use Rattle.range_isolate.proofs.isolation.fill_gap.Statement.{statement}
 use Rattle.range_isolate.proofs.isolation.fill_gap.Tie as tie
 
 insert-record-requires : tie.Need-insert-record-requires

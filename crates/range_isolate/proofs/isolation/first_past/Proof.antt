@@ -1,6 +1,5 @@
 -- `first_past` looks at one record after another.
-use Prim.Native.Nat.{_-_}
-use borrow.Author.Needs.{needs}
+use Rattle.model.specs.Prelude.{_-_, needs}
 use Rattle.range_isolate.proofs.Isolating.{Looking, look-from, look-on, look-here, look-end}
 use Rattle.range_isolate.proofs.isolation.first_past.Statement.{statement}
 use Rattle.range_isolate.proofs.isolation.first_past.Tie as tie

@@ -1,5 +1,5 @@
 -- `gap_count` is the definition's choice.
-use borrow.Author.Tests.{lt-ltb, le-ltb}
+use Rattle.model.specs.Prelude.{lt-ltb, le-ltb}
 use Rattle.range_isolate.proofs.isolation.gap_count.Statement.{statement}
 use Rattle.range_isolate.proofs.isolation.gap_count.Tie as tie
 

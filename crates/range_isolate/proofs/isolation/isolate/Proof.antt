@@ -1,8 +1,6 @@
 -- `isolate` is its three parts, one after the other.
-use Rattle.range_isolate.proofs.Isolating.{isolates, start-fits, cover-fits}
-use native.Mathlib.Omega.{arith}
-use borrow.Author.Needs.{needs}
-use Rattle.range_isolate.proofs.isolation.isolate.Statement.{statement}
+use Rattle.model.specs.Prelude.{arith, needs}
+use Rattle.range_isolate.proofs.{Isolating.{isolates, start-fits, cover-fits}, isolation.isolate.Statement.statement}
 use Rattle.range_isolate.proofs.isolation.isolate.Tie as tie
 
 cut-start-requires : tie.Need-cut-start-requires

@@ -1,7 +1,6 @@
 -- `isolated_count` adds up what the three parts of `isolate` make.
-use Rattle.range_isolate.proofs.Counting.{count-is}
-use borrow.Author.Needs.{needs}
-use Rattle.range_isolate.proofs.isolation.isolated_count.Statement.{statement}
+use Rattle.model.specs.Prelude.{needs}
+use Rattle.range_isolate.proofs.{Counting.count-is, isolation.isolated_count.Statement.statement}
 use Rattle.range_isolate.proofs.isolation.isolated_count.Tie as tie
 
 pub isolated-count-spec : {M : Type 1} → statement M

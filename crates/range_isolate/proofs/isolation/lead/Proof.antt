@@ -1,7 +1,6 @@
 -- `lead` looks at the record at `pos`, if there is one.
-use Rattle.range_isolate.proofs.Counting.{lead-end, lead-yes, lead-no}
-use borrow.Author.Needs.{needs}
-use Rattle.range_isolate.proofs.isolation.lead.Statement.{statement}
+use Rattle.model.specs.Prelude.{needs}
+use Rattle.range_isolate.proofs.{Counting.{lead-end, lead-yes, lead-no}, isolation.lead.Statement.statement}
 use Rattle.range_isolate.proofs.isolation.lead.Tie as tie
 
 pub lead-spec : {M : Type 1} → statement M

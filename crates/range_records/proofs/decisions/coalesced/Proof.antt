@@ -1,5 +1,5 @@
 -- `coalesced` tells the count, or the refusal.
-use borrow.Author.Needs.{needs}
+use Rattle.model.specs.Prelude.{needs}
 use Rattle.range_records.proofs.decisions.coalesced.Statement.{statement}
 use Rattle.range_records.proofs.decisions.coalesced.Tie as tie
 

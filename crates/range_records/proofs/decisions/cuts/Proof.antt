@@ -1,5 +1,5 @@
 -- `cuts` is the two tests.
-use borrow.Author.Tests.{lt-ltb, le-ltb}
+use Rattle.model.specs.Prelude.{lt-ltb, le-ltb}
 use Rattle.range_records.proofs.decisions.cuts.Statement.{statement}
 use Rattle.range_records.proofs.decisions.cuts.Tie as tie
 

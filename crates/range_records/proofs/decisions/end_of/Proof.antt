@@ -1,5 +1,5 @@
 -- `end_of` is 0 where no record is left.
-use borrow.Author.Tests.{eq-eqb, ne-eqb}
+use Rattle.model.specs.Prelude.{eq-eqb, ne-eqb}
 use Rattle.range_records.proofs.decisions.end_of.Statement.{statement}
 use Rattle.range_records.proofs.decisions.end_of.Tie as tie
 

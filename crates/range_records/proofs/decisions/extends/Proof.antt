@@ -1,9 +1,5 @@
 -- `extends` is the test of the Rust, once a record is written.
-use native.Mathlib.Omega.{arith}
-use mathlib.Core.Path.{refl}
-use mathlib.Core.Bool.{false≢true}
-use borrow.Author.Tests.{lt-ltb}
-use borrow.Author.Needs.{needs}
+use Rattle.model.specs.Prelude.{arith, refl, false≢true, lt-ltb, needs}
 use Rattle.range_records.proofs.decisions.extends.Statement.{statement}
 use Rattle.range_records.proofs.decisions.extends.Tie as tie
 

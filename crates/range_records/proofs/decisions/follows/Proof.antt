@@ -1,5 +1,5 @@
 -- `follows` is the tests of `ascends`, one after the other.
-use borrow.Author.Tests.{le-leb, lt-leb, not-true, not-false}
+use Rattle.model.specs.Prelude.{le-leb, lt-leb, not-true, not-false}
 use Rattle.range_records.proofs.decisions.follows.Statement.{statement}
 use Rattle.range_records.proofs.decisions.follows.Tie as tie
 

@@ -1,8 +1,6 @@
 -- `join_next` joins or goes on.
+use Rattle.model.specs.Prelude.{arith, sym, _∙_, needs}
 use Rattle.range_records.specs.Passes.{joinOf}
-use native.Mathlib.Omega.{arith}
-use mathlib.Core.Path.{sym, _∙_}
-use borrow.Author.Needs.{needs}
 use Rattle.range_records.proofs.decisions.join_next.Statement.{statement}
 use Rattle.range_records.proofs.decisions.join_next.Tie as tie
 

@@ -1,7 +1,5 @@
 -- `left_of` counts a record that is used up.
-use native.Mathlib.Omega.{arith}
-use borrow.Author.Tests.{eq-eqb, ne-eqb}
-use borrow.Author.Needs.{needs}
+use Rattle.model.specs.Prelude.{arith, eq-eqb, ne-eqb, needs}
 use Rattle.range_records.proofs.decisions.left_of.Statement.{statement}
 use Rattle.range_records.proofs.decisions.left_of.Tie as tie
 

@@ -1,7 +1,6 @@
 -- `look` is one record more.
+use Rattle.model.specs.Prelude.{arith, needs}
 use Rattle.range_records.specs.Passes.{lookOf}
-use native.Mathlib.Omega.{arith}
-use borrow.Author.Needs.{needs}
 use Rattle.range_records.proofs.decisions.look.Statement.{statement}
 use Rattle.range_records.proofs.decisions.look.Tie as tie
 

@@ -1,6 +1,5 @@
 -- `lower` goes by the two cuts.
-use borrow.Author.Tests.{lt-ltb, le-ltb}
-use borrow.Author.Needs.{needs}
+use Rattle.model.specs.Prelude.{lt-ltb, le-ltb, needs}
 use Rattle.range_records.proofs.decisions.lower.Statement.{statement}
 use Rattle.range_records.proofs.decisions.lower.Tie as tie
 

@@ -1,8 +1,6 @@
 -- `next_piece` is a gap, or the upper part of the record.
+use Rattle.model.specs.Prelude.{arith, lt-ltb, le-ltb, needs}
 use Rattle.range_records.specs.Passes.{cutPiece}
-use native.Mathlib.Omega.{arith}
-use borrow.Author.Tests.{lt-ltb, le-ltb}
-use borrow.Author.Needs.{needs}
 use Rattle.range_records.proofs.decisions.next_piece.Statement.{statement}
 use Rattle.range_records.proofs.decisions.next_piece.Tie as tie
 

@@ -1,7 +1,5 @@
 -- `out_of_order` is check 14.
-use mathlib.Core.Path.{sym}
-use mathlib.Core.Bool.{false≢true}
-use borrow.Author.Tests.{lt-ltb, le-ltb}
+use Rattle.model.specs.Prelude.{sym, false≢true, lt-ltb, le-ltb}
 use Rattle.range_records.proofs.decisions.out_of_order.Statement.{statement}
 use Rattle.range_records.proofs.decisions.out_of_order.Tie as tie
 

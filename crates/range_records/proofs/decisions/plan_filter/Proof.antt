@@ -1,8 +1,6 @@
 -- `plan_filter` is the three checks, in their order.
+use Rattle.model.specs.Prelude.{sym, _∙_, lt-ltb, le-ltb, le-leb, lt-leb, needs}
 use Rattle.range_records.specs.Passes.{filterPlan}
-use mathlib.Core.Path.{sym, _∙_}
-use borrow.Author.Tests.{lt-ltb, le-ltb, le-leb, lt-leb}
-use borrow.Author.Needs.{needs}
 use Rattle.range_records.proofs.decisions.plan_filter.Statement.{statement}
 use Rattle.range_records.proofs.decisions.plan_filter.Tie as tie
 

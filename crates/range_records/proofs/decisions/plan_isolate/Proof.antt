@@ -1,9 +1,6 @@
 -- `plan_isolate` is the three checks, in their order, and what is told.
+use Rattle.model.specs.Prelude.{arith, refl, sym, _∙_, lt-ltb, le-ltb, le-leb, lt-leb, needs}
 use Rattle.range_records.specs.Passes.{isolatePlan}
-use native.Mathlib.Omega.{arith}
-use mathlib.Core.Path.{refl, sym, _∙_}
-use borrow.Author.Tests.{lt-ltb, le-ltb, le-leb, lt-leb}
-use borrow.Author.Needs.{needs}
 use Rattle.range_records.proofs.decisions.plan_isolate.Statement.{statement}
 use Rattle.range_records.proofs.decisions.plan_isolate.Tie as tie
 

@@ -1,7 +1,6 @@
 -- `verdict` is check 14.
+use Rattle.model.specs.Prelude.{sym, _∙_, needs}
 use Rattle.range_records.specs.Passes.{verdictOf}
-use mathlib.Core.Path.{sym, _∙_}
-use borrow.Author.Needs.{needs}
 use Rattle.range_records.proofs.decisions.verdict.Statement.{statement}
 use Rattle.range_records.proofs.decisions.verdict.Tie as tie
 

@@ -1,13 +1,20 @@
 -- `clip` meets its contract: a walk of its code. Both runs are opened before the loop and closed after it.
-use Rattle.walk.specs.Walk.{_≡_, refl, ap, ⊎-elim, List, [], _∷_, none, some, ℕ, _<_, _≤_, _^_, _+_, _-_, zero-le, eq-or-lt-of-le, add-one-le, add-one-dec, arith, length, getD, lit<, URA, fullShare, named, w32, w64, Val, vint, SProp, emp, id⊢, Lft, Share, ftrue, flft, Model, Heap, Env, afterTurn, fmOf, factI, GhostRules, Running, Item, ‵, _⊛_, Sq, atRet, _$_, _∵_, !, qed, by, move, keep, drop, split, join, rewrite, fsplit, fjoin, frame, updating, load, lit, unit-lit, and-then, no-more, of-opd, bin, assigns, exec, scaled-fits, lt-ltb, le-ltb, owns, u32, usize, unit, ShrSlice, MutSlice, Room, plain, nothing, needs, number, UnitOf, half, Blocks, envOf, held, enters, var, part, lets, lets-last, points, turning, whiles, again, goes-on, breaks, spent, leaves, rules, tables-at, known, of, asks, by-value, shared, lent, Function, args, Walks, Post, ends, proved, settled, bare, Row, OfE, a-value, typed, Slice, ref, run, knows, elem, put-elem, Looking, Writing, looks-run, shuts-run, opens-run, closes-run}
 use Rattle.model.specs.declared.Range.{Range}
+use Rattle.walk.specs.Walk.{_≡_, refl, ap, ⊎-elim, List, [], _∷_, none, some, ℕ, _<_, _≤_, _^_, _+_, _-_, zero-le, eq-or-lt-of-le}
+use Rattle.walk.specs.Walk.{add-one-le, add-one-dec, arith, length, getD, lit<, URA, fullShare, named, w32, w64, Val, vint, SProp, emp, id⊢}
+use Rattle.walk.specs.Walk.{Lft, Share, ftrue, flft, Model, Heap, Env, afterTurn, fmOf, factI, GhostRules, Running, Item, ‵, _⊛_, Sq, atRet}
+use Rattle.walk.specs.Walk.{_$_, _∵_, !, qed, by, move, keep, drop, split, join, rewrite, fsplit, fjoin, frame, updating, load, lit}
+use Rattle.walk.specs.Walk.{unit-lit, and-then, no-more, of-opd, bin, assigns, exec, scaled-fits, lt-ltb, le-ltb, owns, u32, usize, unit}
+use Rattle.walk.specs.Walk.{ShrSlice, MutSlice, Room, plain, nothing, needs, number, UnitOf, half, Blocks, envOf, held, enters, var, part}
+use Rattle.walk.specs.Walk.{lets, lets-last, points, turning, whiles, again, goes-on, breaks, spent, leaves, rules, tables-at, known, of}
+use Rattle.walk.specs.Walk.{asks, by-value, shared, lent, Function, args, Walks, Post, ends, proved, settled, bare, Row, OfE, a-value}
+use Rattle.walk.specs.Walk.{typed, Slice, ref, run, knows, elem, put-elem, Looking, Writing, looks-run, shuts-run, opens-run, closes-run}
 use Rattle.range_states.specs.View.{blank}
+use Rattle.range_records.specs.Passes.{clipping}
+use Rattle.range_records.proofs.{Walks.E, Laws.Loops.{clipping-none, clipping-more, clipping-length}}
 use Rattle.range_states.specs.Filtering as spec
 use Rattle.range_states.proofs.filtering.clipped as clipped
 use Rattle.range_states.proofs.filtering.clipped.Met as clipped-thm
-use Rattle.range_records.specs.Passes.{clipping}
-use Rattle.range_records.proofs.Walks.{E}
-use Rattle.range_records.proofs.Laws.Loops.{clipping-none, clipping-more, clipping-length}
 use Rattle.range_records.proofs.strips.clip as clip
 use Rattle.range_records.proofs.strips.clip.Code as code
 

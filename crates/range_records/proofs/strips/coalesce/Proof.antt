@@ -1,16 +1,20 @@
 -- `coalesce` meets its contract: a walk of its code. `run` is lent as a `&` to the first pass, and given to the second for good.
-use Rattle.walk.specs.Walk.{refl, ap, [], _∷_, ℕ, _<_, _^_, min, arith, length, take, URA, fullShare, named, w64, emp, id⊢, Lft, Share, ftrue, flft, Model, Heap, fmOf, factI, fact-mono, GhostRules, Running, ‵, _⊛_, _$_, _∵_, !, qed, by, move, keep, join, fsplit, fjoin, feqL, frame, lit, and-then, no-more, of-opd, owns, usize, MutSlice, Room, plain, Data, number, variant, word, half, enters, var, part, within, lets, leaves, rules, tables-at, known, of, own, gives, asks, by-value, given, Function, args, Walks, free, ends, proved, Row, Slice, ref, run, relent, called, shares, shared-back}
-use Rattle.range_states.specs.View.{blank}
 use Rattle.model.specs.declared.Verdict.{Verdict}
-use Rattle.model.proofs.Verdict as verdict
-use Rattle.model.proofs.Verdict.Laws as verdict-laws
+use Rattle.walk.specs.Walk.{refl, ap, [], _∷_, ℕ, _<_, _^_, min, arith, length, take, URA, fullShare, named, w64, emp, id⊢, Lft, Share}
+use Rattle.walk.specs.Walk.{ftrue, flft, Model, Heap, fmOf, factI, fact-mono, GhostRules, Running, ‵, _⊛_, _$_, _∵_, !, qed, by, move, keep}
+use Rattle.walk.specs.Walk.{join, fsplit, fjoin, feqL, frame, lit, and-then, no-more, of-opd, owns, usize, MutSlice, Room, plain, Data}
+use Rattle.walk.specs.Walk.{number, variant, word, half, enters, var, part, within, lets, leaves, rules, tables-at, known, of, own, gives}
+use Rattle.walk.specs.Walk.{asks, by-value, given, Function, args, Walks, free, ends, proved, Row, Slice, ref, run, relent, called, shares}
+use Rattle.walk.specs.Walk.{shared-back}
+use Rattle.range_states.specs.View.{blank}
 use Rattle.range_calls.specs.declared.CoalesceAnswer.{CoalesceAnswer}
-use Rattle.range_calls.proofs.CoalesceAnswer as answer
-use Rattle.range_calls.proofs.CoalesceAnswer.Laws as answer-laws
 use Rattle.range_records.specs.declared.decisions.Scan.{Scan}
 use Rattle.range_records.specs.Passes.{begun, scanned, verdictOf, grantedOf, coalescedOf, Joined, joining}
-use Rattle.range_records.proofs.Walks.{E, ScanOf}
-use Rattle.range_records.proofs.Laws.Together.{coalesce-fits, coalesces}
+use Rattle.range_records.proofs.{Walks.{E, ScanOf}, Laws.Together.{coalesce-fits, coalesces}}
+use Rattle.model.proofs.Verdict as verdict
+use Rattle.model.proofs.Verdict.Laws as verdict-laws
+use Rattle.range_calls.proofs.CoalesceAnswer as answer
+use Rattle.range_calls.proofs.CoalesceAnswer.Laws as answer-laws
 use Rattle.range_records.proofs.decisions as decisions
 use Rattle.range_records.proofs.strips as strips
 use Rattle.range_records.proofs.strips.coalesce as coalesce

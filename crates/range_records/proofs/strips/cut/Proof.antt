@@ -1,10 +1,17 @@
 -- `cut` meets its contract: a walk of its code. The run is opened before the loop and closed after it.
-use Rattle.walk.specs.Walk.{_≡_, refl, sym, _∙_, ⊎-elim, List, [], _∷_, none, some, ℕ, _<_, _≤_, _^_, _-_, zero-le, eq-or-lt-of-le, le-refl, arith, length, getD, set, length-set, URA, fullShare, named, w32, w64, Val, vint, SProp, emp, id⊢, Lft, Share, ftrue, flft, Model, Heap, Env, afterTurn, fmOf, factI, fact-mono, GhostRules, Running, Item, ‵, _⊛_, Sq, atRet, _$_, _∵_, !, qed, by, move, keep, split, join, fsplit, fjoin, frame, updating, whole, sub, look-in, stop, fld, from, load, lit, unit-lit, and-then, no-more, of-opd, bin, assigns, exec, scaled-fits, lt-ltb, le-ltb, owns, u32, usize, unit, MutSlice, Room, plain, nothing, owed, needs, number, UnitOf, word, half, Blocks, envOf, held, enters, var, part, within, lets, lets-last, points, turning, whiles, again, goes-on, breaks, spent, leaves, rules, tables-at, known, of, asks, by-value, lent, Function, args, Walks, Post, ends, proved, settled, bare, Row, a-value, typed, Slice, ref, run, knows, elem, put-elem, Writing, opens-run, closes-run}
 use Rattle.model.specs.declared.Range.{Range}
+use Rattle.walk.specs.Walk.{_≡_, refl, sym, _∙_, ⊎-elim, List, [], _∷_, none, some, ℕ, _<_, _≤_, _^_, _-_, zero-le, eq-or-lt-of-le, le-refl}
+use Rattle.walk.specs.Walk.{arith, length, getD, set, length-set, URA, fullShare, named, w32, w64, Val, vint, SProp, emp, id⊢, Lft, Share}
+use Rattle.walk.specs.Walk.{ftrue, flft, Model, Heap, Env, afterTurn, fmOf, factI, fact-mono, GhostRules, Running, Item, ‵, _⊛_, Sq, atRet}
+use Rattle.walk.specs.Walk.{_$_, _∵_, !, qed, by, move, keep, split, join, fsplit, fjoin, frame, updating, whole, sub, look-in, stop, fld}
+use Rattle.walk.specs.Walk.{from, load, lit, unit-lit, and-then, no-more, of-opd, bin, assigns, exec, scaled-fits, lt-ltb, le-ltb, owns}
+use Rattle.walk.specs.Walk.{u32, usize, unit, MutSlice, Room, plain, nothing, owed, needs, number, UnitOf, word, half, Blocks, envOf, held}
+use Rattle.walk.specs.Walk.{enters, var, part, within, lets, lets-last, points, turning, whiles, again, goes-on, breaks, spent, leaves}
+use Rattle.walk.specs.Walk.{rules, tables-at, known, of, asks, by-value, lent, Function, args, Walks, Post, ends, proved, settled, bare}
+use Rattle.walk.specs.Walk.{Row, a-value, typed, Slice, ref, run, knows, elem, put-elem, Writing, opens-run, closes-run}
 use Rattle.range_states.specs.View.{blank}
 use Rattle.range_records.specs.Passes.{cutPiece, cutting}
-use Rattle.range_records.proofs.Walks.{E, start-fits, PieceOf}
-use Rattle.range_records.proofs.Laws.Loops.{cutting-none, cutting-less, piece-few}
+use Rattle.range_records.proofs.{Walks.{E, start-fits, PieceOf}, Laws.Loops.{cutting-none, cutting-less, piece-few}}
 use Rattle.range_records.proofs.decisions as decisions
 use Rattle.range_records.proofs.strips.cut as cut
 use Rattle.range_records.proofs.strips.cut.Code as code

@@ -1,15 +1,17 @@
 -- `isolate` meets its contract: a walk of its code. `run` is lent as a `&` to the first pass, and given to the second for good.
-use Rattle.walk.specs.Walk.{refl, ap, List, [], _∷_, ℕ, _<_, _^_, min, arith, length, take, length-take, URA, fullShare, named, w32, w64, emp, id⊢, Lft, Share, ftrue, flft, Model, Heap, fmOf, factI, fact-mono, GhostRules, Running, ‵, _⊛_, _$_, _∵_, !, qed, by, move, keep, drop, fsplit, fjoin, feqL, frame, and-then, no-more, of-opd, owns, u32, usize, MutSlice, Room, plain, owed, says, Data, number, variant, UnitOf, fits-in, word, half, enters, var, part, within, lets, leaves, rules, tables-at, known, of, own, gives, asks, by-value, given, Function, args, Walks, free, ends, proved, Row, Slice, ref, run, relent, called, shares, shared-back}
 use Rattle.model.specs.declared.Range.{Range}
+use Rattle.walk.specs.Walk.{refl, ap, List, [], _∷_, ℕ, _<_, _^_, min, arith, length, take, length-take, URA, fullShare, named, w32, w64}
+use Rattle.walk.specs.Walk.{emp, id⊢, Lft, Share, ftrue, flft, Model, Heap, fmOf, factI, fact-mono, GhostRules, Running, ‵, _⊛_, _$_, _∵_}
+use Rattle.walk.specs.Walk.{ !, qed, by, move, keep, drop, fsplit, fjoin, feqL, frame, and-then, no-more, of-opd, owns, u32, usize, MutSlice}
+use Rattle.walk.specs.Walk.{Room, plain, owed, says, Data, number, variant, UnitOf, fits-in, word, half, enters, var, part, within, lets}
+use Rattle.walk.specs.Walk.{leaves, rules, tables-at, known, of, own, gives, asks, by-value, given, Function, args, Walks, free, ends}
+use Rattle.walk.specs.Walk.{proved, Row, Slice, ref, run, relent, called, shares, shared-back}
+use Rattle.range_records.specs.{declared.decisions.Scan.Scan, declared.decisions.Plan.Plan}
+use Rattle.range_records.specs.Passes.{begun, scanned, Few, isolatePlan, cutting}
+use Rattle.range_records.proofs.{Walks.{E, ScanOf, PlanOf}, Laws.Loops.few-under, Laws.Survey.scanned-few}
+use Rattle.range_records.proofs.Laws.Together.{isolate-fits, isolates}
 use Rattle.range_calls.proofs.IsolateAnswer as answer
 use Rattle.range_calls.proofs.IsolateAnswer.Laws as answer-laws
-use Rattle.range_records.specs.declared.decisions.Scan.{Scan}
-use Rattle.range_records.specs.declared.decisions.Plan.{Plan}
-use Rattle.range_records.specs.Passes.{begun, scanned, Few, isolatePlan, cutting}
-use Rattle.range_records.proofs.Walks.{E, ScanOf, PlanOf}
-use Rattle.range_records.proofs.Laws.Loops.{few-under}
-use Rattle.range_records.proofs.Laws.Survey.{scanned-few}
-use Rattle.range_records.proofs.Laws.Together.{isolate-fits, isolates}
 use Rattle.range_records.proofs.decisions as decisions
 use Rattle.range_records.proofs.strips as strips
 use Rattle.range_records.proofs.strips.isolate as isolate

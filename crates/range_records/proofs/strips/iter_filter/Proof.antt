@@ -1,13 +1,16 @@
 -- `iter_filter` meets its contract: a walk of its code. `run` is read by both passes, and `out` is given to the second for good.
-use Rattle.walk.specs.Walk.{refl, ap, List, [], _∷_, ℕ, _<_, _^_, min, arith, length, take, URA, named, w32, w64, emp, id⊢, Lft, Share, ftrue, flft, Model, Heap, fmOf, factI, fact-mono, GhostRules, Running, ‵, _⊛_, _$_, _∵_, !, qed, by, move, keep, drop, split, join, use1, fsplit, fjoin, feqL, frame, and-then, no-more, of-opd, owns, u32, usize, ShrSlice, MutSlice, Room, shr-slice-copy, plain, nothing, Data, number, variant, UnitOf, fits-in, word, half, enters, var, part, within, lets, leaves, rules, tables-at, known, of, own, gives, asks, by-value, shared, given, Function, args, Walks, free, ends, proved, bare, Row, Slice, ref, run, Shared, relent}
 use Rattle.model.specs.declared.Range.{Range}
+use Rattle.walk.specs.Walk.{refl, ap, List, [], _∷_, ℕ, _<_, _^_, min, arith, length, take, URA, named, w32, w64, emp, id⊢, Lft, Share}
+use Rattle.walk.specs.Walk.{ftrue, flft, Model, Heap, fmOf, factI, fact-mono, GhostRules, Running, ‵, _⊛_, _$_, _∵_, !, qed, by, move, keep}
+use Rattle.walk.specs.Walk.{drop, split, join, use1, fsplit, fjoin, feqL, frame, and-then, no-more, of-opd, owns, u32, usize, ShrSlice}
+use Rattle.walk.specs.Walk.{MutSlice, Room, shr-slice-copy, plain, nothing, Data, number, variant, UnitOf, fits-in, word, half, enters, var}
+use Rattle.walk.specs.Walk.{part, within, lets, leaves, rules, tables-at, known, of, own, gives, asks, by-value, shared, given, Function}
+use Rattle.walk.specs.Walk.{args, Walks, free, ends, proved, bare, Row, Slice, ref, run, Shared, relent}
 use Rattle.range_calls.specs.declared.FilterAnswer.{FilterAnswer}
+use Rattle.range_records.specs.{declared.decisions.Scan.Scan, Passes.{begun, scanned, filterPlan, filterCount, clipping}}
+use Rattle.range_records.proofs.{Walks.{E, ScanOf}, Laws.Together.{filter-fits, filters}}
 use Rattle.range_calls.proofs.FilterAnswer as answer
 use Rattle.range_calls.proofs.FilterAnswer.Laws as answer-laws
-use Rattle.range_records.specs.declared.decisions.Scan.{Scan}
-use Rattle.range_records.specs.Passes.{begun, scanned, filterPlan, filterCount, clipping}
-use Rattle.range_records.proofs.Walks.{E, ScanOf}
-use Rattle.range_records.proofs.Laws.Together.{filter-fits, filters}
 use Rattle.range_records.proofs.decisions as decisions
 use Rattle.range_records.proofs.strips as strips
 use Rattle.range_records.proofs.strips.iter_filter as iter-filter

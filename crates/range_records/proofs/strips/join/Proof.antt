@@ -1,10 +1,17 @@
 -- `join` meets its contract: a walk of its code. The run is opened before the loop and closed after it.
-use Rattle.walk.specs.Walk.{_≡_, refl, sym, ap, _∙_, ⊎-elim, List, [], _∷_, none, some, ℕ, _<_, _≤_, _^_, _+_, _-_, zero-le, eq-or-lt-of-le, add-one-le, add-one-dec, unary-clauses, arith, length, getD, set, length-set, lit<, URA, fullShare, named, w64, Val, vint, SProp, emp, id⊢, Lft, Share, ftrue, flft, Model, Heap, Env, afterTurn, fmOf, factI, fact-mono, GhostRules, Running, Item, ‵, _⊛_, Sq, atRet, _$_, _∵_, !, qed, by, move, keep, split, join, fsplit, fjoin, frame, updating, load, lit, and-then, no-more, of-opd, bin, assigns, exec, scaled-fits, lt-ltb, le-ltb, owns, usize, MutSlice, Room, plain, nothing, owed, needs, number, word, Blocks, envOf, held, enters, var, part, lets, lets-last, points, turning, whiles, again, goes-on, breaks, spent, leaves, rules, tables-at, known, of, asks, by-value, lent, Function, args, Walks, Post, ends, proved, settled, bare, Row, OfE, a-value, spell, IsE, typed, Slice, ref, run, knows, elem, put-elem, Writing, opens-run, closes-run}
 use Rattle.model.specs.declared.Range.{Range}
+use Rattle.walk.specs.Walk.{_≡_, refl, sym, ap, _∙_, ⊎-elim, List, [], _∷_, none, some, ℕ, _<_, _≤_, _^_, _+_, _-_, zero-le, eq-or-lt-of-le}
+use Rattle.walk.specs.Walk.{add-one-le, add-one-dec, unary-clauses, arith, length, getD, set, length-set, lit<, URA, fullShare, named, w64}
+use Rattle.walk.specs.Walk.{Val, vint, SProp, emp, id⊢, Lft, Share, ftrue, flft, Model, Heap, Env, afterTurn, fmOf, factI, fact-mono}
+use Rattle.walk.specs.Walk.{GhostRules, Running, Item, ‵, _⊛_, Sq, atRet, _$_, _∵_, !, qed, by, move, keep, split, join, fsplit, fjoin}
+use Rattle.walk.specs.Walk.{frame, updating, load, lit, and-then, no-more, of-opd, bin, assigns, exec, scaled-fits, lt-ltb, le-ltb, owns}
+use Rattle.walk.specs.Walk.{usize, MutSlice, Room, plain, nothing, owed, needs, number, word, Blocks, envOf, held, enters, var, part, lets}
+use Rattle.walk.specs.Walk.{lets-last, points, turning, whiles, again, goes-on, breaks, spent, leaves, rules, tables-at, known, of, asks}
+use Rattle.walk.specs.Walk.{by-value, lent, Function, args, Walks, Post, ends, proved, settled, bare, Row, OfE, a-value, spell, IsE, typed}
+use Rattle.walk.specs.Walk.{Slice, ref, run, knows, elem, put-elem, Writing, opens-run, closes-run}
 use Rattle.range_states.specs.View.{blank}
 use Rattle.range_records.specs.Passes.{joinOf, joining}
-use Rattle.range_records.proofs.Walks.{E, NextOf}
-use Rattle.range_records.proofs.Laws.Loops.{joining-none, joining-more, join-at, join-len}
+use Rattle.range_records.proofs.{Walks.{E, NextOf}, Laws.Loops.{joining-none, joining-more, join-at, join-len}}
 use Rattle.range_records.proofs.decisions as decisions
 use Rattle.range_records.proofs.strips.join as joins
 use Rattle.range_records.proofs.strips.join.Code as code

@@ -1,10 +1,16 @@
 -- `survey` meets its contract: a walk of its code. The run is looked into before the loop and shut after it.
-use Rattle.walk.specs.Walk.{_≡_, refl, ap, subst, _∙_, ⊎-elim, List, [], _∷_, none, some, ℕ, _<_, _≤_, _^_, _+_, _-_, zero-le, eq-or-lt-of-le, add-one-le, add-one-dec, arith, length, take, getD, lit<, URA, named, w32, w64, Val, vint, SProp, emp, id⊢, Lft, Share, ftrue, flft, Model, Heap, Env, afterTurn, fmOf, factI, fact-mono, GhostRules, Running, Item, ‵, _⊛_, Sq, atRet, _$_, _∵_, !, qed, by, move, keep, drop, split, join, fsplit, frame, updating, load, lit, and-then, no-more, of-opd, bin, exec, scaled-fits, lt-ltb, le-ltb, owns, u32, usize, ShrSlice, Room, plain, nothing, needs, number, fits-in, Valid, half, Blocks, envOf, held, enters, var, part, lets, lets-last, points, turning, whiles, again, goes-on, breaks, spent, leaves, rules, tables-at, known, of, asks, by-value, shared, Function, args, Walks, Post, ends, proved, settled, bare, Row, a-value, typed, Slice, ref, run, knows, elem, Looking, looks-run, shuts-run}
+use Rattle.walk.specs.Walk.{_≡_, refl, ap, subst, _∙_, ⊎-elim, List, [], _∷_, none, some, ℕ, _<_, _≤_, _^_, _+_, _-_, zero-le}
+use Rattle.walk.specs.Walk.{eq-or-lt-of-le, add-one-le, add-one-dec, arith, length, take, getD, lit<, URA, named, w32, w64, Val, vint}
+use Rattle.walk.specs.Walk.{SProp, emp, id⊢, Lft, Share, ftrue, flft, Model, Heap, Env, afterTurn, fmOf, factI, fact-mono, GhostRules}
+use Rattle.walk.specs.Walk.{Running, Item, ‵, _⊛_, Sq, atRet, _$_, _∵_, !, qed, by, move, keep, drop, split, join, fsplit, frame, updating}
+use Rattle.walk.specs.Walk.{load, lit, and-then, no-more, of-opd, bin, exec, scaled-fits, lt-ltb, le-ltb, owns, u32, usize, ShrSlice, Room}
+use Rattle.walk.specs.Walk.{plain, nothing, needs, number, fits-in, Valid, half, Blocks, envOf, held, enters, var, part, lets, lets-last}
+use Rattle.walk.specs.Walk.{points, turning, whiles, again, goes-on, breaks, spent, leaves, rules, tables-at, known, of, asks, by-value}
+use Rattle.walk.specs.Walk.{shared, Function, args, Walks, Post, ends, proved, settled, bare, Row, a-value, typed, Slice, ref, run, knows}
+use Rattle.walk.specs.Walk.{elem, Looking, looks-run, shuts-run}
 use Rattle.range_states.specs.View.{blank}
-use Rattle.range_records.specs.declared.decisions.Scan.{Scan}
-use Rattle.range_records.specs.Passes.{begun, lookOf, scanned, Few}
-use Rattle.range_records.proofs.Walks.{E, ScanOf}
-use Rattle.range_records.proofs.Laws.Loops.{scanned-none, scanned-more, few-none, few-look, few-under}
+use Rattle.range_records.specs.{declared.decisions.Scan.Scan, Passes.{begun, lookOf, scanned, Few}}
+use Rattle.range_records.proofs.{Walks.{E, ScanOf}, Laws.Loops.{scanned-none, scanned-more, few-none, few-look, few-under}}
 use Rattle.range_records.proofs.decisions as decisions
 use Rattle.range_records.proofs.strips.survey as survey
 use Rattle.range_records.proofs.strips.survey.Code as code

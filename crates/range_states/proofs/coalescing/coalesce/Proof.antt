@@ -1,8 +1,6 @@
 -- `coalesce` reads up to the first record that joins, and from there on is the pass of `Joining`.
-use Prim.Native.Nat.{_-_}
-use mathlib.Core.Path.{refl}
+use Rattle.model.specs.Prelude.{_-_, refl, needs}
 use Rattle.range_states.proofs.Joining.{Joining, all-apart, joining-from, turn-yes, turn-no, finish, none}
-use borrow.Author.Needs.{needs}
 use Rattle.range_states.proofs.coalescing.coalesce.Statement.{statement}
 use Rattle.range_states.proofs.coalescing.coalesce.Tie as tie
 

@@ -1,7 +1,6 @@
 -- `first_join` reads on while no record joins the one before it.
-use Prim.Native.Nat.{_-_}
+use Rattle.model.specs.Prelude.{_-_, needs}
 use Rattle.range_states.proofs.Joining.{Reading, reading-start, reading-on, reading-ends}
-use borrow.Author.Needs.{needs}
 use Rattle.range_states.proofs.coalescing.first_join.Statement.{statement}
 use Rattle.range_states.proofs.coalescing.first_join.Tie as tie
 

@@ -1,5 +1,5 @@
 -- `joins` is the model's test: the two comparisons, in its order.
-use borrow.Author.Tests.{eq-eqb, ne-eqb}
+use Rattle.model.specs.Prelude.{eq-eqb, ne-eqb}
 use Rattle.range_states.proofs.coalescing.joins.Statement.{statement}
 use Rattle.range_states.proofs.coalescing.joins.Tie as tie
 

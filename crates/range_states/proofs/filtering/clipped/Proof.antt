@@ -1,5 +1,5 @@
 -- `clipped` takes the larger start and the smaller end.
-use borrow.Author.Needs.{needs}
+use Rattle.model.specs.Prelude.{needs}
 use Rattle.range_states.proofs.filtering.clipped.Statement.{statement}
 use Rattle.range_states.proofs.filtering.clipped.Tie as tie
 

@@ -1,7 +1,6 @@
 -- `filtered_count` counts what is left to look at, record by record.
-use Prim.Native.Nat.{_-_}
+use Rattle.model.specs.Prelude.{_-_, needs}
 use Rattle.range_states.proofs.Overlaps.{Counting, count-from, count-yes, count-no, count-end}
-use borrow.Author.Needs.{needs}
 use Rattle.range_states.proofs.filtering.filtered_count.Statement.{statement}
 use Rattle.range_states.proofs.filtering.filtered_count.Tie as tie
 

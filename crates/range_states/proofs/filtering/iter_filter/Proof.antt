@@ -1,7 +1,6 @@
 -- `iter_filter` writes each overlap at the next record of the second run.
-use Prim.Native.Nat.{_-_}
+use Rattle.model.specs.Prelude.{_-_, needs}
 use Rattle.range_states.proofs.Overlaps.{Writing, write-from, write-fits, write-yes, write-no, write-end}
-use borrow.Author.Needs.{needs}
 use Rattle.range_states.proofs.filtering.iter_filter.Statement.{statement}
 use Rattle.range_states.proofs.filtering.iter_filter.Tie as tie
 

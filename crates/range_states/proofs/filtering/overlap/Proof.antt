@@ -1,5 +1,5 @@
 -- `overlap` is the model's test: the two comparisons, in its order.
-use borrow.Author.Tests.{lt-ltb, le-ltb}
+use Rattle.model.specs.Prelude.{lt-ltb, le-ltb}
 use Rattle.range_states.specs.Filtering.{overlaps}
 use Rattle.range_states.proofs.filtering.overlap.Statement.{statement}
 use Rattle.range_states.proofs.filtering.overlap.Tie as tie

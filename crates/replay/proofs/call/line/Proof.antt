@@ -1,7 +1,5 @@
 -- What a call is lent lies within the room for it.
-use native.Mathlib.Omega.{arith}
-use lib.Seq.{length-take-le}
-use borrow.Author.Needs.{needs}
+use Rattle.model.specs.Prelude.{arith, length-take-le, needs}
 use Rattle.replay.proofs.call.line.Statement.{statement}
 use Rattle.replay.proofs.call.line.Tie as tie
 

@@ -1,6 +1,5 @@
 -- The sets that a call is handed are among the four, and every slice is as long after the call as before it.
-use native.Mathlib.Omega.{arith}
-use borrow.Author.Needs.{needs}
+use Rattle.model.specs.Prelude.{arith, needs}
 use Rattle.replay.proofs.call.on_lent.Statement.{statement}
 use Rattle.replay.proofs.call.on_lent.Tie as tie
 

@@ -1,7 +1,5 @@
 -- `untouched` stays within the log.
-use Prim.Native.Nat.{_-_, _≤_}
-use lib.ListN.{length}
-use borrow.Author.Needs.{needs}
+use Rattle.model.specs.Prelude.{_-_, _≤_, length, needs}
 use Rattle.replay.proofs.call.untouched.Statement.{statement}
 use Rattle.replay.proofs.call.untouched.Tie as tie
 

@@ -1,6 +1,5 @@
 -- The product of two numbers up to 4,096 fits, and is at most 16,777,216.
-use native.Mathlib.Omega.{arith}
-use native.Mathlib.Nat.{le-trans, mul-le-mul-left, mul-le-mul-right}
+use Rattle.model.specs.Prelude.{le-trans, mul-le-mul-left, mul-le-mul-right, arith}
 use Rattle.replay_lines.proofs.numbers.product.Statement.{statement}
 use Rattle.replay_lines.proofs.numbers.product.Tie as tie
 

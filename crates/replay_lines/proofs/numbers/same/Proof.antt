@@ -1,6 +1,5 @@
 -- `same` stays within both runs.
-use Prim.Native.Nat.{_-_, _≤_}
-use borrow.Author.Needs.{needs}
+use Rattle.model.specs.Prelude.{_-_, _≤_, needs}
 use Rattle.replay_lines.proofs.numbers.same.Statement.{statement}
 use Rattle.replay_lines.proofs.numbers.same.Tie as tie
 

@@ -1,7 +1,5 @@
 -- The bytes that are sent lie within those that are given.
-use native.Mathlib.Omega.{arith}
-use lib.Seq.{length-take-le}
-use borrow.Author.Needs.{needs}
+use Rattle.model.specs.Prelude.{arith, length-take-le, needs}
 use Rattle.replay_lines.proofs.out.send.Statement.{statement}
 use Rattle.replay_lines.proofs.out.send.Tie as tie
 

@@ -1,7 +1,5 @@
 -- `text` stays within the bytes.
-use Prim.Native.Nat.{_-_, _≤_}
-use lib.ListN.{length}
-use borrow.Author.Needs.{needs}
+use Rattle.model.specs.Prelude.{_-_, _≤_, length, needs}
 use Rattle.replay_lines.proofs.out.text.Statement.{statement}
 use Rattle.replay_lines.proofs.out.text.Tie as tie
 

@@ -1,7 +1,5 @@
 -- `run` stays within the run.
-use Prim.Native.Nat.{_-_, _≤_}
-use lib.ListN.{length}
-use borrow.Author.Needs.{needs}
+use Rattle.model.specs.Prelude.{_-_, _≤_, length, needs}
 use Rattle.replay_lines.proofs.ranged.run.Statement.{statement}
 use Rattle.replay_lines.proofs.ranged.run.Tie as tie
 

@@ -1,8 +1,5 @@
 -- A mip takes at most 769 numbers of the line, so the place where the line goes on stays small.
-use Prim.Native.Nat.{_*_, _+_, _-_, _≤_}
-use mathlib.Core.Path.{_≡_}
-use lib.ListN.{length}
-use borrow.Author.Needs.{needs}
+use Rattle.model.specs.Prelude.{_*_, _+_, _-_, _≤_, _≡_, length, needs}
 use Rattle.replay_lines.proofs.silent.put_mips.Statement.{statement}
 use Rattle.replay_lines.proofs.silent.put_mips.Tie as tie
 

@@ -1,8 +1,5 @@
 -- `put_ranges` writes as many numbers as it is told to.
-use Prim.Native.Nat.{_-_, _≤_}
-use mathlib.Core.Path.{_≡_}
-use lib.ListN.{length}
-use borrow.Author.Needs.{needs}
+use Rattle.model.specs.Prelude.{_-_, _≤_, _≡_, length, needs}
 use Rattle.replay_lines.proofs.silent.put_ranges.Statement.{statement}
 use Rattle.replay_lines.proofs.silent.put_ranges.Tie as tie
 

@@ -1,6 +1,5 @@
 -- `all` looks at the four sets.
-use Prim.Native.Nat.{_-_, _≤_}
-use borrow.Author.Needs.{needs}
+use Rattle.model.specs.Prelude.{_-_, _≤_, needs}
 use Rattle.replay_lines.proofs.tell.all.Statement.{statement}
 use Rattle.replay_lines.proofs.tell.all.Tie as tie
 

@@ -1,6 +1,5 @@
 -- `mips` tells every mip up to the sixteenth.
-use Prim.Native.Nat.{_-_, _≤_}
-use borrow.Author.Needs.{needs}
+use Rattle.model.specs.Prelude.{_-_, _≤_, needs}
 use Rattle.replay_lines.proofs.tell.mips.Statement.{statement}
 use Rattle.replay_lines.proofs.tell.mips.Tie as tie
 

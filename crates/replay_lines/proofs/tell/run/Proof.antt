@@ -1,6 +1,5 @@
 -- `run` tells as many numbers as it is told to.
-use Prim.Native.Nat.{_-_, _≤_}
-use borrow.Author.Needs.{needs}
+use Rattle.model.specs.Prelude.{_-_, _≤_, needs}
 use Rattle.replay_lines.proofs.tell.run.Statement.{statement}
 use Rattle.replay_lines.proofs.tell.run.Tie as tie
 

@@ -1,6 +1,5 @@
 -- `textures` looks at every index below N.
-use Prim.Native.Nat.{_-_, _≤_}
-use borrow.Author.Needs.{needs}
+use Rattle.model.specs.Prelude.{_-_, _≤_, needs}
 use Rattle.replay_lines.proofs.tell.textures.Statement.{statement}
 use Rattle.replay_lines.proofs.tell.textures.Tie as tie
 

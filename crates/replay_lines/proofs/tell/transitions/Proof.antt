@@ -1,6 +1,5 @@
 -- `transitions` tells the entries up to the last one, and ends.
-use Prim.Native.Nat.{_-_, _≤_}
-use borrow.Author.Needs.{needs}
+use Rattle.model.specs.Prelude.{_-_, _≤_, needs}
 use Rattle.replay_lines.proofs.tell.transitions.Statement.{statement}
 use Rattle.replay_lines.proofs.tell.transitions.Tie as tie
 

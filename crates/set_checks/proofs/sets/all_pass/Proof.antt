@@ -1,12 +1,7 @@
 -- One index more is one test more.
-use Prim.Native.Nat.{_≤_, _-_}
-use mathlib.Core.Path.{_≡_}
-use mathlib.Core.Bool.{true}
+use Rattle.model.specs.Prelude.{_≤_, _-_, arith, _≡_, true, needs}
 use Rattle.set_checks.specs.Sets.{AllPass}
-use Rattle.set_checks.proofs.Passing.{passes-more, passes-nothing}
-use native.Mathlib.Omega.{arith}
-use borrow.Author.Needs.{needs}
-use Rattle.set_checks.proofs.sets.all_pass.Statement.{statement}
+use Rattle.set_checks.proofs.{Passing.{passes-more, passes-nothing}, sets.all_pass.Statement.statement}
 use Rattle.set_checks.proofs.sets.all_pass.Tie as tie
 
 abbrev Inv-loop : tie.InvT-loop

@@ -1,11 +1,8 @@
 -- `check_each`: index by index; the first check that fails is told.
-use Prim.Native.Nat.{_-_}
+use Rattle.model.specs.Prelude.{_-_, needs}
 use Rattle.model.specs.Refusals.{setRefusal}
-use Rattle.set_checks.specs.Head.{headIn}
-use Rattle.set_checks.specs.Sets.{ownedRefusal}
-use Rattle.set_checks.proofs.Turns.{Left, turn, stop, end, set-begins}
-use borrow.Author.Needs.{needs}
-use Rattle.set_checks.proofs.sets.check_each.Statement.{statement}
+use Rattle.set_checks.specs.{Head.headIn, Sets.ownedRefusal}
+use Rattle.set_checks.proofs.{Turns.{Left, turn, stop, end, set-begins}, sets.check_each.Statement.statement}
 use Rattle.set_checks.proofs.sets.check_each.Tie as tie
 
 abbrev Inv-loop : tie.InvT-loop

@@ -1,7 +1,6 @@
 -- `check_listed`: an index past the given set is refused, another checked if it is owned.
-use borrow.Author.Needs.{needs}
-use Rattle.set_checks.proofs.Verdicts.{past-tells, listed-tells}
-use Rattle.set_checks.proofs.sets.check_listed.Statement.{statement}
+use Rattle.model.specs.Prelude.{needs}
+use Rattle.set_checks.proofs.{Verdicts.{past-tells, listed-tells}, sets.check_listed.Statement.statement}
 use Rattle.set_checks.proofs.sets.check_listed.Tie as tie
 
 returns-2 : tie.Need-returns-2

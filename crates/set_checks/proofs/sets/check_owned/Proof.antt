@@ -1,7 +1,6 @@
 -- `check_owned`: an index that is not owned has no check, another those of its extent.
-use borrow.Author.Needs.{needs}
-use Rattle.set_checks.proofs.Verdicts.{other-tells, owned-tells}
-use Rattle.set_checks.proofs.sets.check_owned.Statement.{statement}
+use Rattle.model.specs.Prelude.{needs}
+use Rattle.set_checks.proofs.{Verdicts.{other-tells, owned-tells}, sets.check_owned.Statement.statement}
 use Rattle.set_checks.proofs.sets.check_owned.Tie as tie
 
 returns : tie.Need-returns

@@ -1,10 +1,6 @@
 -- `check_set`: the flags, then whether every index passes; where one may not, index by index.
-use mathlib.Core.Path.{sym, _∙_}
-use borrow.Author.Tests.{not-true, not-false}
-use Rattle.set_checks.proofs.Turns.{set-differs}
-use Rattle.set_checks.proofs.Passing.{set-passes}
-use borrow.Author.Needs.{needs}
-use Rattle.set_checks.proofs.sets.check_set.Statement.{statement}
+use Rattle.model.specs.Prelude.{sym, _∙_, not-true, not-false, needs}
+use Rattle.set_checks.proofs.{Turns.set-differs, Passing.set-passes, sets.check_set.Statement.statement}
 use Rattle.set_checks.proofs.sets.check_set.Tie as tie
 
 returns : tie.Need-returns

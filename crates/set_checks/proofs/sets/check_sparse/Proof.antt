@@ -1,14 +1,8 @@
 -- `check_sparse`: the flags, then the list in its order; the first check that fails is told.
-use Prim.Native.Nat.{_-_}
-use mathlib.Core.Path.{sym, _∙_}
-use lib.ListN.{length}
-use borrow.Author.Needs.{needs}
-use borrow.Author.Tests.{not-true, not-false}
+use Rattle.model.specs.Prelude.{_-_, sym, _∙_, length, not-true, not-false, needs}
 use Rattle.model.specs.Refusals.{sparseRefusal}
-use Rattle.set_checks.specs.Head.{headIn}
-use Rattle.set_checks.specs.Sets.{listedAt}
-use Rattle.set_checks.proofs.Turns.{Left, turn, stop, end, sparse-begins, sparse-differs}
-use Rattle.set_checks.proofs.sets.check_sparse.Statement.{statement}
+use Rattle.set_checks.specs.{Head.headIn, Sets.listedAt}
+use Rattle.set_checks.proofs.{Turns.{Left, turn, stop, end, sparse-begins, sparse-differs}, sets.check_sparse.Statement.statement}
 use Rattle.set_checks.proofs.sets.check_sparse.Tie as tie
 
 abbrev Inv-loop : tie.InvT-loop

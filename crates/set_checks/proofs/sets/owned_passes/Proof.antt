@@ -1,5 +1,5 @@
 -- `owned_passes` is the definition's tests.
-use borrow.Author.Needs.{needs}
+use Rattle.model.specs.Prelude.{needs}
 use Rattle.set_checks.proofs.sets.owned_passes.Statement.{statement}
 use Rattle.set_checks.proofs.sets.owned_passes.Tie as tie
 

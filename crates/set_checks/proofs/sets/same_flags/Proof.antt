@@ -1,5 +1,5 @@
 -- `same_flags` compares the flags of both tables.
-use borrow.Author.Needs.{needs}
+use Rattle.model.specs.Prelude.{needs}
 use Rattle.set_checks.proofs.sets.same_flags.Statement.{statement}
 use Rattle.set_checks.proofs.sets.same_flags.Tie as tie
 

@@ -1,6 +1,5 @@
 -- `advance` is the definition's two cases.
-use borrow.Author.Tests.{le-leb, lt-leb}
-use borrow.Author.Needs.{needs}
+use Rattle.model.specs.Prelude.{le-leb, lt-leb, needs}
 use Rattle.set_wellformed.proofs.unknowns.advance.Statement.{statement}
 use Rattle.set_wellformed.proofs.unknowns.advance.Tie as tie
 

@@ -1,9 +1,6 @@
 -- The words decide where one does not fit, or where none is Many; otherwise every index is looked at.
-use native.Mathlib.Omega.{arith}
-use mathlib.Core.Path.{sym, _∙_}
-use borrow.Author.Tests.{not-true, not-false}
-use Rattle.set_wellformed.proofs.Telling.{tracker-not, tracker-all}
-use Rattle.set_wellformed.proofs.unknowns.all_fit.Statement.{statement}
+use Rattle.model.specs.Prelude.{arith, sym, _∙_, not-true, not-false}
+use Rattle.set_wellformed.proofs.{Telling.{tracker-not, tracker-all}, unknowns.all_fit.Statement.statement}
 use Rattle.set_wellformed.proofs.unknowns.all_fit.Tie as tie
 
 tracker-words-requires : tie.Need-tracker-words-requires

@@ -1,7 +1,6 @@
 -- `ends_agree` is the four cases of Single and Many.
-use mathlib.Core.Path.{_∙_}
+use Rattle.model.specs.Prelude.{_∙_, needs}
 use Rattle.set_wellformed.proofs.Ends.{start-mips, end-mips, ends-single, ends-start, ends-end, ends-many}
-use borrow.Author.Needs.{needs}
 use Rattle.set_wellformed.proofs.unknowns.ends_agree.Statement.{statement}
 use Rattle.set_wellformed.proofs.unknowns.ends_agree.Tie as tie
 

@@ -1,7 +1,5 @@
 -- `ends_fit` tests the start, the end, and then that they agree.
-use mathlib.Core.Path.{sym, _∙_}
-use borrow.Author.Tests.{not-true, not-false}
-use borrow.Author.Needs.{needs}
+use Rattle.model.specs.Prelude.{sym, _∙_, not-true, not-false, needs}
 use Rattle.set_wellformed.proofs.unknowns.ends_fit.Statement.{statement}
 use Rattle.set_wellformed.proofs.unknowns.ends_fit.Tie as tie
 

@@ -1,8 +1,6 @@
 -- Two lists with no UNKNOWN range agree; others are walked.
-use mathlib.Core.Path.{sym, _∙_}
-use Rattle.set_wellformed.proofs.Known.{known-agree}
-use borrow.Author.Needs.{needs}
-use Rattle.set_wellformed.proofs.unknowns.layers_agree.Statement.{statement}
+use Rattle.model.specs.Prelude.{sym, _∙_, needs}
+use Rattle.set_wellformed.proofs.{Known.known-agree, unknowns.layers_agree.Statement.statement}
 use Rattle.set_wellformed.proofs.unknowns.layers_agree.Tie as tie
 
 returns : tie.Need-returns

@@ -1,9 +1,7 @@
 -- `mip_agrees` cuts out the part of a mip in each half, at the same place, and walks both.
-use native.Mathlib.Omega.{arith}
+use Rattle.model.specs.Prelude.{arith, needs}
 use Rattle.set_storage.specs.Frames.{within}
-use Rattle.set_wellformed.proofs.Ends.{mip-room, mip-fits-seen, same-layers}
-use borrow.Author.Needs.{needs}
-use Rattle.set_wellformed.proofs.unknowns.mip_agrees.Statement.{statement}
+use Rattle.set_wellformed.proofs.{Ends.{mip-room, mip-fits-seen, same-layers}, unknowns.mip_agrees.Statement.statement}
 use Rattle.set_wellformed.proofs.unknowns.mip_agrees.Tie as tie
 
 base-requires : tie.Need-base-requires

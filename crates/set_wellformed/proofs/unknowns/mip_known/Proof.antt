@@ -1,8 +1,7 @@
 -- `mip_known` cuts out the part of a mip and tests its ranges.
+use Rattle.model.specs.Prelude.{needs}
 use Rattle.set_storage.specs.Frames.{within}
-use Rattle.set_wellformed.proofs.Ends.{mip-fits-long, mip-fits-seen}
-use borrow.Author.Needs.{needs}
-use Rattle.set_wellformed.proofs.unknowns.mip_known.Statement.{statement}
+use Rattle.set_wellformed.proofs.{Ends.{mip-fits-long, mip-fits-seen}, unknowns.mip_known.Statement.statement}
 use Rattle.set_wellformed.proofs.unknowns.mip_known.Tie as tie
 
 base-requires : tie.Need-base-requires

@@ -1,10 +1,8 @@
 -- `mips_agree` walks mip by mip; the first where the halves differ decides.
-use Prim.Native.Nat.{_-_}
+use Rattle.model.specs.Prelude.{_-_, needs}
 use Rattle.set_wellformed.specs.Parts.{Testing, testing-start, testing-stop, testing-turn, testing-end}
 use Rattle.set_wellformed.specs.Unknowns.{mipAgrees, itself}
-use Rattle.set_wellformed.proofs.Ends.{mip-of}
-use borrow.Author.Needs.{needs}
-use Rattle.set_wellformed.proofs.unknowns.mips_agree.Statement.{statement}
+use Rattle.set_wellformed.proofs.{Ends.mip-of, unknowns.mips_agree.Statement.statement}
 use Rattle.set_wellformed.proofs.unknowns.mips_agree.Tie as tie
 
 abbrev Inv-loop : tie.InvT-loop

@@ -1,13 +1,9 @@
 -- `mips_known` tests mip by mip; the first with an UNKNOWN range decides.
-use Prim.Native.Nat.{_-_}
+use Rattle.model.specs.Prelude.{_-_, needs}
 use Rattle.model.specs.Base.{every}
 use Rattle.set_storage.specs.Storage.{numbersOf, mipOf}
-use Rattle.set_wellformed.specs.Parts.{Testing, testing-start, testing-stop, testing-turn, testing-end}
-use Rattle.set_wellformed.specs.Unknowns.{isKnown}
-use Rattle.set_wellformed.proofs.Mips.{mips-told}
-use Rattle.set_wellformed.proofs.Ends.{mip-of}
-use borrow.Author.Needs.{needs}
-use Rattle.set_wellformed.proofs.unknowns.mips_known.Statement.{statement}
+use Rattle.set_wellformed.specs.{Parts.{Testing, testing-start, testing-stop, testing-turn, testing-end}, Unknowns.isKnown}
+use Rattle.set_wellformed.proofs.{Mips.mips-told, Ends.mip-of, unknowns.mips_known.Statement.statement}
 use Rattle.set_wellformed.proofs.unknowns.mips_known.Tie as tie
 
 abbrev Inv-loop : tie.InvT-loop

@@ -1,11 +1,7 @@
 -- `ranges_agree` goes through both lists at once; the first two states that differ decide.
-use Prim.Native.Nat.{_+_, _-_, _≤_}
-use native.Mathlib.Omega.{arith}
-use mathlib.Core.Path.{sym, _∙_}
-use borrow.Author.Tests.{not-true, not-false}
+use Rattle.model.specs.Prelude.{_+_, _-_, _≤_, arith, sym, _∙_, not-true, not-false, needs}
 use Rattle.range_states.specs.View.{decode}
 use Rattle.set_wellformed.proofs.Agreeing.{Walk, walk-start, still, walk-differ, walk-turn, walk-end, passed-some}
-use borrow.Author.Needs.{needs}
 use Rattle.set_wellformed.proofs.unknowns.ranges_agree.Statement.{statement}
 use Rattle.set_wellformed.proofs.unknowns.ranges_agree.Tie as tie
 

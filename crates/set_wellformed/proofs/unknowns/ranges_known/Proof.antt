@@ -1,7 +1,6 @@
 -- `ranges_known` tests range by range; the first that is UNKNOWN decides.
-use Prim.Native.Nat.{_-_}
+use Rattle.model.specs.Prelude.{_-_, needs}
 use Rattle.set_wellformed.proofs.Known.{Knowing, knowing-start, knowing-stop, knowing-turn, knowing-end}
-use borrow.Author.Needs.{needs}
 use Rattle.set_wellformed.proofs.unknowns.ranges_known.Statement.{statement}
 use Rattle.set_wellformed.proofs.unknowns.ranges_known.Tie as tie
 

@@ -1,8 +1,6 @@
 -- `slot_fits` looks at what an index holds where a half is Many; otherwise the words are the whole test.
-use mathlib.Core.Path.{sym, _∙_}
-use Rattle.set_wellformed.proofs.Telling.{tracker-plain, tracker-extent, tracker-many}
-use borrow.Author.Needs.{needs}
-use Rattle.set_wellformed.proofs.unknowns.slot_fits.Statement.{statement}
+use Rattle.model.specs.Prelude.{sym, _∙_, needs}
+use Rattle.set_wellformed.proofs.{Telling.{tracker-plain, tracker-extent, tracker-many}, unknowns.slot_fits.Statement.statement}
 use Rattle.set_wellformed.proofs.unknowns.slot_fits.Tie as tie
 
 returns : tie.Need-returns

@@ -1,5 +1,5 @@
 -- `states_agree` is the definition's two cases.
-use borrow.Author.Tests.{eq-eqb, ne-eqb}
+use Rattle.model.specs.Prelude.{eq-eqb, ne-eqb}
 use Rattle.set_wellformed.proofs.unknowns.states_agree.Statement.{statement}
 use Rattle.set_wellformed.proofs.unknowns.states_agree.Tie as tie
 

@@ -1,13 +1,8 @@
 -- `tracker_fits` tests the head and the room of both halves, which makes storage safe to index, and then every index.
-use native.Mathlib.Omega.{arith}
-use mathlib.Core.Path.{sym, _∙_}
-use borrow.Author.Tests.{not-true, not-false}
-use Rattle.set_wellformed.proofs.Numbers.{numbers-in, head-numbers, head-measured}
-use Rattle.set_wellformed.proofs.Holding.{tracker-is}
-use borrow.Author.Needs.{needs}
-use Rattle.set_storage.specs.Storage.{endHalf}
-use Rattle.set_storage.specs.Frames.{measured-of as measured}
+use Rattle.model.specs.Prelude.{arith, sym, _∙_, not-true, not-false, needs}
+use Rattle.set_wellformed.proofs.{Numbers.{numbers-in, head-numbers, head-measured}, Holding.tracker-is}
 use Rattle.set_wellformed.proofs.unknowns.tracker_fits.Statement.{statement}
+use Rattle.set_storage.specs.{Storage.endHalf, Frames.{measured-of as measured}}
 use Rattle.set_wellformed.proofs.unknowns.tracker_fits.Tie as tie
 
 returns : tie.Need-returns

@@ -1,5 +1,5 @@
 -- `pair_fits` is the definition's tests.
-use borrow.Author.Needs.{needs}
+use Rattle.model.specs.Prelude.{needs}
 use Rattle.set_wellformed.proofs.words.pair_fits.Statement.{statement}
 use Rattle.set_wellformed.proofs.words.pair_fits.Tie as tie
 

@@ -1,11 +1,7 @@
 -- One index more is one test more of each kind.
-use Prim.Native.Nat.{_≤_, _-_}
-use native.Mathlib.Omega.{arith}
-use mathlib.Core.Path.{_≡_}
-use borrow.Author.Needs.{needs}
+use Rattle.model.specs.Prelude.{_≤_, _-_, arith, _≡_, needs}
 use Rattle.set_wellformed.specs.Words.{ScopeWords}
-use Rattle.set_wellformed.proofs.Telling.{words-none, words-more}
-use Rattle.set_wellformed.proofs.words.scope_words.Statement.{statement}
+use Rattle.set_wellformed.proofs.{Telling.{words-none, words-more}, words.scope_words.Statement.statement}
 use Rattle.set_wellformed.proofs.words.scope_words.Tie as tie
 
 abbrev Inv-loop : tie.InvT-loop

@@ -1,5 +1,5 @@
 -- `words_fit` is the definition's tests.
-use borrow.Author.Needs.{needs}
+use Rattle.model.specs.Prelude.{needs}
 use Rattle.set_wellformed.proofs.words.words_fit.Statement.{statement}
 use Rattle.set_wellformed.proofs.words.words_fit.Tie as tie
 

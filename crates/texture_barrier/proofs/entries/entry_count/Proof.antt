@@ -1,5 +1,5 @@
 -- `entry_count` divides the numbers of the log by seven.
-use mathlib.Core.Path.{sym}
+use Rattle.model.specs.Prelude.{sym}
 use Rattle.texture_barrier.specs.Entries.{entriesOf, read-long}
 use Rattle.texture_barrier.proofs.entries.entry_count.Statement.{statement}
 use Rattle.texture_barrier.proofs.entries.entry_count.Tie as tie

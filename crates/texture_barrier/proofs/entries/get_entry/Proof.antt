@@ -1,7 +1,6 @@
 -- `get_entry` reads the seven numbers of an entry.
-use native.Mathlib.Omega.{arith}
+use Rattle.model.specs.Prelude.{arith, needs}
 use Rattle.texture_barrier.specs.Entries.{get-entry-is}
-use borrow.Author.Needs.{needs}
 use Rattle.texture_barrier.proofs.entries.get_entry.Statement.{statement}
 use Rattle.texture_barrier.proofs.entries.get_entry.Tie as tie
 

@@ -1,10 +1,6 @@
 -- `put_entry` makes seven stores, which are one entry in the view.
-use native.Mathlib.Omega.{arith}
+use Rattle.model.specs.Prelude.{suc, _+_, _*_, arith, _≡_, length-set, needs}
 use Rattle.texture_barrier.specs.Entries.{put-entry-is}
-use lib.ListN.{length-set}
-use mathlib.Core.Path.{_≡_}
-use Prim.Native.Nat.{suc, _+_, _*_}
-use borrow.Author.Needs.{needs}
 use Rattle.texture_barrier.proofs.entries.put_entry.Statement.{statement}
 use Rattle.texture_barrier.proofs.entries.put_entry.Tie as tie
 

@@ -1,5 +1,5 @@
 -- `change_of` goes by the definition's cases.
-use borrow.Author.Needs.{needs}
+use Rattle.model.specs.Prelude.{needs}
 use Rattle.texture_barrier.proofs.mip.change_of.Statement.{statement}
 use Rattle.texture_barrier.proofs.mip.change_of.Tie as tie
 

@@ -1,15 +1,10 @@
 -- `log_pairs` takes the given ranges one by one, each against all of the run.
-use native.Mathlib.Omega.{arith}
-use mathlib.Core.Path.{refl}
-use borrow.Author.Needs.{needs}
-use Rattle.texture_barrier.specs.Adds.{Adding, adding-start, adding-room, adding-turn, adding-end}
-use Rattle.texture_barrier.specs.Steps.{stepEntries}
-use Rattle.texture_barrier.specs.declared.mip.Step.the-variants.{Within}
-use Rattle.range_states.specs.View.{decode}
+use Rattle.model.specs.Prelude.{_*_, _-_, arith, refl, needs}
 use Rattle.model.specs.declared.Range.{Range}
-use Rattle.texture_barrier.proofs.Remaining.{runLeft, run-next, run-done}
-use Prim.Native.Nat.{_*_, _-_}
-use Rattle.texture_barrier.proofs.mip.log_pairs.Statement.{statement}
+use Rattle.texture_barrier.specs.declared.mip.Step.the-variants.{Within}
+use Rattle.texture_barrier.specs.{Adds.{Adding, adding-start, adding-room, adding-turn, adding-end}, Steps.stepEntries}
+use Rattle.range_states.specs.View.{decode}
+use Rattle.texture_barrier.proofs.{Remaining.{runLeft, run-next, run-done}, mip.log_pairs.Statement.statement}
 use Rattle.texture_barrier.proofs.mip.log_pairs.Tie as tie
 
 abbrev Inv-loop : tie.InvT-loop

@@ -1,8 +1,6 @@
 -- `log_range` makes the change before its transition.
-use borrow.Author.Tests.{not-true, not-false}
-use Rattle.texture_barrier.specs.Steps.{change-none, change-one}
-use Rattle.texture_barrier.specs.Adds.{adds-none}
-use borrow.Author.Needs.{needs}
+use Rattle.model.specs.Prelude.{not-true, not-false, needs}
+use Rattle.texture_barrier.specs.{Steps.{change-none, change-one}, Adds.adds-none}
 use Rattle.texture_barrier.proofs.mip.log_range.Statement.{statement}
 use Rattle.texture_barrier.proofs.mip.log_range.Tie as tie
 

@@ -1,12 +1,7 @@
 -- `log_run` takes the run's ranges one by one.
-use native.Mathlib.Omega.{arith}
-use mathlib.Core.Path.{refl}
-use borrow.Author.Needs.{needs}
-use Rattle.texture_barrier.specs.Adds.{Adding, adding-start, adding-room, adding-turn, adding-end}
-use Rattle.texture_barrier.specs.Steps.{rangeEntries}
-use Rattle.texture_barrier.proofs.Remaining.{runLeft, run-next, run-done}
-use Prim.Native.Nat.{_-_}
-use Rattle.texture_barrier.proofs.mip.log_run.Statement.{statement}
+use Rattle.model.specs.Prelude.{_-_, arith, refl, needs}
+use Rattle.texture_barrier.specs.{Adds.{Adding, adding-start, adding-room, adding-turn, adding-end}, Steps.rangeEntries}
+use Rattle.texture_barrier.proofs.{Remaining.{runLeft, run-next, run-done}, mip.log_run.Statement.statement}
 use Rattle.texture_barrier.proofs.mip.log_run.Tie as tie
 
 abbrev Inv-loop : tie.InvT-loop

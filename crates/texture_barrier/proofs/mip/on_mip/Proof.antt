@@ -1,6 +1,5 @@
 -- `on_mip` ends the mip's range one past it.
-use native.Mathlib.Numerals.{add-one}
-use borrow.Author.Needs.{needs}
+use Rattle.model.specs.Prelude.{add-one, needs}
 use Rattle.texture_barrier.proofs.mip.on_mip.Statement.{statement}
 use Rattle.texture_barrier.proofs.mip.on_mip.Tie as tie
 

@@ -1,5 +1,5 @@
 -- `barrier_single` is one transition over the full extent.
-use borrow.Author.Needs.{needs}
+use Rattle.model.specs.Prelude.{needs}
 use Rattle.texture_barrier.proofs.sources.barrier_single.Statement.{statement}
 use Rattle.texture_barrier.proofs.sources.barrier_single.Tie as tie
 

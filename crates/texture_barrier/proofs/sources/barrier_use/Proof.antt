@@ -1,10 +1,7 @@
 -- `barrier_use` goes by the texture's word: one transition over the selector where it is Single, otherwise mip by mip.
-use Rattle.texture_barrier.proofs.Holding.{told-many, told-single, use-single, use-many}
-use Rattle.texture_barrier.specs.Ready.{ready}
-use Rattle.texture_barrier.specs.Adds.{adds-within}
-use native.Mathlib.Omega.{arith}
-use borrow.Author.Needs.{needs}
-use Rattle.texture_barrier.proofs.sources.barrier_use.Statement.{statement}
+use Rattle.model.specs.Prelude.{arith, needs}
+use Rattle.texture_barrier.proofs.{Holding.{told-many, told-single, use-single, use-many}, sources.barrier_use.Statement.statement}
+use Rattle.texture_barrier.specs.{Ready.ready, Adds.adds-within}
 use Rattle.texture_barrier.proofs.sources.barrier_use.Tie as tie
 
 log-move-requires : tie.Need-log-move-requires

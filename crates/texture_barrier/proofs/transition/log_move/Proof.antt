@@ -1,8 +1,6 @@
 -- `log_move` writes the one entry of a transition that is made, or only counts it.
-use borrow.Author.Tests.{not-true, not-false}
+use Rattle.model.specs.Prelude.{sym, _∙_, not-true, not-false, needs}
 use Rattle.texture_barrier.proofs.Moving.{move-none, move-counted, move-room, move-written}
-use mathlib.Core.Path.{sym, _∙_}
-use borrow.Author.Needs.{needs}
 use Rattle.texture_barrier.proofs.transition.log_move.Statement.{statement}
 use Rattle.texture_barrier.proofs.transition.log_move.Tie as tie
 

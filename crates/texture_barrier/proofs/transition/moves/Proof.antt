@@ -1,8 +1,8 @@
 -- `moves` makes the definition's three tests, in its order.
+use Rattle.model.specs.Prelude.{needs}
 use Rattle.texture_barrier.specs.Steps.{moves-is}
-use Rattle.usage.proofs.Comparisons.{tests}
-use borrow.Author.Needs.{needs}
 use Rattle.texture_barrier.proofs.transition.moves.Statement.{statement}
+use Rattle.usage.proofs.Comparisons.{tests}
 use Rattle.texture_barrier.proofs.transition.moves.Tie as tie
 
 pub moves-spec : {M : Type 1} → statement M

@@ -1,15 +1,9 @@
 -- `fresh_mips`: each lap makes the next mip anew, and after the last lap all are.
-use native.Mathlib.Omega.{arith}
-use borrow.Author.Needs.{needs}
-use Prim.Native.Nat.{_-_, _≤_}
-use mathlib.Core.Path.{refl}
-use mathlib.Core.List.{[], _∷_}
-use Rattle.model.specs.Base.{fine}
-use Rattle.model.specs.RangedStates.{range}
+use Rattle.model.specs.Prelude.{_-_, _≤_, arith, refl, [], _∷_, needs}
+use Rattle.model.specs.{Base.fine, RangedStates.range}
 use Rattle.set_storage.specs.Storage.{numbersOf}
 use Rattle.texture_merge.specs.Walks.{MipWalk, walk-from}
-use Rattle.texture_merge.proofs.Laps.{lap-ready, lap-on, fresh-end}
-use Rattle.texture_merge.proofs.every.fresh_mips.Statement.{statement}
+use Rattle.texture_merge.proofs.{Laps.{lap-ready, lap-on, fresh-end}, every.fresh_mips.Statement.statement}
 use Rattle.texture_merge.proofs.every.fresh_mips.Tie as tie
 
 abbrev Inv-loop : tie.InvT-loop

@@ -1,13 +1,9 @@
 -- `merge_every_mips`: each lap is a step of the model's walk over the mips, up to the first conflict.
-use mathlib.Core.Path.{refl, _∙_}
-use native.Mathlib.Omega.{arith}
-use borrow.Author.Needs.{needs}
-use Prim.Native.Nat.{_-_, _≤_}
+use Rattle.model.specs.Prelude.{_-_, _≤_, arith, refl, _∙_, needs}
 use Rattle.model.specs.Texture.{mergeEvery}
 use Rattle.set_storage.specs.Storage.{numbersOf}
 use Rattle.texture_merge.specs.Walks.{MipWalk, walk-from}
-use Rattle.texture_merge.proofs.Laps.{lap-tiled, lap-small, lap-on, lap-stop, lap-end}
-use Rattle.texture_merge.proofs.every.merge_every_mips.Statement.{statement}
+use Rattle.texture_merge.proofs.{Laps.{lap-tiled, lap-small, lap-on, lap-stop, lap-end}, every.merge_every_mips.Statement.statement}
 use Rattle.texture_merge.proofs.every.merge_every_mips.Tie as tie
 
 abbrev Inv-loop : tie.InvT-loop

@@ -1,13 +1,9 @@
 -- `merge_mips`: each lap is a step of the model's walk over the mips of the selector, up to the first conflict.
-use mathlib.Core.Path.{_∙_}
-use native.Mathlib.Omega.{arith}
-use borrow.Author.Needs.{needs}
-use Prim.Native.Nat.{_-_}
-use Rattle.model.specs.Representation.{layerStart, layerEnd}
-use Rattle.model.specs.Texture.{mergeMip}
+use Rattle.model.specs.Prelude.{_-_, arith, _∙_, needs}
+use Rattle.model.specs.{Representation.{layerStart, layerEnd}, Texture.mergeMip}
 use Rattle.texture_mips.specs.Merge.{mergeRun}
-use Rattle.texture_merge.proofs.Laps.{SelectorLap, selector-start, selector-piece, selector-small, selector-turn, selector-stop, selector-end}
-use Rattle.texture_merge.proofs.every.merge_mips.Statement.{statement}
+use Rattle.texture_merge.proofs.Laps.{SelectorLap, selector-start, selector-piece, selector-small, selector-turn, selector-stop}
+use Rattle.texture_merge.proofs.{Laps.selector-end, every.merge_mips.Statement.statement}
 use Rattle.texture_merge.proofs.every.merge_mips.Tie as tie
 
 abbrev Inv-loop : tie.InvT-loop

@@ -1,5 +1,5 @@
 -- `met_at`: the selector is `piece_at`'s.
-use borrow.Author.Needs.{needs}
+use Rattle.model.specs.Prelude.{needs}
 use Rattle.texture_merge.proofs.every.met_at.Statement.{statement}
 use Rattle.texture_merge.proofs.every.met_at.Tie as tie
 

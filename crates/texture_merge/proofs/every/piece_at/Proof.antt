@@ -1,6 +1,5 @@
 -- `piece_at` is the definition, with `m + 1` for the end of mip m.
-use native.Mathlib.Numerals.{add-one}
-use borrow.Author.Needs.{needs}
+use Rattle.model.specs.Prelude.{add-one, needs}
 use Rattle.texture_merge.proofs.every.piece_at.Statement.{statement}
 use Rattle.texture_merge.proofs.every.piece_at.Tie as tie
 

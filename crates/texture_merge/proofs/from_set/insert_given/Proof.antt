@@ -1,7 +1,6 @@
 -- `insert_given`: a Single texture's word is written, and a Many one's ranges are painted on mips made anew.
-use Rattle.texture_merge.proofs.Breaking.{break-every}
-use Rattle.texture_merge.proofs.SetCases.{insert-single, insert-ready, insert-many}
-use borrow.Author.Needs.{needs}
+use Rattle.model.specs.Prelude.{needs}
+use Rattle.texture_merge.proofs.{Breaking.break-every, SetCases.{insert-single, insert-ready, insert-many}}
 use Rattle.texture_merge.proofs.from_set.insert_given.Statement.{statement}
 use Rattle.texture_merge.proofs.from_set.insert_given.Tie as tie
 

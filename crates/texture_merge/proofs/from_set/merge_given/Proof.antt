@@ -1,11 +1,8 @@
 -- `merge_given`: each case is the model's; the word of a Single texture is written last, so that a conflict leaves it.
-use native.Mathlib.Omega.{arith}
-use mathlib.Core.Path.{refl}
-use Rattle.texture_merge.specs.FromSet.{set-use, set-held}
-use Rattle.texture_merge.specs.Ready.{texture-every}
+use Rattle.model.specs.Prelude.{arith, refl, needs}
+use Rattle.texture_merge.specs.{FromSet.{set-use, set-held}, Ready.texture-every}
 use Rattle.texture_merge.proofs.UseCases.{single-ready, single-merged}
 use Rattle.texture_merge.proofs.SetCases.{merge-single, many-ready, many-many, spread-ready, spread-stop, spread-done}
-use borrow.Author.Needs.{needs}
 use Rattle.texture_merge.proofs.from_set.merge_given.Statement.{statement}
 use Rattle.texture_merge.proofs.from_set.merge_given.Tie as tie
 

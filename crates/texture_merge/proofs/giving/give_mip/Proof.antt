@@ -1,17 +1,11 @@
 -- `give_mip`: each lap gives one range, and what is left decides.
-use native.Mathlib.Omega.{arith}
-use borrow.Author.Needs.{needs}
-use mathlib.Core.Path.{_∙_}
-use Rattle.texture_merge.proofs.Laps.{lap-small}
+use Rattle.model.specs.Prelude.{_-_, _≤_, arith, _∙_, map, getD, drop, needs}
+use Rattle.model.specs.Base.{passes}
+use Rattle.texture_merge.proofs.{Laps.lap-small, Pieces.{lap-many, range-start, range-selects, range-turn, range-stop, range-done}}
+use Rattle.texture_merge.proofs.giving.give_mip.Statement.{statement}
 use Rattle.set_storage.specs.Storage.{numbersOf, mipsOf, layersAt}
 use Rattle.range_states.specs.View.{decode}
-use Rattle.model.specs.Base.{passes}
-use lib.ListN.{getD, drop}
-use mathlib.Core.List.{map}
-use Prim.Native.Nat.{_-_, _≤_}
 use Rattle.texture_merge.specs.Giving.{Giving, taken, pieceOn}
-use Rattle.texture_merge.proofs.Pieces.{lap-many, range-start, range-selects, range-turn, range-stop, range-done}
-use Rattle.texture_merge.proofs.giving.give_mip.Statement.{statement}
 use Rattle.texture_merge.proofs.giving.give_mip.Tie as tie
 
 abbrev Inv-loop : tie.InvT-loop

@@ -1,16 +1,9 @@
 -- `give_mips`: each lap gives one mip, and what is left decides.
-use native.Mathlib.Omega.{arith}
-use borrow.Author.Needs.{needs}
-use mathlib.Core.Path.{_∙_}
-use Rattle.set_storage.specs.Locate.{locates}
-use Rattle.set_storage.specs.Storage.{numbersOf, mipsOf, layersAt}
-use Rattle.model.specs.Texture.{piecesOf}
-use Rattle.model.specs.Base.{passes}
-use lib.ListN.{getD, drop}
-use Prim.Native.Nat.{_-_, _≤_}
+use Rattle.model.specs.Prelude.{_-_, _≤_, arith, _∙_, getD, drop, needs}
+use Rattle.model.specs.{Texture.piecesOf, Base.passes}
+use Rattle.set_storage.specs.{Locate.locates, Storage.{numbersOf, mipsOf, layersAt}}
 use Rattle.texture_merge.specs.Giving.{Giving, taken, piecesFrom}
-use Rattle.texture_merge.proofs.Given.{given-mip}
-use Rattle.texture_merge.proofs.Pieces.{lap-many, mip-start, mip-given, mip-turn, mip-stop, mip-done}
+use Rattle.texture_merge.proofs.{Given.given-mip, Pieces.{lap-many, mip-start, mip-given, mip-turn, mip-stop, mip-done}}
 use Rattle.texture_merge.proofs.giving.give_mips.Statement.{statement}
 use Rattle.texture_merge.proofs.giving.give_mips.Tie as tie
 

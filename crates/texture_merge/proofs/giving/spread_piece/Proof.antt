@@ -1,8 +1,7 @@
 -- `spread_piece`: a conflict leaves the mips, and otherwise those of the piece take the union.
-use mathlib.Core.Path.{refl, sym}
-use Rattle.set_storage.specs.Stays.{keeps-refl}
+use Rattle.model.specs.Prelude.{refl, sym, needs}
 use Rattle.model.specs.Texture.{spreadPiece}
-use borrow.Author.Needs.{needs}
+use Rattle.set_storage.specs.Stays.{keeps-refl}
 use Rattle.texture_merge.proofs.giving.spread_piece.Statement.{statement}
 use Rattle.texture_merge.proofs.giving.spread_piece.Tie as tie
 

@@ -1,7 +1,6 @@
 -- `take_piece`: each case is the model's.
-use mathlib.Core.Path.{refl}
+use Rattle.model.specs.Prelude.{refl, needs}
 use Rattle.texture_merge.specs.Giving.{taken}
-use borrow.Author.Needs.{needs}
 use Rattle.texture_merge.proofs.giving.take_piece.Statement.{statement}
 use Rattle.texture_merge.proofs.giving.take_piece.Tie as tie
 

@@ -1,7 +1,7 @@
 -- `fresh_mip`: the one range that `fresh` leaves in the part is the mip's.
+use Rattle.model.specs.Prelude.{needs}
 use Rattle.set_storage.specs.Locate.{locates}
 use Rattle.texture_merge.specs.Ready.{mip-left}
-use borrow.Author.Needs.{needs}
 use Rattle.texture_merge.proofs.mip.fresh_mip.Statement.{statement}
 use Rattle.texture_merge.proofs.mip.fresh_mip.Tie as tie
 

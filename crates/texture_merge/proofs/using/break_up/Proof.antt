@@ -1,10 +1,8 @@
 -- `break_up`: the mips are made anew in the old state, and those of the selector take the new one.
+use Rattle.model.specs.Prelude.{needs}
 use Rattle.model.specs.Texture.{onMips}
-use Rattle.texture_merge.specs.Ready.{texture-selects}
-use Rattle.texture_merge.specs.Uses.{brokenUp}
-use Rattle.texture_merge.proofs.Breaking.{break-every, break-many, break-texture, break-then}
-use borrow.Author.Needs.{needs}
-use Rattle.texture_merge.proofs.using.break_up.Statement.{statement}
+use Rattle.texture_merge.specs.{Ready.texture-selects, Uses.brokenUp}
+use Rattle.texture_merge.proofs.{Breaking.{break-every, break-many, break-texture, break-then}, using.break_up.Statement.statement}
 use Rattle.texture_merge.proofs.using.break_up.Tie as tie
 
 fresh-mips-requires : tie.Need-fresh-mips-requires

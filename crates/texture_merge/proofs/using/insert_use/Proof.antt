@@ -1,12 +1,9 @@
 -- `insert_use`: a state for all is the word, and otherwise the mips are made anew UNKNOWN and painted.
-use mathlib.Core.Path.{sym, ap, _∙_}
-use Rattle.model.specs.declared.UsageFlags.{UsageFlags}
-use Rattle.model.specs.Texture.{insert, paintAll, onMips}
+use Rattle.model.specs.Prelude.{sym, ap, _∙_, needs}
+use Rattle.model.specs.{declared.UsageFlags.UsageFlags, Texture.{insert, paintAll, onMips}}
 use Rattle.texture_merge.specs.Ready.{texture-selects}
 use Rattle.set_storage.specs.Slots.{become-single}
-use Rattle.texture_merge.proofs.Breaking.{break-every, break-many, break-texture, break-then}
-use borrow.Author.Needs.{needs}
-use Rattle.texture_merge.proofs.using.insert_use.Statement.{statement}
+use Rattle.texture_merge.proofs.{Breaking.{break-every, break-many, break-texture, break-then}, using.insert_use.Statement.statement}
 use Rattle.texture_merge.proofs.using.insert_use.Tie as tie
 
 returns : tie.Need-returns

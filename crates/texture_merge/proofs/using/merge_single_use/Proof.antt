@@ -1,8 +1,7 @@
 -- `merge_single_use`: a conflict leaves the texture, a union is the word, and a part breaks the texture up.
-use mathlib.Core.Path.{sym}
+use Rattle.model.specs.Prelude.{sym, needs}
 use Rattle.texture_merge.specs.Uses.{use-with}
 use Rattle.texture_merge.proofs.UseCases.{union-plain, conflict-left, all-left, part-left}
-use borrow.Author.Needs.{needs}
 use Rattle.texture_merge.proofs.using.merge_single_use.Statement.{statement}
 use Rattle.texture_merge.proofs.using.merge_single_use.Tie as tie
 

@@ -1,8 +1,7 @@
 -- `merge_use`: the word tells whether the texture is Single or Many, and each case is the model's.
-use mathlib.Core.Path.{refl}
+use Rattle.model.specs.Prelude.{refl, needs}
 use Rattle.texture_merge.specs.Ready.{texture-every, texture-selects}
 use Rattle.texture_merge.proofs.UseCases.{single-ready, single-merged, many-ready, every-merged, part-merged}
-use borrow.Author.Needs.{needs}
 use Rattle.texture_merge.proofs.using.merge_use.Statement.{statement}
 use Rattle.texture_merge.proofs.using.merge_use.Tie as tie
 

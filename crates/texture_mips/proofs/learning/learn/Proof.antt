@@ -1,7 +1,6 @@
 -- `learn` updates the mip range by range of the end.
-use Prim.Native.Nat.{_-_}
+use Rattle.model.specs.Prelude.{_-_, needs}
 use Rattle.texture_mips.proofs.Learnt.{Learning, start-of, room-here, turn-yes, turn-no, finish}
-use borrow.Author.Needs.{needs}
 use Rattle.texture_mips.proofs.learning.learn.Statement.{statement}
 use Rattle.texture_mips.proofs.learning.learn.Tie as tie
 

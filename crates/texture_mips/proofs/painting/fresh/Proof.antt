@@ -1,7 +1,6 @@
 -- `fresh` writes the first record.
-use Rattle.texture_mips.proofs.Painted.{fresh-is}
-use borrow.Author.Needs.{needs}
-use Rattle.texture_mips.proofs.painting.fresh.Statement.{statement}
+use Rattle.model.specs.Prelude.{needs}
+use Rattle.texture_mips.proofs.{Painted.fresh-is, painting.fresh.Statement.statement}
 use Rattle.texture_mips.proofs.painting.fresh.Tie as tie
 
 pub fresh-spec : {M : Type 1} → statement M

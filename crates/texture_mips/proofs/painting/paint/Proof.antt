@@ -1,7 +1,6 @@
 -- `paint` isolates, and the run takes the state.
-use Rattle.texture_mips.proofs.Painted.{paint-is}
-use borrow.Author.Needs.{needs}
-use Rattle.texture_mips.proofs.painting.paint.Statement.{statement}
+use Rattle.model.specs.Prelude.{needs}
+use Rattle.texture_mips.proofs.{Painted.paint-is, painting.paint.Statement.statement}
 use Rattle.texture_mips.proofs.painting.paint.Tie as tie
 
 pub paint-spec : {M : Type 1} → statement M

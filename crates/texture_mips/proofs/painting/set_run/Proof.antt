@@ -1,10 +1,7 @@
 -- `set_run` is a pass that nothing stops.
-use Prim.Native.Nat.{_-_}
+use Rattle.model.specs.Prelude.{_-_, needs}
 use Rattle.model.specs.RangedStates.{inState}
-use Rattle.texture_mips.proofs.Passing.{Passing, start-of, turn}
-use Rattle.texture_mips.proofs.Painted.{never, set-all}
-use borrow.Author.Needs.{needs}
-use Rattle.texture_mips.proofs.painting.set_run.Statement.{statement}
+use Rattle.texture_mips.proofs.{Passing.{Passing, start-of, turn}, Painted.{never, set-all}, painting.set_run.Statement.statement}
 use Rattle.texture_mips.proofs.painting.set_run.Tie as tie
 
 abbrev Inv-loop : tie.InvT-loop

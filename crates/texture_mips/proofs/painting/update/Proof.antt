@@ -1,7 +1,6 @@
 -- `update` paints and coalesces.
-use Rattle.texture_mips.proofs.Painted.{update-is}
-use borrow.Author.Needs.{needs}
-use Rattle.texture_mips.proofs.painting.update.Statement.{statement}
+use Rattle.model.specs.Prelude.{needs}
+use Rattle.texture_mips.proofs.{Painted.update-is, painting.update.Statement.statement}
 use Rattle.texture_mips.proofs.painting.update.Tie as tie
 
 returns : tie.Need-returns

@@ -1,7 +1,6 @@
 -- `merge_every` is a merge of a run that is all of the mip.
-use Rattle.texture_mips.proofs.Walking.{every-met, every-done}
-use borrow.Author.Needs.{needs}
-use Rattle.texture_mips.proofs.uniting.merge_every.Statement.{statement}
+use Rattle.model.specs.Prelude.{needs}
+use Rattle.texture_mips.proofs.{Walking.{every-met, every-done}, uniting.merge_every.Statement.statement}
 use Rattle.texture_mips.proofs.uniting.merge_every.Tie as tie
 
 returns : tie.Need-returns

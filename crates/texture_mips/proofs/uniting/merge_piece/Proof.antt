@@ -1,7 +1,6 @@
 -- `merge_piece` is a merge of the run that `isolate` makes.
-use Rattle.texture_mips.proofs.Walking.{piece-met, piece-done}
-use borrow.Author.Needs.{needs}
-use Rattle.texture_mips.proofs.uniting.merge_piece.Statement.{statement}
+use Rattle.model.specs.Prelude.{needs}
+use Rattle.texture_mips.proofs.{Walking.{piece-met, piece-done}, uniting.merge_piece.Statement.statement}
 use Rattle.texture_mips.proofs.uniting.merge_piece.Tie as tie
 
 returns : tie.Need-returns

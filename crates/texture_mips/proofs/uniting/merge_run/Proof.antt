@@ -1,11 +1,8 @@
 -- `merge_run` is a pass that a conflict stops.
-use Prim.Native.Nat.{_-_}
-use mathlib.Core.Path.{sym, ap, _∙_}
+use Rattle.model.specs.Prelude.{_-_, sym, ap, _∙_, needs}
 use Rattle.usage.specs.United.{stateOf}
 use Rattle.texture_mips.specs.Merge.{runStops, runTakes}
-use Rattle.texture_mips.proofs.Passing.{Passing, start-of, turn, halt, finish}
-use Rattle.texture_mips.proofs.Walking.{stops-at, goes-on, takes}
-use borrow.Author.Needs.{needs}
+use Rattle.texture_mips.proofs.{Passing.{Passing, start-of, turn, halt, finish}, Walking.{stops-at, goes-on, takes}}
 use Rattle.texture_mips.proofs.uniting.merge_run.Statement.{statement}
 use Rattle.texture_mips.proofs.uniting.merge_run.Tie as tie
 

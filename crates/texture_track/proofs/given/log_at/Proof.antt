@@ -1,11 +1,7 @@
 -- `log_at`: no transitions where either does not own the index, one at most where both are Single, otherwise those of `log_owned_at`.
-use native.Mathlib.Omega.{arith}
-use mathlib.Core.Path.{sym, _∙_}
-use borrow.Author.Tests.{eq-eqb, ne-eqb}
+use Rattle.model.specs.Prelude.{arith, sym, _∙_, eq-eqb, ne-eqb, needs}
 use Rattle.texture_barrier.specs.Adds.{adds-none, adds-within}
-use Rattle.texture_track.proofs.Plain.{plain-entries}
-use borrow.Author.Needs.{needs}
-use Rattle.texture_track.proofs.given.log_at.Statement.{statement}
+use Rattle.texture_track.proofs.{Plain.plain-entries, given.log_at.Statement.statement}
 use Rattle.texture_track.proofs.given.log_at.Tie as tie
 
 both-single-requires : tie.Need-both-single-requires

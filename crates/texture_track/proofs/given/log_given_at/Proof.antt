@@ -1,9 +1,7 @@
 -- `log_given_at`: no transitions where the texture is not owned, otherwise the model's `barrier`.
-use borrow.Author.Tests.{eq-eqb, ne-eqb}
-use borrow.Author.Needs.{needs}
+use Rattle.model.specs.Prelude.{eq-eqb, ne-eqb, needs}
 use Rattle.texture_barrier.specs.Adds.{adds-none}
-use Rattle.set_ready.specs.Half.{half-held}
-use Rattle.set_ready.specs.Given.{given-textured}
+use Rattle.set_ready.specs.{Half.half-held, Given.given-textured}
 use Rattle.texture_track.proofs.given.log_given_at.Statement.{statement}
 use Rattle.texture_track.proofs.given.log_given_at.Tie as tie
 

@@ -1,6 +1,5 @@
 -- `log_owned_at`: no transitions where the given set does not own the index, otherwise those of the texture.
-use borrow.Author.Tests.{eq-eqb, ne-eqb}
-use borrow.Author.Needs.{needs}
+use Rattle.model.specs.Prelude.{eq-eqb, ne-eqb, needs}
 use Rattle.texture_barrier.specs.Adds.{adds-none}
 use Rattle.texture_track.proofs.given.log_owned_at.Statement.{statement}
 use Rattle.texture_track.proofs.given.log_owned_at.Tie as tie

@@ -1,13 +1,9 @@
 -- `set_at`: the texture stays where the given set does not own its index, and takes a state where both are Single; otherwise it is what
 -- `set_owned_at` makes.
-use native.Mathlib.Omega.{arith}
-use mathlib.Core.Path.{sym, _∙_}
-use borrow.Author.Tests.{eq-eqb}
+use Rattle.model.specs.Prelude.{arith, sym, _∙_, eq-eqb, needs}
 use Rattle.set_ready.specs.Given.{where-owned}
 use Rattle.texture_track.specs.Slot.{tracker-kept}
-use Rattle.texture_track.proofs.Plain.{plain-set}
-use borrow.Author.Needs.{needs}
-use Rattle.texture_track.proofs.given.set_at.Statement.{statement}
+use Rattle.texture_track.proofs.{Plain.plain-set, given.set_at.Statement.statement}
 use Rattle.texture_track.proofs.given.set_at.Tie as tie
 
 returns : tie.Need-returns

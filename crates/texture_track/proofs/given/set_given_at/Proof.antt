@@ -1,8 +1,6 @@
 -- `set_given_at`: an unowned texture is owned and takes the given start and end, an owned one is updated by the given end.
-use borrow.Author.Needs.{needs}
-use Rattle.set_ready.specs.Half.{half-held}
-use Rattle.set_ready.specs.Given.{set-ready, given-update}
-use Rattle.set_ready.specs.Owned.{own-flags, own-ready, end-flags, end-textured}
+use Rattle.model.specs.Prelude.{needs}
+use Rattle.set_ready.specs.{Half.half-held, Given.{set-ready, given-update}, Owned.{own-flags, own-ready, end-flags, end-textured}}
 use Rattle.texture_track.specs.Slot.{tracker-new, tracker-old}
 use Rattle.texture_track.proofs.given.set_given_at.Statement.{statement}
 use Rattle.texture_track.proofs.given.set_given_at.Tie as tie

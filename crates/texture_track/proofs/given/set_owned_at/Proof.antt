@@ -1,6 +1,5 @@
 -- `set_owned_at`: the texture stays where the given set does not own its index, otherwise it takes the given start and end.
-use borrow.Author.Tests.{eq-eqb, ne-eqb}
-use borrow.Author.Needs.{needs}
+use Rattle.model.specs.Prelude.{eq-eqb, ne-eqb, needs}
 use Rattle.set_ready.specs.Given.{where-owned, only-owned}
 use Rattle.texture_track.specs.Slot.{tracker-kept, tracker-named}
 use Rattle.texture_track.proofs.given.set_owned_at.Statement.{statement}

@@ -1,9 +1,7 @@
 -- `log_use_at`: none where the texture is not owned, otherwise the entries of `barrier`.
-use borrow.Author.Tests.{eq-eqb, ne-eqb}
+use Rattle.model.specs.Prelude.{eq-eqb, ne-eqb, needs}
 use Rattle.texture_barrier.specs.Adds.{adds-none}
-use Rattle.set_ready.specs.Checked.{selector-within}
-use Rattle.set_ready.specs.Half.{half-held}
-use borrow.Author.Needs.{needs}
+use Rattle.set_ready.specs.{Checked.selector-within, Half.half-held}
 use Rattle.texture_track.proofs.using.log_use_at.Statement.{statement}
 use Rattle.texture_track.proofs.using.log_use_at.Tie as tie
 

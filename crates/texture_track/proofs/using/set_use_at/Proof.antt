@@ -1,9 +1,8 @@
 -- `set_use_at`: an unowned texture is inserted in both halves, an owned one is updated.
-use Rattle.set_ready.specs.Checked.{use-ready, update-ready, selecting}
-use Rattle.set_ready.specs.Half.{half-held}
+use Rattle.model.specs.Prelude.{needs}
+use Rattle.set_ready.specs.{Checked.{use-ready, update-ready, selecting}, Half.half-held}
 use Rattle.set_ready.specs.Owned.{own-flags, own-ready, end-flags, end-textured}
 use Rattle.texture_track.specs.Slot.{tracker-new, tracker-old}
-use borrow.Author.Needs.{needs}
 use Rattle.texture_track.proofs.using.set_use_at.Statement.{statement}
 use Rattle.texture_track.proofs.using.set_use_at.Tie as tie
 

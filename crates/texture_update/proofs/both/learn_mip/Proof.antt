@@ -1,10 +1,8 @@
 -- `learn_mip`: the ranges that `learn` leaves in the start's part are its mip, and their count is written.
-use native.Mathlib.Omega.{arith}
+use Rattle.model.specs.Prelude.{arith, needs}
 use Rattle.set_storage.specs.Locate.{locates}
 use Rattle.texture_merge.specs.Ready.{lent-is, lent-fits, mip-left}
-use Rattle.texture_update.proofs.Lessons.{lesson-room}
-use borrow.Author.Needs.{needs}
-use Rattle.texture_update.proofs.both.learn_mip.Statement.{statement}
+use Rattle.texture_update.proofs.{Lessons.lesson-room, both.learn_mip.Statement.statement}
 use Rattle.texture_update.proofs.both.learn_mip.Tie as tie
 
 locate-requires-2 : tie.Need-locate-requires-2

@@ -1,11 +1,8 @@
 -- `learn_mips`: each lap lets the next mip of the start learn.
-use native.Mathlib.Omega.{arith}
-use borrow.Author.Needs.{needs}
-use Prim.Native.Nat.{_-_, _≤_}
+use Rattle.model.specs.Prelude.{_-_, _≤_, arith, needs}
 use Rattle.set_storage.specs.Storage.{numbersOf, startHalf}
 use Rattle.texture_merge.specs.Walks.{MipWalk, walk-from}
-use Rattle.texture_update.proofs.Lessons.{lesson, lesson-tiled, lesson-turn, lesson-end}
-use Rattle.texture_update.proofs.both.learn_mips.Statement.{statement}
+use Rattle.texture_update.proofs.{Lessons.{lesson, lesson-tiled, lesson-turn, lesson-end}, both.learn_mips.Statement.statement}
 use Rattle.texture_update.proofs.both.learn_mips.Tie as tie
 
 abbrev Inv-loop : tie.InvT-loop

@@ -1,9 +1,8 @@
 -- `update_both_mip`: what `learn_update` leaves in the two parts are the mips, and their counts are written.
+use Rattle.model.specs.Prelude.{needs}
 use Rattle.set_storage.specs.Locate.{locates}
 use Rattle.texture_merge.specs.Ready.{count-fits}
-use Rattle.texture_update.proofs.Turns.{pair-room, pair-put}
-use borrow.Author.Needs.{needs}
-use Rattle.texture_update.proofs.both.update_both_mip.Statement.{statement}
+use Rattle.texture_update.proofs.{Turns.{pair-room, pair-put}, both.update_both_mip.Statement.statement}
 use Rattle.texture_update.proofs.both.update_both_mip.Tie as tie
 
 locate-requires-2 : tie.Need-locate-requires-2

@@ -1,7 +1,5 @@
 -- `update_both_mips`: each lap changes the next mip of the selector in both halves.
-use native.Mathlib.Omega.{arith}
-use borrow.Author.Needs.{needs}
-use Prim.Native.Nat.{_-_}
+use Rattle.model.specs.Prelude.{_-_, arith, needs}
 use Rattle.texture_update.proofs.Turns.{Turning, turn-start, turn-layers, turn-tiled, turn-on, turn-end}
 use Rattle.texture_update.proofs.both.update_both_mips.Statement.{statement}
 use Rattle.texture_update.proofs.both.update_both_mips.Tie as tie

@@ -1,9 +1,5 @@
 -- `update_from_mip`: each lap gives one range, and what is left decides.
-use native.Mathlib.Omega.{arith}
-use borrow.Author.Needs.{needs}
-use Prim.Native.Nat.{_-_, _≤_}
-use mathlib.Core.List.{map}
-use lib.ListN.{drop}
+use Rattle.model.specs.Prelude.{_-_, _≤_, arith, map, drop, needs}
 use Rattle.range_states.specs.View.{decode}
 use Rattle.set_storage.specs.Storage.{numbersOf, endsOf}
 use Rattle.texture_merge.specs.Giving.{pieceOn}

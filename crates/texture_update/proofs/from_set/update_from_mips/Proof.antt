@@ -1,16 +1,12 @@
 -- `update_from_mips`: each lap gives one mip, and what is left decides.
-use native.Mathlib.Omega.{arith}
-use borrow.Author.Needs.{needs}
-use Prim.Native.Nat.{_-_, _≤_}
-use lib.ListN.{drop}
-use Rattle.set_storage.specs.Storage.{numbersOf, mipsOf, endsOf}
-use Rattle.set_storage.specs.Locate.{locates}
+use Rattle.model.specs.Prelude.{_-_, _≤_, arith, drop, needs}
 use Rattle.model.specs.Texture.{piecesOf}
+use Rattle.set_storage.specs.{Storage.{numbersOf, mipsOf, endsOf}, Locate.locates}
 use Rattle.texture_merge.specs.Giving.{piecesFrom}
 use Rattle.texture_update.specs.Pieces.{updates}
-use Rattle.texture_merge.proofs.Given.{given-mip}
 use Rattle.texture_update.proofs.Takes.{Taking, mip-start, mip-given, mip-turn, mip-done}
 use Rattle.texture_update.proofs.from_set.update_from_mips.Statement.{statement}
+use Rattle.texture_merge.proofs.Given.{given-mip}
 use Rattle.texture_update.proofs.from_set.update_from_mips.Tie as tie
 
 abbrev Inv-loop : tie.InvT-loop

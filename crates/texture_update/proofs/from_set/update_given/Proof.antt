@@ -1,10 +1,9 @@
 -- `update_given`: the words tell whether the given texture and the end are Single or Many, and each case is the model's.
-use mathlib.Core.Path.{refl}
-use Rattle.texture_merge.proofs.Breaking.{break-every}
+use Rattle.model.specs.Prelude.{refl, needs}
 use Rattle.texture_update.specs.FromSet.{from-use}
 use Rattle.texture_update.proofs.SetCases.{state-given, pieces-ready, pieces-done, cover-ready, cover-done}
-use borrow.Author.Needs.{needs}
 use Rattle.texture_update.proofs.from_set.update_given.Statement.{statement}
+use Rattle.texture_merge.proofs.Breaking.{break-every}
 use Rattle.texture_update.proofs.from_set.update_given.Tie as tie
 
 update-state-requires : tie.Need-update-state-requires

@@ -1,6 +1,6 @@
 -- `update_piece`: a piece that is UNKNOWN leaves all as it was, and the start's word tells whether one that is not is learnt.
+use Rattle.model.specs.Prelude.{needs}
 use Rattle.texture_update.proofs.PieceCases.{end-ready, both-ready, piece-passed, piece-kept, piece-learnt}
-use borrow.Author.Needs.{needs}
 use Rattle.texture_update.proofs.from_set.update_piece.Statement.{statement}
 use Rattle.texture_update.proofs.from_set.update_piece.Tie as tie
 

@@ -1,8 +1,6 @@
 -- `learn_update`: the isolated run is read by the start, then takes the state, and the end is coalesced.
-use native.Mathlib.Omega.{arith}
-use Rattle.texture_update.proofs.Pairs.{run-room, pair-is}
-use borrow.Author.Needs.{needs}
-use Rattle.texture_update.proofs.pair.learn_update.Statement.{statement}
+use Rattle.model.specs.Prelude.{arith, needs}
+use Rattle.texture_update.proofs.{Pairs.{run-room, pair-is}, pair.learn_update.Statement.statement}
 use Rattle.texture_update.proofs.pair.learn_update.Tie as tie
 
 learn-requires : tie.Need-learn-requires

@@ -1,10 +1,8 @@
 -- `update_state`: the words tell whether the end and the start are Single or Many, and each case is the model's.
-use mathlib.Core.Path.{sym, _∙_}
+use Rattle.model.specs.Prelude.{sym, _∙_, needs}
 use Rattle.set_storage.specs.Texture.{texture-mips}
 use Rattle.texture_update.specs.Update.{both-many}
-use Rattle.texture_update.proofs.Cases.{all-single, all-kept, all-learnt}
-use borrow.Author.Needs.{needs}
-use Rattle.texture_update.proofs.using.update_state.Statement.{statement}
+use Rattle.texture_update.proofs.{Cases.{all-single, all-kept, all-learnt}, using.update_state.Statement.statement}
 use Rattle.texture_update.proofs.using.update_state.Tie as tie
 
 returns : tie.Need-returns

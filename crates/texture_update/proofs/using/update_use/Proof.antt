@@ -1,10 +1,8 @@
 -- `update_use`: the words tell whether the end and the start are Single or Many, and each case is the model's.
-use mathlib.Core.Path.{refl}
+use Rattle.model.specs.Prelude.{refl, needs}
 use Rattle.texture_merge.specs.Ready.{texture-selects}
 use Rattle.texture_update.specs.Update.{end-many, both-many, end-use}
-use Rattle.texture_update.proofs.Cases.{part-single, part-kept, part-learnt}
-use borrow.Author.Needs.{needs}
-use Rattle.texture_update.proofs.using.update_use.Statement.{statement}
+use Rattle.texture_update.proofs.{Cases.{part-single, part-kept, part-learnt}, using.update_use.Statement.statement}
 use Rattle.texture_update.proofs.using.update_use.Tie as tie
 
 break-up-requires : tie.Need-break-up-requires

@@ -1,6 +1,6 @@
 -- `set_twice`: its calls are a trace, so its second call shares with the grid's run what demand 3 lists.
+use Rattle.model.specs.Prelude.{needs}
 use Rattle.track.specs.ClientLaws.{client-shares}
-use borrow.Author.Needs.{needs}
 use Rattle.track.proofs.client.set_twice.Statement.{statement}
 use Rattle.track.proofs.client.set_twice.Tie as tie
 

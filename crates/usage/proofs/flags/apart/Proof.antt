@@ -1,9 +1,6 @@
 -- `apart` is the definition's chain of tests, in its order.
-use mathlib.Core.Path.{sym, _∙_}
-use borrow.Author.Tests.{lt-ltb, ne-eqb, not-true, not-false}
-use Rattle.usage.proofs.Comparisons.{tests}
-use borrow.Author.Needs.{needs}
-use Rattle.usage.proofs.flags.apart.Statement.{statement}
+use Rattle.model.specs.Prelude.{sym, _∙_, lt-ltb, ne-eqb, not-true, not-false, needs}
+use Rattle.usage.proofs.{Comparisons.tests, flags.apart.Statement.statement}
 use Rattle.usage.proofs.flags.apart.Tie as tie
 
 returns-2 : tie.Need-returns-2

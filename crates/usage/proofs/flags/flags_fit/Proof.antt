@@ -1,7 +1,6 @@
 -- `flags_fit` is the definition's two tests, in its order.
-use mathlib.Core.Path.{sym, _∙_}
+use Rattle.model.specs.Prelude.{sym, _∙_, needs}
 use Rattle.model.specs.Flags.{flagsFit}
-use borrow.Author.Needs.{needs}
 use Rattle.usage.proofs.flags.flags_fit.Statement.{statement}
 use Rattle.usage.proofs.flags.flags_fit.Tie as tie
 

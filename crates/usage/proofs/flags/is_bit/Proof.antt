@@ -1,6 +1,5 @@
 -- `is_bit` is the definition's two tests, in its order.
-use mathlib.Core.Path.{sym, _∙_}
-use borrow.Author.Needs.{needs}
+use Rattle.model.specs.Prelude.{sym, _∙_, needs}
 use Rattle.usage.proofs.flags.is_bit.Statement.{statement}
 use Rattle.usage.proofs.flags.is_bit.Tie as tie
 

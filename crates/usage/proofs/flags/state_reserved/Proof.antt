@@ -1,9 +1,6 @@
 -- `state_reserved` is the definition's chain of tests, in its order.
-use borrow.Author.Tests.{ne-eqb}
-use mathlib.Core.Path.{sym, _∙_}
-use Rattle.usage.proofs.Comparisons.{tests}
-use borrow.Author.Needs.{needs}
-use Rattle.usage.proofs.flags.state_reserved.Statement.{statement}
+use Rattle.model.specs.Prelude.{sym, _∙_, ne-eqb, needs}
+use Rattle.usage.proofs.{Comparisons.tests, flags.state_reserved.Statement.statement}
 use Rattle.usage.proofs.flags.state_reserved.Tie as tie
 
 returns-2 : tie.Need-returns-2

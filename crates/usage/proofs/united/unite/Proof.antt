@@ -1,8 +1,7 @@
 -- `unite` takes the union and tests it.
-use mathlib.Core.Path.{sym, _∙_}
+use Rattle.model.specs.Prelude.{sym, _∙_, needs}
 use Rattle.model.specs.StateRules.{unite}
 use Rattle.usage.specs.StateLaws.{invalid-is}
-use borrow.Author.Needs.{needs}
 use Rattle.usage.proofs.united.unite.Statement.{statement}
 use Rattle.usage.proofs.united.unite.Tie as tie
 

@@ -1,9 +1,7 @@
 -- `unite_known` takes the union less UNKNOWN and tests it.
-use mathlib.Core.Path.{sym, _∙_}
-use borrow.Author.Tests.{eq-eqb, ne-eqb}
+use Rattle.model.specs.Prelude.{sym, _∙_, eq-eqb, ne-eqb, needs}
 use Rattle.model.specs.StateRules.{uniteKnown}
 use Rattle.usage.specs.StateLaws.{invalid-is}
-use borrow.Author.Needs.{needs}
 use Rattle.usage.proofs.united.unite_known.Statement.{statement}
 use Rattle.usage.proofs.united.unite_known.Tie as tie
 
