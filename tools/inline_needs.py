@@ -8,8 +8,8 @@ import glob
 import re
 import sys
 
-WIDTH = 120
-LITTLE = 32
+WIDTH = 138
+LITTLE = 48
 
 
 def inlined(text):

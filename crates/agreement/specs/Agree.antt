@@ -1,4 +1,5 @@
--- Demand 3, from sets that are good: what holds of one texture in a scope and in a tracker is handed to the lifting of LiftCalls, for every list of calls.
+-- Demand 3, from sets that are good: what holds of one texture in a scope and in a tracker is handed to the lifting of LiftCalls, for every
+-- list of calls.
 use Rattle.model.specs.Prelude.{ℕ, zero, suc, _-_, _+_, _≤_, _<_, arith, _≡_, refl, sym, ap, _∙_, Bool, true, false, and-eq-true-iff, _||_}
 use Rattle.model.specs.Prelude.{false≢true, Option, none, some, Option·map, [], _∷_, _++_, append-nil, List, map, ltb, eqb, bitAnd, bitOr}
 use Rattle.model.specs.Prelude.{replicate, getD, eqb-true, ltb-true, ltb-false, not-false, le-leb, lt-ltb}
@@ -28,7 +29,8 @@ measured h i sh t =
     (inside _ _ (o .0) .0, inside _ _ (o .1) .0)
 
 -- a selector of the full extent names every subresource
-full-place : (sh : Extent) (q : Selector) → isFull sh q ≡ true → (q .mips .start .0 ≡ 0) × (q .mips .end .0 ≡ sh .mips) × (q .layers .start .0 ≡ 0) × (q .layers .end .0 ≡ sh .layers)
+full-place : (sh : Extent) (q : Selector) → isFull sh q ≡ true
+    → (q .mips .start .0 ≡ 0) × (q .mips .end .0 ≡ sh .mips) × (q .layers .start .0 ≡ 0) × (q .layers .end .0 ≡ sh .layers)
 full-place sh q e =
     let h = and-eq-true-iff _ _ .0 e in let g = and-eq-true-iff _ _ .0 (h .0) in let f = and-eq-true-iff _ _ .0 (g .0) in
     (eqb-true _ _ (f .0), eqb-true _ _ (f .1), eqb-true _ _ (g .1), eqb-true _ _ (h .1))
@@ -48,12 +50,14 @@ full-grid sh q st e = go 0 (sh .mips) (omega arith)
     go k zero h = refl
     go k (suc n) h = rw (row k (omega arith), go (suc k) n (omega arith))
 
-pub use-gives : (sh : Extent) (sel : Option Selector) (st : ℕ) → Passed (selectorChecks sh sel) → Gives sh (fromUse sh sel st) (namedUse sh sel st)
+pub use-gives : (sh : Extent) (sel : Option Selector) (st : ℕ) → Passed (selectorChecks sh sel)
+    → Gives sh (fromUse sh sel st) (namedUse sh sel st)
 use-gives sh none st t = gives-one
 use-gives sh (some q) st t = go (isFull sh q) refl
   where
     go : (b : Bool) → isFull sh q ≡ b
-        → Gives sh (if b then givenSingle st else givenMany (record { selector = q; state = st } ∷ [])) (record { single = b; states = tab (namedRow sh q st) 0 (sh .mips) })
+        → Gives sh (if b then givenSingle st else givenMany (record { selector = q; state = st } ∷ [])) (record
+        { single = b; states = tab (namedRow sh q st) 0 (sh .mips) })
     go true e = rw (full-grid sh q st e) gives-one
     go false e =
         let h = and-eq-true-iff _ _ .0 (not-false _ (t .0)) in
@@ -79,8 +83,11 @@ unfolding gridOf
 textures = record {
   fresh = λ n. refl;
   used = λ h i sh sel st z w e. let c = passed _ e in
-      let t = all-left _ (textureChecks h i sh ++ selectorChecks sh sel) (stateChecks (h .flags) st) c in
-      (measured h i sh (all-left _ (textureChecks h i sh) (selectorChecks sh sel) t), use-gives sh sel st (all-right _ (textureChecks h i sh) (selectorChecks sh sel) t));
+      let t = all-left _ (textureChecks h i sh ++ selectorChecks sh sel) (stateChecks (h .flags) st) c in (
+        measured h i sh (all-left _ (textureChecks h i sh) (selectorChecks sh sel) t),
+        use-gives sh sel st
+            (all-right _ (textureChecks h i sh) (selectorChecks sh sel) t),
+      );
   passed-on = λ p sh h f. held-gives sh h f;
   inserted = λ p sh g n r. inserted p sh g n (r .0) (r .1);
   merged = λ p sh h g n r f. merged p sh h g n (r .1) f;
@@ -118,19 +125,26 @@ known-flags : (p : UsageFlags) → flagsFit p ≡ true → UnknownNonzero p
 unfolding flagsFit
 known-flags p e z = false≢true (rw z at (and-left (isBit (p .unknown)) (apart p) e))
 
-used : (h : Head) (i : ℕ) (sh : Extent) (sel : Option Selector) (st : ℕ) → flagsFit (h .flags) ≡ true → singleRefusal h i sh sel st ≡ none → GivesC (h .flags) sh (fromUse sh sel st) (namedUse sh sel st)
+used : (h : Head) (i : ℕ) (sh : Extent) (sel : Option Selector) (st : ℕ) → flagsFit (h .flags) ≡ true → singleRefusal h i sh sel st ≡ none
+    → GivesC (h .flags) sh (fromUse sh sel st) (namedUse sh sel st)
 used h i sh sel st s e =
     let g = textures .used h i sh sel st s tt e in
     let t = all-right _ (textureChecks h i sh ++ selectorChecks sh sel) (stateChecks (h .flags) st) (passed _ e) in
     let o = neither (eqb st 0 || meets st (h .flags .unknown)) (meets st (h .flags .complex)) (t .0) in
     let u = neither (eqb st 0) (meets st (h .flags .unknown)) (o .0) in
-    record { sure = known-flags (h .flags) s; measured = g .0; gives = g .1; clear = clear-use (h .flags) sh sel st (clear-state (h .flags) st (u .1)) }
+    record {
+      sure = known-flags (h .flags) s;
+      measured = g .0;
+      gives = g .1;
+      clear = clear-use (h .flags) sh sel st (clear-state (h .flags) st (u .1));
+    }
 
 clear-held : (p : UsageFlags) (h : Held) → ClearHeld p h → ClearGiven p (fromHeld h)
 clear-held p (single st) c = c
 clear-held p (many ss) c = tt
 
-passed-on : (p : UsageFlags) (sh : Extent) (h : Held) → UnknownNonzero p → Fit sh h → ClearHeld p h → GivesC p sh (fromHeld h) (namedAll (gridOf sh h))
+passed-on : (p : UsageFlags) (sh : Extent) (h : Held) → UnknownNonzero p → Fit sh h → ClearHeld p h
+    → GivesC p sh (fromHeld h) (namedAll (gridOf sh h))
 passed-on p sh h s f c = let g = held-gives sh h f in record { sure = s; measured = g .0; gives = g .1; clear = clear-held p h c }
 
 -- ---- a merge keeps a Single texture clear
@@ -141,12 +155,15 @@ merge-clear : (p : UsageFlags) (sh : Extent) (h : Held) (g : Given) → ClearHel
 unfolding merge unite
 merge-clear p sh (single cur) (givenSingle new) x y = go (invalidState p (bitOr cur new))
   where
-    go : (b : Bool) → ClearHeld p (ruled (single cur) (invalidUse (full sh) cur new) (Option·map single (if b then none else some (bitOr cur new))) .value)
+    go : (b : Bool)
+        → ClearHeld p (ruled (single cur) (invalidUse (full sh) cur new)
+        (Option·map single (if b then none else some (bitOr cur new))) .value)
     go true = x
     go false = clear-union p cur new x y
 merge-clear p sh (single cur) (givenMany qs) x y = go (passes (spreadPiece p cur) qs (freshMips sh cur) .conflict)
   where
-    go : (o : Option InvalidUse) → ClearHeld p (orKeep o (single cur) (many (passes (spreadPiece p cur) qs (freshMips sh cur) .value)) .value)
+    go : (o : Option InvalidUse)
+        → ClearHeld p (orKeep o (single cur) (many (passes (spreadPiece p cur) qs (freshMips sh cur) .value)) .value)
     go none = tt
     go (some c) = x
 merge-clear p sh (many ss) (givenSingle new) x y = tt
@@ -157,8 +174,10 @@ scope-facts = record {
   fresh = textures .fresh;
   used = λ h i sh sel st s w e. used h i sh sel st s e;
   passed-on = λ p sh h f. passed-on p sh h (f .sure) (f .fit) (f .clear);
-  inserted = λ p sh g n r. let m = inserted p sh g n (r .measured) (r .gives) in (record { sure = r .sure; fit = m .0; clear = insert-clear p sh g (r .clear) }, m .1);
-  merged = λ p sh h g n r f. let m = merged p sh h g n (r .gives) (f .fit) in (record { sure = r .sure; fit = m .0; clear = merge-clear p sh h g (f .clear) (r .clear) }, m .1);
+  inserted = λ p sh g n r. let m = inserted p sh g n (r .measured) (r .gives) in
+      (record { sure = r .sure; fit = m .0; clear = insert-clear p sh g (r .clear) }, m .1);
+  merged = λ p sh h g n r f. let m = merged p sh h g n (r .gives) (f .fit) in
+      (record { sure = r .sure; fit = m .0; clear = merge-clear p sh h g (f .clear) (r .clear) }, m .1);
 }
 
 -- ---- trackers
@@ -187,8 +206,10 @@ tracker-facts = record {
   used = λ h i sh sel st s w e. twice (h .flags) sh _ _ (used h i sh sel st s e);
   passed-on = λ p sh h f. twice p sh _ _ (passed-on p sh h (f .sure) (f .fit) (f .clear));
   joined = joined;
-  inserted = λ p sh a b c d r. inserted-ends p sh a c b d (r .from .sure) (r .from .measured) (r .from .gives) (r .to .gives) (r .from .clear) (r .to .clear) (r .known);
-  updated = λ p sh e a b c d r f. let k = updated p sh (e .start) (e .end) c d f (r .to .gives) (r .to .clear) in (k .fit, (λ i. record { start = k .start i; end = k .end i }) ∙ sym (update-rule p sh (gridEnds sh e) d));
+  inserted = λ p sh a b c d r. inserted-ends p sh a c b d (r .from .sure) (r .from .measured) (r .from .gives) (r .to .gives)
+      (r .from .clear) (r .to .clear) (r .known);
+  updated = λ p sh e a b c d r f. let k = updated p sh (e .start) (e .end) c d f (r .to .gives) (r .to .clear) in
+      (k .fit, (λ i. record { start = k .start i; end = k .end i }) ∙ sym (update-rule p sh (gridEnds sh e) d));
   logged = λ p mask sh e a b c d r f m l.
       let z = logged p mask sh m l (e .end) a b (f .end) (r .from .gives) in
       (z, rw z (at-most-one (getD (getD (gridBarrier p mask sh (gridOf sh (e .end)) b) m []) l none)));
@@ -196,7 +217,8 @@ tracker-facts = record {
 
 -- ---- what is seen of the two representations
 seen-map : {H A : Type 0} (v : Extent → H → A) (l : List (Slot H))
-    → map (seenSlot v) l ≡ map (seenSlot itself) (map (λ (x : Slot H). record { owned = x .owned; extent = x .extent; held = v (x .extent) (x .held) }) l)
+    → map (seenSlot v) l ≡ map (seenSlot itself) (map
+    (λ (x : Slot H). record { owned = x .owned; extent = x .extent; held = v (x .extent) (x .held) }) l)
 seen-map v [] = refl
 seen-map v (x ∷ l) = rw (seen-map v l)
 
@@ -204,11 +226,13 @@ sees : (s : List (Set Held)) → map (seen gridOf) s ≡ map (seen itself) (map 
 sees [] = refl
 sees (x ∷ s) = rw (sees s, seen-map gridOf (x .slots))
 
-sees-t : (s : List (Tracker Held)) → map (λ (t : Tracker Held). seen gridEnds (t .set)) s ≡ map (λ (t : Tracker Grid). seen itself (t .set)) (map gridTracker s)
+sees-t : (s : List (Tracker Held))
+    → map (λ (t : Tracker Held). seen gridEnds (t .set)) s ≡ map (λ (t : Tracker Grid). seen itself (t .set)) (map gridTracker s)
 sees-t [] = refl
 sees-t (x ∷ s) = rw (sees-t s, seen-map gridEnds (x .set .slots))
 
-abbrev StepS : CallResult InvalidUse (List Entry) (Sets ranged) → CallResult SubresourceConflict (List (List (Option Move))) (Sets grid) → Type 0
+abbrev StepS : CallResult InvalidUse (List Entry) (Sets ranged) → CallResult SubresourceConflict (List (List (Option Move))) (Sets grid)
+    → Type 0
 StepS = Stepped ranged grid gridOf firstOf WordP WordP FitS FitEnds GivesC Pairs entriesAt gridAt
 
 same-answer : (a : Answer InvalidUse) → seenAnswer a ≡ mapAnswer firstOf a
@@ -216,11 +240,14 @@ same-answer done = refl
 same-answer (refused x) = refl
 same-answer (inConflict c) = refl
 
-pub shares : (r : CallResult InvalidUse (List Entry) (Sets ranged)) (u : CallResult SubresourceConflict (List (List (Option Move))) (Sets grid)) → StepS r u → Shares r u
+pub shares : (r : CallResult InvalidUse (List Entry) (Sets ranged)) (u : CallResult SubresourceConflict (List (List (Option Move)))
+    (Sets grid))
+    → StepS r u → Shares r u
 shares r u m = record {
   answer = same-answer (r .answer) ∙ m .answer;
   scopes = sees (r .after .scopes) ∙ ap (λ (k : Sets grid). map (seen itself) (k .scopes)) (m .after);
-  trackers = sees-t (r .after .trackers) ∙ ap (λ (k : Sets grid). map (λ (t : Tracker Grid). seen itself (t .set)) (k .trackers)) (m .after);
+  trackers = sees-t (r .after .trackers)
+      ∙ ap (λ (k : Sets grid). map (λ (t : Tracker Grid). seen itself (t .set)) (k .trackers)) (m .after);
   moves = m .moves;
   once = m .once;
 }
@@ -237,12 +264,15 @@ no-word (callSetFromTracker n m) = tt
 no-word (callSetAndRemoveSparse n m is) = tt
 
 pub one-step : (c : Call) (k : Sets ranged) → GoodSets k → StepS (step ranged c k) (step grid c (toGrids k))
-one-step c k ok = stepped ranged grid gridOf firstOf WordP WordP FitS FitEnds GivesC Pairs entriesAt gridAt scope-facts tracker-facts c k (no-word c) ok
+one-step c k ok = stepped ranged grid gridOf firstOf WordP WordP FitS FitEnds GivesC Pairs entriesAt gridAt scope-facts tracker-facts c k
+    (no-word c) ok
 
 pub from-here : (cs : List Call) (k : Sets ranged) → GoodSets k → Agree k (toGrids k) cs
 from-here [] k ok = tt
-from-here (c ∷ cs) k ok = let m = one-step c k ok in (shares (step ranged c k) (step grid c (toGrids k)) m, rw (← m .after) (from-here cs (step ranged c k .after) (m .good)))
+from-here (c ∷ cs) k ok = let m = one-step c k ok in
+    (shares (step ranged c k) (step grid c (toGrids k)) m, rw (← m .after) (from-here cs (step ranged c k .after) (m .good)))
 
 -- newly opened sets of the two are each other's image
 pub opened-grids : (os ts : List Opening) → toGrids (newly ranged os ts) ≡ newly grid os ts
-opened-grids os ts = opened ranged grid gridOf firstOf WordP WordP FitS FitEnds GivesC Pairs entriesAt gridAt scope-facts tracker-facts os ts .1
+opened-grids os ts = opened ranged grid gridOf firstOf WordP WordP FitS FitEnds GivesC Pairs entriesAt gridAt scope-facts tracker-facts os
+    ts .1

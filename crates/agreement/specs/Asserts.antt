@@ -1,5 +1,5 @@
--- The strict assertions of the Rust's texture.rs that the six calls reach, as tests over the ranged model; numbers in comments are lines of texture.rs.
--- (range.rs asserts in its tests alone.) Each test says at least what the assertion says wherever a call reaches it.
+-- The strict assertions of the Rust's texture.rs that the six calls reach, as tests over the ranged model; numbers in comments are lines of
+-- texture.rs. (range.rs asserts in its tests alone.) Each test says at least what the assertion says wherever a call reaches it.
 use Rattle.model.specs.Prelude.{ℕ, suc, Bool, true, false, _&&_, not, Option, none, some, List, [], _∷_, leb, ltb, eqb, length, getElem?}
 use Rattle.model.specs.declared.{Extent.Extent, Range.Range, Refusal.Refusal, Selector.Selector, UsageFlags.UsageFlags}
 use Rattle.model.specs.{Base.{every, if_then_else_}, Representation.{mipStart, mipEnd, layerStart, layerEnd, full, Ends}}
@@ -40,14 +40,15 @@ spreadAsserts p sh (many ss) g = true
 abbrev pub mergeAsserts : UsageFlags → Extent → Held → Given → Bool
 mergeAsserts p sh h g = mipAsserts h g && spreadAsserts p sh h g
 
--- ---- `update` and what the start learns: a start's ranges that take a state are UNKNOWN, and the start is Many where the end has an UNKNOWN range
--- `strict_assert_eq!(*current_start_state, TextureUses::UNKNOWN)` (1489, 1538), along `learn`
+-- ---- `update` and what the start learns: a start's ranges that take a state are UNKNOWN, and the start is Many where the end has an
+-- UNKNOWN range `strict_assert_eq!(*current_start_state, TextureUses::UNKNOWN)` (1489, 1538), along `learn`
 unfoldable pub learnAsserts : ℕ → ℕ → List Range → List Range → Bool
 unfolding isolate paint coalesce
 learnAsserts u new [] start = true
 learnAsserts u new (r ∷ s) start =
     if eqb (r .state) u
-    then every (λ (x : Range). eqb (x .state) u) ((isolate (r .start) (r .end) u start) .run) && learnAsserts u new s (coalesce (paint u (r .start) (r .end) new start))
+    then every (λ (x : Range). eqb (x .state) u) ((isolate (r .start) (r .end) u start) .run)
+    && learnAsserts u new s (coalesce (paint u (r .start) (r .end) new start))
     else learnAsserts u new s start
 
 -- `strict_assert!(mip_id < start_complex.mips.len())` (1482, 1531): the start has a mip for each of the end's
@@ -73,7 +74,9 @@ piecesAssert u [] ss start = true
 piecesAssert u (q ∷ qs) ss start =
     if eqb (q .state) u then piecesAssert u qs ss start
     else pieceAsserts u q ss start
-    && piecesAssert u qs (onMips (q .selector) (λ s. coalesce (paint u (q .selector .layers .start .0) (q .selector .layers .end .0) (q .state) s)) 0 ss) (learnHeld (metBy u q) u (q .state) ss start)
+    && piecesAssert u qs (onMips (q .selector)
+    (λ s. coalesce (paint u (q .selector .layers .start .0) (q .selector .layers .end .0) (q .state) s)) 0 ss)
+    (learnHeld (metBy u q) u (q .state) ss start)
 
 -- `if let Some(start_complex)`: a Single start is passed over where one state is given
 abbrev pub singleAsserts : ℕ → ℕ → List (List Range) → Held → Bool
@@ -121,7 +124,8 @@ setAsserts from to t g =
     unlessRefused (setRefusal (headOf (t .set)) (headOf g))
     (eachOwned (λ s x. trackerAsserts (t .set .flags) (x .extent) (from (x .held)) (to (x .held)) s) (t .set .slots) (g .slots))
 
--- `set_and_remove_from_usage_scope_sparse` (645): a listed index is in the scope's bounds, and in the tracker's where the scope owns it: no index gains an owner on the way
+-- `set_and_remove_from_usage_scope_sparse` (645): a listed index is in the scope's bounds, and in the tracker's where the scope owns it: no
+-- index gains an owner on the way
 abbrev pub listedInBounds : Tracker Held → Set Held → ℕ → Bool
 listedInBounds t s i = inBounds i (s .slots) && (if slotAt (ranged .fresh 0) s i .owned then inBounds i (t .set .slots) else true)
 
@@ -130,7 +134,8 @@ abbrev pub sparseAsserts : List ℕ → Tracker Held × Set Held → Bool
 sparseAsserts [] ts = true
 sparseAsserts (i ∷ is) ts =
     let g = slotAt (ranged .fresh 0) (ts .1) i in
-    (if g .owned then trackerAsserts (ts .0 .set .flags) (g .extent) (fromHeld (g .held)) (fromHeld (g .held)) (slotAt (noEnds ranged) (ts .0 .set) i) else true)
+    (if g .owned then trackerAsserts (ts .0 .set .flags) (g .extent) (fromHeld (g .held)) (fromHeld (g .held))
+    (slotAt (noEnds ranged) (ts .0 .set) i) else true)
     && sparseAsserts is (sparseOne ranged i ts .after)
 
 -- with the sets that a call names, if they are there
@@ -150,12 +155,15 @@ callAsserts (callMergeSingle n i sh sel st) k =
     ifThere (getElem? (k .scopes) n) (λ s. unlessRefused (singleRefusal (headOf s) (i .0) sh sel st)
     (inBounds (i .0) (s .slots) && scopeAsserts (s .flags) sh (fromUse sh sel st) (slotAt (ranged .fresh 0) s (i .0))))
 callAsserts (callMergeUsageScope n m) k =
-    if eqb n m then true else ifBoth (getElem? (k .scopes) n) (getElem? (k .scopes) m) (λ s g. unlessRefused (setRefusal (headOf s) (headOf g))
+    if eqb n m then true else ifBoth (getElem? (k .scopes) n) (getElem? (k .scopes) m)
+    (λ s g. unlessRefused (setRefusal (headOf s) (headOf g))
     (eachOwned (λ x y. scopeAsserts (s .flags) (y .extent) (fromHeld (y .held)) x) (s .slots) (g .slots)))
 callAsserts (callSetSingle n i sh sel st) k =
     ifThere (getElem? (k .trackers) n) (λ t. unlessRefused (singleRefusal (headOf (t .set)) (i .0) sh (some sel) st)
-    (inBounds (i .0) (t .set .slots) && trackerAsserts (t .set .flags) sh (fromUse sh (some sel) st) (fromUse sh (some sel) st) (slotAt (noEnds ranged) (t .set) (i .0))))
-callAsserts (callSetFromUsageScope n m) k = ifBoth (getElem? (k .trackers) n) (getElem? (k .scopes) m) (λ t g. setAsserts fromHeld fromHeld t g)
+    (inBounds (i .0) (t .set .slots) && trackerAsserts (t .set .flags) sh (fromUse sh (some sel) st) (fromUse sh (some sel) st) (slotAt
+    (noEnds ranged) (t .set) (i .0))))
+callAsserts (callSetFromUsageScope n m) k = ifBoth (getElem? (k .trackers) n) (getElem? (k .scopes) m)
+    (λ t g. setAsserts fromHeld fromHeld t g)
 callAsserts (callSetFromTracker n m) k =
     if eqb n m then true else ifBoth (getElem? (k .trackers) n) (getElem? (k .trackers) m)
     (λ t g. setAsserts (λ (e : Ends Held). fromHeld (e .start)) (λ (e : Ends Held). fromHeld (e .end)) t (g .set))

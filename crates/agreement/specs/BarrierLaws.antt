@@ -32,15 +32,28 @@ in-entry m l q (some v) = append-nil (if holds q m l then v ∷ [] else [])
 in-ranges : (m l : ℕ) (f : ℕ → Option Move) (s : List Range) → entriesAt m l (mipEntries f m s) ≡ held (λ c. toList (f c)) l s
 in-ranges m l f [] = refl
 in-ranges m l f (r ∷ s) =
-    rw (in-append m l (entry (select m (suc m) (r .start) (r .end)) (f (r .state))), in-entry m l (select m (suc m) (r .start) (r .end)) (f (r .state)), own-mip m (r .start) (r .end), in-ranges m l f s)
+    rw (
+      in-append m l (entry (select m (suc m) (r .start) (r .end)) (f (r .state))),
+      in-entry m l (select m (suc m) (r .start) (r .end))
+          (f (r .state)),
+      own-mip m (r .start) (r .end),
+      in-ranges m l f s,
+    )
 
 off-ranges : (m k l : ℕ) (f : ℕ → Option Move) (s : List Range) → (m ≡ k → ⊥) → entriesAt m l (mipEntries f k s) ≡ []
 off-ranges m k l f [] h = refl
 off-ranges m k l f (r ∷ s) h =
-    rw (in-append m l (entry (select k (suc k) (r .start) (r .end)) (f (r .state))), in-entry m l (select k (suc k) (r .start) (r .end)) (f (r .state)), other-mip k m (r .start) (r .end) h, off-ranges m k l f s h)
+    rw (
+      in-append m l (entry (select k (suc k) (r .start) (r .end)) (f (r .state))),
+      in-entry m l (select k (suc k) (r .start) (r .end))
+          (f (r .state)),
+      other-mip k m (r .start) (r .end) h,
+      off-ranges m k l f s h,
+    )
 
 -- ---- of what the mips make, only what mip m makes counts
-module _ {A B : Type 0} (h : B → List Move) (g : ℕ → A → List B) (m : ℕ) (d : A) (off : (j : ℕ) (x : A) → (m ≡ j → ⊥) → each h (g j x) ≡ []) (past : each h (g m d) ≡ []) where
+module _ {A B : Type 0} (h : B → List Move) (g : ℕ → A → List B) (m : ℕ) (d : A) (off : (j : ℕ) (x : A) → (m ≡ j → ⊥) → each h (g j x) ≡ [])
+    (past : each h (g m d) ≡ []) where
   off-mips : (k : ℕ) (s : List A) → m < k → each h (eachAt g k s) ≡ []
   off-mips k [] e = refl
   off-mips k (x ∷ s) e = rw (each-append h (g k x), off k x (λ z. omega arith), off-mips (suc k) s (omega arith))
@@ -66,13 +79,15 @@ moved-none : (p : UsageFlags) (mask : ℕ) (c : Option ℕ) → moved p mask c n
 moved-none p mask none = refl
 moved-none p mask (some c) = refl
 
-row-at : (p : UsageFlags) (mask : ℕ) (r : List ℕ) (q : List (Option ℕ)) (l : ℕ) → toList (getD (zip₂ (ruleMove p mask) r q) l none) ≡ moved p mask (getD (map some r) l none) (getD q l none)
+row-at : (p : UsageFlags) (mask : ℕ) (r : List ℕ) (q : List (Option ℕ)) (l : ℕ)
+    → toList (getD (zip₂ (ruleMove p mask) r q) l none) ≡ moved p mask (getD (map some r) l none) (getD q l none)
 row-at p mask [] q l = refl
 row-at p mask (c ∷ r) [] l = sym (moved-none p mask (getD (map some (c ∷ r)) l none))
 row-at p mask (c ∷ r) (o ∷ q) zero = refl
 row-at p mask (c ∷ r) (o ∷ q) (suc l) = row-at p mask r q l
 
-grid-at : (p : UsageFlags) (mask : ℕ) (g : List (List ℕ)) (n : List (List (Option ℕ))) (m l : ℕ) → gridAt m l (zip₂ (zip₂ (ruleMove p mask)) g n) ≡ moved p mask (look g m l) (getD (getD n m []) l none)
+grid-at : (p : UsageFlags) (mask : ℕ) (g : List (List ℕ)) (n : List (List (Option ℕ))) (m l : ℕ)
+    → gridAt m l (zip₂ (zip₂ (ruleMove p mask)) g n) ≡ moved p mask (look g m l) (getD (getD n m []) l none)
 grid-at p mask [] n m l = refl
 grid-at p mask (r ∷ g) [] m l = sym (moved-none p mask (look (r ∷ g) m l))
 grid-at p mask (r ∷ g) (q ∷ n) zero l = row-at p mask r q l
@@ -111,28 +126,34 @@ some-out (c ∷ s) zero h = absurd (omega arith)
 some-out (c ∷ s) (suc l) h = some-out s l (omega arith)
 
 -- what the ranges that hold layer l make, by the layer's state
-held-some : (w : ℕ) (f : ℕ → List Move) (l : ℕ) (s : List Range) → Tiles 0 s w → held f l s ≡ orNone f (getD (map some (layerStates s)) l none)
+held-some : (w : ℕ) (f : ℕ → List Move) (l : ℕ) (s : List Range) → Tiles 0 s w
+    → held f l s ≡ orNone f (getD (map some (layerStates s)) l none)
 held-some w f l s t =
     let c = tiles-length s 0 w t in
     by-lt l w
     (λ k. let z : l - 0 ≡ l = omega arith in rw (getD-some (layerStates s) l 0 (omega arith), held-state f l s 0 w 0 t (omega arith) k, z))
     (λ k. rw (held-after f l s 0 w t k, some-out (layerStates s) l (omega arith)))
 
-rows-some : (ts : List (List Range)) (m : ℕ) → getD (map (map {A = ℕ} {B = Option ℕ} some) (map layerStates ts)) m [] ≡ map some (layerStates (getD ts m []))
+rows-some : (ts : List (List Range)) (m : ℕ)
+    → getD (map (map {A = ℕ} {B = Option ℕ} some) (map layerStates ts)) m [] ≡ map some (layerStates (getD ts m []))
 unfolding layerStates
 rows-some [] m = refl
 rows-some (t ∷ ts) zero = refl
 rows-some (t ∷ ts) (suc m) = rows-some ts m
 
-held-look : (sh : Extent) (f : ℕ → List Move) (m l : ℕ) (ts : List (List Range)) → Tiled sh ts → held f l (getD ts m []) ≡ orNone f (look (map layerStates ts) m l)
+held-look : (sh : Extent) (f : ℕ → List Move) (m l : ℕ) (ts : List (List Range)) → Tiled sh ts
+    → held f l (getD ts m []) ≡ orNone f (look (map layerStates ts) m l)
 unfolding layerStates
 held-look sh f m l ts t =
     rw (rows-some ts m) (all-getD (λ (s : List Range). held f l s ≡ orNone f (getD (map some (layerStates s)) l none)) ts m [] refl
-    (all-weak (λ (s : List Range). Tiles 0 s (sh .layers)) (λ (s : List Range). held f l s ≡ orNone f (getD (map some (layerStates s)) l none)) (held-some (sh .layers) f l) ts t))
+    (all-weak (λ (s : List Range). Tiles 0 s (sh .layers))
+    (λ (s : List Range). held f l s ≡ orNone f (getD (map some (layerStates s)) l none)) (held-some (sh .layers) f l) ts t))
 
-lookup-set : (sh : Extent) (f : ℕ → List Move) (m l : ℕ) (ts : List (List Range)) → Tiled sh ts → givenState f m l (piecesOf ts) ≡ orNone f (look (map layerStates ts) m l)
+lookup-set : (sh : Extent) (f : ℕ → List Move) (m l : ℕ) (ts : List (List Range)) → Tiled sh ts
+    → givenState f m l (piecesOf ts) ≡ orNone f (look (map layerStates ts) m l)
 lookup-set sh f m l ts t =
-    at-mip (λ (q : Piece). if holds (q .selector) m l then f (q .state) else []) (λ j. map (pieceAt j)) m [] (λ j x e. given-off f m j l x e) refl ts
+    at-mip (λ (q : Piece). if holds (q .selector) m l then f (q .state) else []) (λ j. map (pieceAt j)) m []
+    (λ j x e. given-off f m j l x e) refl ts
     ∙ given-ranges f m l (getD ts m []) ∙ held-look sh f m l ts t
 
 -- ---- a place
@@ -155,13 +176,17 @@ getD-band a e w st l h = go (decLt l a) (decLt l e)
         let n : l ≡ length (replicate {A = Option ℕ} a none) + (l - a) = rw length-replicate (omega arith) in
         let x : l - a < e - a = omega arith in
         let m : l - a < length (replicate {A = Option ℕ} (e - a) (some st)) = rw length-replicate x in
-        rw (le-leb a l (omega arith), lt-ltb l e k) (ap (λ (i : ℕ). getD (replicate a none ++ B) i none) n ∙ getD-append-add (replicate a none) B (l - a) none
-        ∙ List·getD-append (replicate (e - a) (some st)) (replicate (w - e) none) none (l - a) m ∙ getD-replicate (e - a) (l - a) (some st) none x)
+        rw (le-leb a l (omega arith), lt-ltb l e k) (ap (λ (i : ℕ). getD (replicate a none ++ B) i none) n
+        ∙ getD-append-add (replicate a none) B (l - a) none
+        ∙ List·getD-append (replicate (e - a) (some st)) (replicate (w - e) none) none (l - a) m
+        ∙ getD-replicate (e - a) (l - a) (some st) none x)
     go (no d) (no k) =
         let n : l ≡ length (replicate {A = Option ℕ} a none) + (l - a) = rw length-replicate (omega arith) in
         let m : l - a ≡ length (replicate {A = Option ℕ} (e - a) (some st)) + (l - e) = rw length-replicate (omega arith) in
-        rw (le-ltb l e (omega arith), and-false) (ap (λ (i : ℕ). getD (replicate a none ++ B) i none) n ∙ getD-append-add (replicate a none) B (l - a) none
-        ∙ ap (λ (i : ℕ). getD B i none) m ∙ getD-append-add (replicate (e - a) (some st)) (replicate (w - e) none) (l - e) none ∙ getD-blank (w - e) (l - e))
+        rw (le-ltb l e (omega arith), and-false) (ap (λ (i : ℕ). getD (replicate a none ++ B) i none) n
+        ∙ getD-append-add (replicate a none) B (l - a) none
+        ∙ ap (λ (i : ℕ). getD B i none) m ∙ getD-append-add (replicate (e - a) (some st)) (replicate (w - e) none) (l - e) none
+        ∙ getD-blank (w - e) (l - e))
 
 getD-tab : {A : Type 0} (f : ℕ → A) (k n i : ℕ) (d : A) → i < n → getD (tab f k n) i d ≡ f (k + i)
 getD-tab f k zero i d h = absurd (omega arith)
@@ -177,40 +202,58 @@ none-if : (f : ℕ → List Move) (b : Bool) (st : ℕ) → (if b then f st else
 none-if f true st = append-nil (f st)
 none-if f false st = refl
 
-pub lookup-place : (sh : Extent) (f : ℕ → List Move) (m l : ℕ) (q : Selector) (st : ℕ) → q .layers .start .0 < q .layers .end .0 → q .mips .end .0 ≤ sh .mips
+pub lookup-place : (sh : Extent) (f : ℕ → List Move) (m l : ℕ) (q : Selector) (st : ℕ) → q .layers .start .0 < q .layers .end .0
+    → q .mips .end .0 ≤ sh .mips
     → (if holds q m l then f st else []) ++ [] ≡ orNone f (getD (getD (tab (namedRow sh q st) 0 (sh .mips)) m []) l none)
 lookup-place sh f m l q st h g = go (decLt m (sh .mips))
   where
-    go : Dec (m < sh .mips) → (if holds q m l then f st else []) ++ [] ≡ orNone f (getD (getD (tab (namedRow sh q st) 0 (sh .mips)) m []) l none)
+    go : Dec (m < sh .mips)
+        → (if holds q m l then f st else []) ++ [] ≡ orNone f (getD (getD (tab (namedRow sh q st) 0 (sh .mips)) m []) l none)
     go (no d) = rw (tab-out (namedRow sh q st) 0 (sh .mips) m [] (omega arith), le-ltb m (q .mips .end .0) (omega arith), and-false)
     go (yes d) = rw (getD-tab (namedRow sh q st) 0 (sh .mips) m [] d, zero-add) (row (inMips q m))
       where
         row : (b : Bool) → (if b && leb (q .layers .start .0) l && ltb l (q .layers .end .0) then f st else []) ++ []
-            ≡ orNone f (getD (if b then band (q .layers .start .0) (q .layers .end .0) (sh .layers) (some st) none else replicate (sh .layers) none) l none)
-        row true = rw (getD-band (q .layers .start .0) (q .layers .end .0) (sh .layers) st l (omega arith)) (none-if f (leb (q .layers .start .0) l && ltb l (q .layers .end .0)) st)
+            ≡ orNone f (getD (if b then band (q .layers .start .0) (q .layers .end .0) (sh .layers) (some st) none else replicate
+            (sh .layers) none) l none)
+        row true = rw (getD-band (q .layers .start .0) (q .layers .end .0) (sh .layers) st l (omega arith))
+            (none-if f (leb (q .layers .start .0) l && ltb l (q .layers .end .0)) st)
         row false = rw getD-blank
 
-read-at : (sh : Extent) (f : ℕ → List Move) (m l : ℕ) (qs : List Piece) (n : Named) → Gives sh (givenMany qs) n → givenState f m l qs ≡ orNone f (getD (getD (n .states) m []) l none)
+read-at : (sh : Extent) (f : ℕ → List Move) (m l : ℕ) (qs : List Piece) (n : Named) → Gives sh (givenMany qs) n
+    → givenState f m l qs ≡ orNone f (getD (getD (n .states) m []) l none)
 read-at sh f m l qs n (gives-place {q} a b c d) = lookup-place sh f m l (q .selector) (q .state) a d
 read-at sh f m l qs n (gives-set ts h t) = lookup-set sh f m l ts t
 
 -- a use of every subresource
-pub everywhere-at : (sh : Extent) (x m l : ℕ) → getD (getD (everywhere sh (some x)) m []) l none ≡ (if holds (full sh) m l then some x else none)
+pub everywhere-at : (sh : Extent) (x m l : ℕ)
+    → getD (getD (everywhere sh (some x)) m []) l none ≡ (if holds (full sh) m l then some x else none)
 everywhere-at sh x m l =
     by-lt m (sh .mips)
-    (λ a. rw (getD-replicate (sh .mips) m (replicate (sh .layers) (some x)) [] a, le-leb 0 m (omega arith), lt-ltb m (sh .mips) a, le-leb 0 l (omega arith)) (by-lt l (sh .layers)
+    (λ a. rw (
+      getD-replicate (sh .mips) m (replicate (sh .layers) (some x)) [] a,
+      le-leb 0 m (omega arith),
+      lt-ltb m (sh .mips) a,
+      le-leb 0 l (omega arith),
+    ) (by-lt l (sh .layers)
     (λ b. rw (getD-replicate (sh .layers) l (some x) none b, lt-ltb l (sh .layers) b))
     (λ b. rw (le-ltb l (sh .layers) b) (List·getD-eq-default (replicate (sh .layers) (some x)) none {n = l} (rw length-replicate b)))))
-    (λ a. let e : length (everywhere sh (some x)) ≤ m = rw length-replicate a in rw (List·getD-eq-default (everywhere sh (some x)) [] {n = m} e, le-ltb m (sh .mips) a, and-false))
+    (λ a. let e : length (everywhere sh (some x)) ≤ m = rw length-replicate a in
+    rw (List·getD-eq-default (everywhere sh (some x)) [] {n = m} e, le-ltb m (sh .mips) a, and-false))
 
 look-everywhere : (sh : Extent) (x m l : ℕ) → look (everywhere sh x) m l ≡ (if holds (full sh) m l then some x else none)
-look-everywhere sh x m l = rw (map-replicate (map {A = ℕ} {B = Option ℕ} some) (sh .mips) (replicate (sh .layers) x), map-replicate {A = ℕ} {B = Option ℕ} some (sh .layers) x) (everywhere-at sh x m l)
+look-everywhere sh x m l =
+    rw (
+      map-replicate (map {A = ℕ} {B = Option ℕ} some) (sh .mips) (replicate (sh .layers) x),
+      map-replicate {A = ℕ} {B = Option ℕ} some
+          (sh .layers) x,
+    ) (everywhere-at sh x m l)
 
 unlike : (st : ℕ) → none ≡ some st → ⊥
 unlike st e = let h : _≡_ {A = ℕ} 0 1 = cc in omega arith
 
 -- a named subresource is one of the extent
-named-inside : (sh : Extent) (n : List (List (Option ℕ))) (m l st : ℕ) → Fills sh n → getD (getD n m []) l none ≡ some st → holds (full sh) m l ≡ true
+named-inside : (sh : Extent) (n : List (List (Option ℕ))) (m l st : ℕ) → Fills sh n → getD (getD n m []) l none ≡ some st
+    → holds (full sh) m l ≡ true
 named-inside sh n m l st f e =
     by-lt m (sh .mips)
     (λ a. let r = all-at (λ (r : List (Option ℕ)). length r ≡ sh .layers) n m [] (f .1) (omega arith) in by-lt l (sh .layers)
@@ -220,17 +263,22 @@ named-inside sh n m l st f e =
 
 -- ---- the four cases
 -- the entries of pieces on a Single texture
-in-pieces : (m l : ℕ) (f : ℕ → Option Move) (qs : List Piece) → entriesAt m l (each (λ (q : Piece). entry (q .selector) (f (q .state))) qs) ≡ givenState (λ st. toList (f st)) m l qs
+in-pieces : (m l : ℕ) (f : ℕ → Option Move) (qs : List Piece)
+    → entriesAt m l (each (λ (q : Piece). entry (q .selector) (f (q .state))) qs) ≡ givenState (λ st. toList (f st)) m l qs
 in-pieces m l f [] = refl
-in-pieces m l f (q ∷ qs) = rw (in-append m l (entry (q .selector) (f (q .state))), in-entry m l (q .selector) (f (q .state)), in-pieces m l f qs)
+in-pieces m l f (q ∷ qs) =
+    rw (in-append m l (entry (q .selector) (f (q .state))), in-entry m l (q .selector) (f (q .state)), in-pieces m l f qs)
 
 -- one piece on the mips: what mip m has of it
 abbrev pieceLog : UsageFlags → ℕ → Piece → ℕ → List Range → List Entry
-pieceLog p mask q k s = if inMips (q .selector) k then mipEntries (λ cur. moveOf (p .unknown) mask cur (q .state)) k (iterFilter (q .selector .layers .start .0) (q .selector .layers .end .0) s) else []
+pieceLog p mask q k s = if inMips (q .selector) k then mipEntries (λ cur. moveOf (p .unknown) mask cur (q .state)) k
+    (iterFilter (q .selector .layers .start .0) (q .selector .layers .end .0) s) else []
 
 off-piece : (p : UsageFlags) (mask l : ℕ) (q : Piece) (m k : ℕ) (s : List Range) → (m ≡ k → ⊥) → entriesAt m l (pieceLog p mask q k s) ≡ []
 off-piece p mask l q m k s h =
-    by-test (λ (x : List Entry). entriesAt m l x ≡ []) (inMips (q .selector) k) (λ b. off-ranges m k l (λ cur. moveOf (p .unknown) mask cur (q .state)) (iterFilter (q .selector .layers .start .0) (q .selector .layers .end .0) s) h) (λ b. refl)
+    by-test (λ (x : List Entry). entriesAt m l x ≡ []) (inMips (q .selector) k)
+    (λ b. off-ranges m k l (λ cur. moveOf (p .unknown) mask cur (q .state))
+    (iterFilter (q .selector .layers .start .0) (q .selector .layers .end .0) s) h) (λ b. refl)
 
 filter-out : {A : Type 0} (f : ℕ → List A) (l a e : ℕ) (s : List Range) → leb a l && ltb l e ≡ false → held f l (iterFilter a e s) ≡ []
 unfolding iterFilter
@@ -245,7 +293,8 @@ filter-out {A} f l a e (r ∷ s) h =
     outside (no d) = rw (lt-leb (max (r .start) a) l (omega arith))
 
 on-piece : (p : UsageFlags) (mask l : ℕ) (q : Piece) (m : ℕ) (s : List Range)
-    → entriesAt m l (pieceLog p mask q m s) ≡ (if holds (q .selector) m l then held (λ c. toList (moveOf (p .unknown) mask c (q .state))) l s else [])
+    → entriesAt m l (pieceLog p mask q m s)
+    ≡ (if holds (q .selector) m l then held (λ c. toList (moveOf (p .unknown) mask c (q .state))) l s else [])
 on-piece p mask l q m s = go (inMips (q .selector) m)
   where
     a : ℕ
@@ -259,20 +308,29 @@ on-piece p mask l q m s = go (inMips (q .selector) m)
     go false = refl
     go true =
         in-ranges m l (λ cur. moveOf (p .unknown) mask cur (q .state)) (iterFilter a e s)
-        ∙ by-test (λ (x : List Move). held (λ c. toList (moveOf (p .unknown) mask c (q .state))) l (iterFilter a e s) ≡ x) (leb a l && ltb l e)
-        (λ b. let h = and-eq-true-iff (leb a l) (ltb l e) .0 b in held-filter _ l a e s (leb-true _ _ (h .0)) (ltb-true _ _ (h .1))) (λ b. filter-out _ l a e s b)
+        ∙ by-test (λ (x : List Move). held (λ c. toList (moveOf (p .unknown) mask c (q .state))) l (iterFilter a e s) ≡ x) (leb a l
+        && ltb l e)
+        (λ b. let h = and-eq-true-iff (leb a l) (ltb l e) .0 b in held-filter _ l a e s (leb-true _ _ (h .0)) (ltb-true _ _ (h .1)))
+        (λ b. filter-out _ l a e s b)
 
 module _ (p : UsageFlags) (mask : ℕ) (sh : Extent) (m l : ℕ) where
   -- the pieces on a Many texture
   in-many : (ss : List (List Range)) (qs : List Piece) → Tiled sh ss
-      → entriesAt m l (each (λ (q : Piece). eachAt (pieceLog p mask q) 0 ss) qs) ≡ givenState (λ st. orNone (λ c. toList (moveOf (p .unknown) mask c st)) (look (map layerStates ss) m l)) m l qs
+      → entriesAt m l (each (λ (q : Piece). eachAt (pieceLog p mask q) 0 ss) qs)
+      ≡ givenState (λ st. orNone (λ c. toList (moveOf (p .unknown) mask c st)) (look (map layerStates ss) m l)) m l qs
   unfolding iterFilter
   in-many ss [] t = refl
   in-many ss (q ∷ qs) t =
-      let past : entriesAt m l (pieceLog p mask q m []) ≡ [] = by-test (λ (x : List Entry). entriesAt m l x ≡ []) (inMips (q .selector) m) (λ b. refl) (λ b. refl) in
-      let x : entriesAt m l (eachAt (pieceLog p mask q) 0 ss) ≡ (if holds (q .selector) m l then orNone (λ c. toList (moveOf (p .unknown) mask c (q .state))) (look (map layerStates ss) m l) else []) =
-      at-mip (λ (e : Entry). if holds (e .selector) m l then e .move ∷ [] else []) (pieceLog p mask q) m [] (λ j s e. off-piece p mask l q m j s e) past ss
-      ∙ on-piece p mask l q m (getD ss m []) ∙ ap (λ (y : List Move). if holds (q .selector) m l then y else []) (held-look sh (λ c. toList (moveOf (p .unknown) mask c (q .state))) m l ss t) in
+      let past : entriesAt m l (pieceLog p mask q m []) ≡ [] =
+      by-test (λ (x : List Entry). entriesAt m l x ≡ []) (inMips (q .selector) m) (λ b. refl) (λ b. refl) in
+      let x : entriesAt m l (eachAt (pieceLog p mask q) 0 ss)
+      ≡ (if holds (q .selector) m l then orNone (λ c. toList (moveOf (p .unknown) mask c (q .state)))
+      (look (map layerStates ss) m l) else []) =
+      at-mip (λ (e : Entry). if holds (e .selector) m l then e .move ∷ [] else []) (pieceLog p mask q) m []
+      (λ j s e. off-piece p mask l q m j s e) past ss
+      ∙ on-piece p mask l q m (getD ss m [])
+      ∙ ap (λ (y : List Move). if holds (q .selector) m l then y else []) (held-look sh
+      (λ c. toList (moveOf (p .unknown) mask c (q .state))) m l ss t) in
       rw (in-append m l (eachAt (pieceLog p mask q) 0 ss), x, in-many ss qs t)
 
   -- a state that is there, and one that is given, in either order
@@ -282,31 +340,48 @@ module _ (p : UsageFlags) (mask : ℕ) (sh : Extent) (m l : ℕ) where
   meet (some c) none = refl
   meet (some c) (some st) = refl
 
-  rule-logged : (h : Held) (g : Given) (n : Named) → Fit sh h → Gives sh g n → entriesAt m l (barrier p mask sh h g) ≡ moved p mask (look (gridOf sh h .states) m l) (getD (getD (n .states) m []) l none)
+  rule-logged : (h : Held) (g : Given) (n : Named) → Fit sh h → Gives sh g n
+      → entriesAt m l (barrier p mask sh h g) ≡ moved p mask (look (gridOf sh h .states) m l) (getD (getD (n .states) m []) l none)
   unfolding barrier gridOf
   rule-logged (single cur) (givenSingle new) n f gives-one =
-      rw (in-entry m l (full sh) (moveOf (p .unknown) mask cur new), look-everywhere sh cur m l, everywhere-at sh new m l) (go (holds (full sh) m l))
+      rw (in-entry m l (full sh) (moveOf (p .unknown) mask cur new), look-everywhere sh cur m l, everywhere-at sh new m l)
+      (go (holds (full sh) m l))
     where
-      go : (b : Bool) → (if b then toList (moveOf (p .unknown) mask cur new) else []) ≡ moved p mask (if b then some cur else none) (if b then some new else none)
+      go : (b : Bool)
+          → (if b then toList (moveOf (p .unknown) mask cur new) else [])
+          ≡ moved p mask (if b then some cur else none) (if b then some new else none)
       go true = refl
       go false = refl
   rule-logged (single cur) (givenMany qs) n f g =
-      rw (in-pieces m l (λ st. moveOf (p .unknown) mask cur st) qs, read-at sh (λ st. toList (moveOf (p .unknown) mask cur st)) m l qs n g, look-everywhere sh cur m l) (go (getD (getD (n .states) m []) l none) refl)
+      rw (
+        in-pieces m l (λ st. moveOf (p .unknown) mask cur st) qs,
+        read-at sh (λ st. toList (moveOf (p .unknown) mask cur st)) m l qs n g,
+        look-everywhere sh cur m l,
+      ) (go (getD (getD (n .states) m []) l none) refl)
     where
-      go : (o : Option ℕ) → getD (getD (n .states) m []) l none ≡ o → orNone (λ st. toList (moveOf (p .unknown) mask cur st)) o ≡ moved p mask (if holds (full sh) m l then some cur else none) o
+      go : (o : Option ℕ) → getD (getD (n .states) m []) l none ≡ o
+          → orNone (λ st. toList (moveOf (p .unknown) mask cur st)) o ≡ moved p mask (if holds (full sh) m l then some cur else none) o
       go none e = sym (moved-none p mask (if holds (full sh) m l then some cur else none))
       go (some st) e = rw (named-inside sh (n .states) m l st (fills sh qs n g) e)
   rule-logged (many ss) (givenSingle new) n f gives-one =
-      at-mip (λ (e : Entry). if holds (e .selector) m l then e .move ∷ [] else []) (mipEntries (λ cur. moveOf (p .unknown) mask cur new)) m [] (λ j s e. off-ranges m j l (λ cur. moveOf (p .unknown) mask cur new) s e) refl ss
-      ∙ in-ranges m l (λ cur. moveOf (p .unknown) mask cur new) (getD ss m []) ∙ held-look sh (λ c. toList (moveOf (p .unknown) mask c new)) m l ss (f .2) ∙ rw (everywhere-at sh new m l) (go (look (map layerStates ss) m l) refl)
+      at-mip (λ (e : Entry). if holds (e .selector) m l then e .move ∷ [] else []) (mipEntries (λ cur. moveOf (p .unknown) mask cur new)) m
+      [] (λ j s e. off-ranges m j l (λ cur. moveOf (p .unknown) mask cur new) s e) refl ss
+      ∙ in-ranges m l (λ cur. moveOf (p .unknown) mask cur new) (getD ss m [])
+      ∙ held-look sh (λ c. toList (moveOf (p .unknown) mask c new)) m l ss (f .2)
+      ∙ rw (everywhere-at sh new m l) (go (look (map layerStates ss) m l) refl)
     where
-      go : (o : Option ℕ) → look (map layerStates ss) m l ≡ o → orNone (λ c. toList (moveOf (p .unknown) mask c new)) o ≡ moved p mask o (if holds (full sh) m l then some new else none)
+      go : (o : Option ℕ) → look (map layerStates ss) m l ≡ o
+          → orNone (λ c. toList (moveOf (p .unknown) mask c new)) o ≡ moved p mask o (if holds (full sh) m l then some new else none)
       go none e = refl
-      go (some c) e = rw (named-inside sh (map (map some) (map layerStates ss)) m l c (fills sh (piecesOf ss) _ (gives-set ss (f .1) (f .2))) e)
+      go (some c) e = rw (named-inside sh (map (map some) (map layerStates ss)) m l c
+          (fills sh (piecesOf ss) _ (gives-set ss (f .1) (f .2))) e)
   rule-logged (many ss) (givenMany qs) n f g =
-      in-many ss qs (f .2) ∙ read-at sh (λ st. orNone (λ c. toList (moveOf (p .unknown) mask c st)) (look (map layerStates ss) m l)) m l qs n g ∙ meet (look (map layerStates ss) m l) (getD (getD (n .states) m []) l none)
+      in-many ss qs (f .2) ∙ read-at sh (λ st. orNone (λ c. toList (moveOf (p .unknown) mask c st))
+      (look (map layerStates ss) m l)) m l qs n g ∙ meet (look (map layerStates ss) m l) (getD (getD (n .states) m []) l none)
 
   -- and so are the grid's own transitions
-  pub logged : (h : Held) (g : Given) (n : Named) → Fit sh h → Gives sh g n → entriesAt m l (barrier p mask sh h g) ≡ gridAt m l (gridBarrier p mask sh (gridOf sh h) n)
+  pub logged : (h : Held) (g : Given) (n : Named) → Fit sh h → Gives sh g n
+      → entriesAt m l (barrier p mask sh h g) ≡ gridAt m l (gridBarrier p mask sh (gridOf sh h) n)
   unfolding ruleLog
-  logged h g n f r = rw (log-rule p mask sh (gridOf sh h) n) (rule-logged h g n f r ∙ sym (grid-at p mask (gridOf sh h .states) (n .states) m l))
+  logged h g n f r = rw (log-rule p mask sh (gridOf sh h) n) (rule-logged h g n f r
+      ∙ sym (grid-at p mask (gridOf sh h .states) (n .states) m l))

@@ -1,4 +1,5 @@
--- Texture by texture, and call by call from any well-formed sets: ranged and grid share what demand 3 lists, what is well formed stays so, and both refuse alike.
+-- Texture by texture, and call by call from any well-formed sets: ranged and grid share what demand 3 lists, what is well formed stays so,
+-- and both refuse alike.
 use Rattle.model.specs.Prelude.{_<_, ℕ, arith, _≡_, refl, sym, ap, _∙_, _↔_, true, and-eq-true-iff, Option, none, some, List, [], _∷_}
 use Rattle.model.specs.Prelude.{not-true}
 use Rattle.model.specs.declared.{Extent.Extent, InvalidUse.InvalidUse, Refusal.Refusal, Selector.Selector, UsageFlags.UsageFlags}
@@ -32,13 +33,19 @@ module _ (p : UsageFlags) (sh : Extent) (flags : flagsFit p ≡ true) (some-mips
   gives (ofSelector sel st) e =
       let a = and-eq-true-iff (selectorFits sh sel) (singleFits p st) .0 e in let f = single-to p st (a .1) in record {
         sure = sure;
-        base = record { sure = known-flags p sure; measured = measured; gives = use-gives sh sel st (selector-passed sh sel (a .0)); clear = clear-use p sh sel st (f .known) };
+        base = record {
+          sure = known-flags p sure;
+          measured = measured;
+          gives = use-gives sh sel st (selector-passed sh sel (a .0));
+          clear = clear-use p sh sel st (f .known);
+        };
         states = use-fits p sh sel st (f .state);
       }
   gives (ofTexture h) e = scopes-well .passed-on p sh h (held-in p sh h sure measured (held-to p sh h e))
 
   pairs : (u : Use) → useFits p sh u ≡ true → PairsW p sh (rangedUse sh u) (gridUse sh u) (rangedUse sh u) (gridUse sh u)
-  pairs u e = let g = gives u e in record { sure = sure; base = twice p sh (rangedUse sh u) (gridUse sh u) (g .base); from = g .states; to = g .states; alike = refl }
+  pairs u e = let g = gives u e in
+      record { sure = sure; base = twice p sh (rangedUse sh u) (gridUse sh u) (g .base); from = g .states; to = g .states; alike = refl }
 
   held : (h : Held) → heldFits p sh h ≡ true → FitW p sh h
   held h f = held-in p sh h sure measured (held-to p sh h f)
@@ -85,18 +92,21 @@ opened-fits os ts = sets-from (newly ranged os ts) (opened-well-formed os ts)
 pub call-keeps : (c : Call) (k : Sets ranged) → GivenWord c → wellFormed k ≡ true → wellFormed (step ranged c k .after) ≡ true
 call-keeps c k w e = sets-from (step ranged c k .after) (call-keeps-well-formed c k w (sets-to k e))
 
-calls-keep : (calls : List Call) (k : Sets ranged) → All GivenWord calls → wellFormed k ≡ true → wellFormed (afterCalls ranged calls k) ≡ true
+calls-keep : (calls : List Call) (k : Sets ranged) → All GivenWord calls → wellFormed k ≡ true
+    → wellFormed (afterCalls ranged calls k) ≡ true
 calls-keep [] k w e = e
 calls-keep (c ∷ cs) k w e = calls-keep cs (step ranged c k .after) (w .1) (call-keeps c k (w .0) e)
 
-pub always-fit : (scopes trackers : List Opening) (calls : List Call) → All GivenWord calls → wellFormed (afterCalls ranged calls (newly ranged scopes trackers)) ≡ true
+pub always-fit : (scopes trackers : List Opening) (calls : List Call) → All GivenWord calls
+    → wellFormed (afterCalls ranged calls (newly ranged scopes trackers)) ≡ true
 always-fit os ts cs w = calls-keep cs (newly ranged os ts) w (opened-fits os ts)
 
 -- ---- what is shared
 good-weak : (k : Sets ranged) → WellSets k → GoodSets k
 good-weak k g = (
   all-weak WellScope (SetFits FitS) (λ s f. fits-weak FitW FitS s f (λ sh h x w. w .base)) (k .scopes) (g .0),
-  all-weak WellTracker (λ (t : Tracker Held). SetFits FitEnds (t .set)) (λ t f. fits-weak FitEW FitEnds (t .set) f (λ sh e x w. w .base)) (k .trackers) (g .1),
+  all-weak WellTracker (λ (t : Tracker Held). SetFits FitEnds (t .set)) (λ t f. fits-weak FitEW FitEnds (t .set) f (λ sh e x w. w .base))
+      (k .trackers) (g .1),
 )
 
 pub call-shares : (c : Call) (k : Sets ranged) → wellFormed k ≡ true → Shares (step ranged c k) (step grid c (toGrids k))
@@ -118,5 +128,6 @@ alike-from done b r e h = absurd (let z : _≡_ {A = ℕ} 0 1 = cc in omega arit
 alike-from (refused x) b r e h = let y : x ≡ r = cc in rw y
 alike-from (inConflict c) b r e h = absurd (let z : _≡_ {A = ℕ} 0 1 = cc in omega arith)
 
-pub refused-alike : (c : Call) (k : Sets ranged) → wellFormed k ≡ true → (r : Refusal) → (step ranged c k .answer ≡ refused r) ↔ (step grid c (toGrids k) .answer ≡ refused r)
+pub refused-alike : (c : Call) (k : Sets ranged) → wellFormed k ≡ true → (r : Refusal)
+    → (step ranged c k .answer ≡ refused r) ↔ (step grid c (toGrids k) .answer ≡ refused r)
 refused-alike c k e r = let s = call-shares c k e .answer in (alike-to _ _ r s, alike-from _ _ r s)

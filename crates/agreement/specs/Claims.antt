@@ -1,5 +1,6 @@
--- What is proved, in one place: each claim is a statement with the name of its proof. To trust it, read crate `model`, and here Grid (01's grid), Shared
--- (what the two representations share), WellFormedSets, LogBound, Layers, Asserts and WebGpu; the other modules hold proofs alone.
+-- What is proved, in one place: each claim is a statement with the name of its proof. To trust it, read crate `model`, and here Grid (01's
+-- grid), Shared (what the two representations share), WellFormedSets, LogBound, Layers, Asserts and WebGpu; the other modules hold proofs
+-- alone.
 use Rattle.model.specs.Prelude.{ℕ, _≤_, _<_, _≡_, _↔_, true, false, _||_, Option, none, some, List, map, [], _∷_, length, getElem?}
 use Rattle.model.specs.declared.Refusal.the-variants.{NoFreeEntry}
 use Rattle.model.specs.{declared.{Extent.Extent, Range.Range, Refusal.Refusal, Selector.Selector, UsageFlags.UsageFlags}, Base.{every, All}}
@@ -30,12 +31,14 @@ grid-agrees = agrees
 pub grid-agrees-from : (k : Sets ranged) → wellFormed k ≡ true → (calls : List Call) → Agree k (toGrids k) calls
 grid-agrees-from = agrees-from
 
--- ---- Texture by texture: insert, merge, barrier and update agree, for every use that passes its checks and every well-formed texture, and keep it so
-pub by-texture : (p : UsageFlags) (sh : Extent) → flagsFit p ≡ true → 0 < sh .mips → 0 < sh .layers → (u : Use) → useFits p sh u ≡ true → TextureShares p sh u
+-- ---- Texture by texture: insert, merge, barrier and update agree, for every use that passes its checks and every well-formed texture, and
+-- keep it so
+pub by-texture : (p : UsageFlags) (sh : Extent) → flagsFit p ≡ true → 0 < sh .mips → 0 < sh .layers → (u : Use) → useFits p sh u ≡ true
+    → TextureShares p sh u
 by-texture = texture-shares
 
--- ---- Call by call, from any well-formed sets (EachCall has `kept`, `within-owned` and `within-capacity` for each of the six calls by itself)
--- opened sets are well formed
+-- ---- Call by call, from any well-formed sets (EachCall has `kept`, `within-owned` and `within-capacity` for each of the six calls by
+-- itself) opened sets are well formed
 pub opened : (scopes trackers : List Opening) → wellFormed (newly ranged scopes trackers) ≡ true
 opened = opened-fits
 
@@ -44,7 +47,8 @@ pub kept : (c : Call) (k : Sets ranged) → GivenWord c → wellFormed k ≡ tru
 kept = call-keeps
 
 -- so they are after every list of calls
-pub always : (scopes trackers : List Opening) (calls : List Call) → All GivenWord calls → wellFormed (afterCalls ranged calls (newly ranged scopes trackers)) ≡ true
+pub always : (scopes trackers : List Opening) (calls : List Call) → All GivenWord calls
+    → wellFormed (afterCalls ranged calls (newly ranged scopes trackers)) ≡ true
 always = always-fit
 
 -- ranged and grid share the answer, the sets afterwards and each subresource's transition
@@ -52,11 +56,13 @@ pub by-call : (c : Call) (k : Sets ranged) → wellFormed k ≡ true → Shares 
 by-call = call-shares
 
 -- they refuse alike
-pub refusals : (c : Call) (k : Sets ranged) → wellFormed k ≡ true → (r : Refusal) → (step ranged c k .answer ≡ refused r) ↔ (step grid c (toGrids k) .answer ≡ refused r)
+pub refusals : (c : Call) (k : Sets ranged) → wellFormed k ≡ true → (r : Refusal)
+    → (step ranged c k .answer ≡ refused r) ↔ (step grid c (toGrids k) .answer ≡ refused r)
 refusals = refused-alike
 
 -- "4, 5 and 15 cannot arise in these calls": a call's own refusals are none of 1 to 5, 14 and 15
-pub own : (c : Call) (k : Sets ranged) (r : Refusal) → step ranged c k .answer ≡ refused r → listed (numberOf r) (1 ∷ 2 ∷ 3 ∷ 4 ∷ 5 ∷ 14 ∷ 15 ∷ []) ≡ false
+pub own : (c : Call) (k : Sets ranged) (r : Refusal) → step ranged c k .answer ≡ refused r
+    → listed (numberOf r) (1 ∷ 2 ∷ 3 ∷ 4 ∷ 5 ∷ 14 ∷ 15 ∷ []) ≡ false
 own = own-refusals ranged
 
 -- ---- Ranges
@@ -74,7 +80,8 @@ adds-up = scope-adds-up
 
 -- and in a tracker
 pub tracker-adds : (t : Tracker Held) → trackerFits t ≡ true
-    → All (λ (x : Slot (Ends Held)). x .owned ≡ true → AddUp (x .extent) (x .held .start) × AddUp (x .extent) (x .held .end)) (t .set .slots)
+    → All (λ (x : Slot (Ends Held)). x .owned ≡ true
+    → AddUp (x .extent) (x .held .start) × AddUp (x .extent) (x .held .end)) (t .set .slots)
 tracker-adds = tracker-adds-up
 
 -- of a list that tiles w layers, also between `isolate` and `coalesce`
@@ -107,22 +114,26 @@ pub within-capacity : (c : Call) (k : Sets ranged) → GivenWord c → wellForme
 within-capacity = capacity-few
 
 -- so a log whose head fits, with a free entry for each that the call names, never refuses: the answer is the call's own
-pub room : (c : Call) (k : Sets ranged) → GivenWord c → wellFormed k ≡ true → (log : Log) → headCheck log .fails ≡ false → namedStates c k ≤ log .head .free
+pub room : (c : Call) (k : Sets ranged) → GivenWord c → wellFormed k ≡ true → (log : Log) → headCheck log .fails ≡ false
+    → namedStates c k ≤ log .head .free
     → logging (wellFormed k) log k (step ranged c k) .answer ≡ step ranged c k .answer
 room = never-full
 
 -- and 15 does not arise
-pub no-free-entry-never : (c : Call) (k : Sets ranged) → GivenWord c → wellFormed k ≡ true → (log : Log) → headCheck log .fails ≡ false → namedStates c k ≤ log .head .free
+pub no-free-entry-never : (c : Call) (k : Sets ranged) → GivenWord c → wellFormed k ≡ true → (log : Log) → headCheck log .fails ≡ false
+    → namedStates c k ≤ log .head .free
     → logging (wellFormed k) log k (step ranged c k) .answer ≡ refused NoFreeEntry → ⊥
 no-free-entry-never = never-15
 
 -- with a free entry for every subresource that the tracker owns
-pub room-for-owned : (c : Call) (k : Sets ranged) → GivenWord c → wellFormed k ≡ true → (log : Log) → headCheck log .fails ≡ false → ownedOf c k ≤ log .head .free
+pub room-for-owned : (c : Call) (k : Sets ranged) → GivenWord c → wellFormed k ≡ true → (log : Log) → headCheck log .fails ≡ false
+    → ownedOf c k ≤ log .head .free
     → logging (wellFormed k) log k (step ranged c k) .answer ≡ step ranged c k .answer
 room-for-owned = never-full-owned
 
 -- with a free entry for every subresource that it has room for
-pub room-for-all : (c : Call) (k : Sets ranged) → GivenWord c → wellFormed k ≡ true → (log : Log) → headCheck log .fails ≡ false → capacityOf c k ≤ log .head .free
+pub room-for-all : (c : Call) (k : Sets ranged) → GivenWord c → wellFormed k ≡ true → (log : Log) → headCheck log .fails ≡ false
+    → capacityOf c k ≤ log .head .free
     → logging (wellFormed k) log k (step ranged c k) .answer ≡ step ranged c k .answer
 room-for-all = never-full-capacity
 
@@ -132,16 +143,21 @@ asserts c k w e = calls-assert c k w (sets-to k e)
 
 -- ---- WebGPU
 -- the usage flags' rule is the specification's, but for several attachment uses
-pub rule : (p : UsageFlags) (bit : Usage → ℕ) → Renders p bit → (us : List Usage) → usesFit p (map bit us) ≡ compatibleList us || every isAttachment us
+pub rule : (p : UsageFlags) (bit : Usage → ℕ) → Renders p bit → (us : List Usage)
+    → usesFit p (map bit us) ≡ compatibleList us || every isAttachment us
 rule = flags-rule
 
--- after any list of calls, a single merge that passes its checks conflicts if and only if for some subresource that it names the uses taken and kept, with the given one, do not fit
+-- after any list of calls, a single merge that passes its checks conflicts if and only if for some subresource that it names the uses taken
+-- and kept, with the given one, do not fit
 pub judged : (scopes trackers : List Opening) (calls : List Call) → All GivenWord calls
     → (n i : ℕ) (sh : Extent) (sel : Option Selector) (st : ℕ) → Word st
-    → (r : Set Held) → getElem? (afterCalls ranged calls (newly ranged scopes trackers) .scopes) n ≡ some r → singleRefusal (headOf r) i sh sel st ≡ none
+    → (r : Set Held) → getElem? (afterCalls ranged calls (newly ranged scopes trackers) .scopes) n ≡ some r
+    → singleRefusal (headOf r) i sh sel st ≡ none
     → (s : Set Histories) × (getElem? (afterCalls histories calls (newly histories scopes trackers) .scopes) n ≡ some s)
-    × (InConflict (step ranged (callMergeSingle n (trackerIndex i) sh sel st) (afterCalls ranged calls (newly ranged scopes trackers)) .answer) ↔ Unfit s i sh sel st)
-judged scopes trackers calls w n i sh sel st word r e p = let j = uses-judged scopes trackers calls w n i sh sel st word r e p in (j .0, j .1, (j .3, j .4))
+    × (InConflict (step ranged (callMergeSingle n (trackerIndex i) sh sel st)
+    (afterCalls ranged calls (newly ranged scopes trackers)) .answer) ↔ Unfit s i sh sel st)
+judged scopes trackers calls w n i sh sel st word r e p = let j = uses-judged scopes trackers calls w n i sh sel st word r e p in
+    (j .0, j .1, (j .3, j .4))
 
 -- "UNINITIALIZED 1, EXCLUSIVE 20, COMPLEX 4096, UNKNOWN 8192" renders the specification's usages
 pub bench : Renders benchFlags benchBit
@@ -151,10 +167,13 @@ bench = bench-renders
 pub wgpu : (x : Storing) (y : Attaching) → Renders wgpuFlags (wgpuBit x y)
 wgpu = wgpu-renders
 
--- `rule` and `judged` joined, where single merges are given usages' bits: it conflicts if and only if a named subresource's usages are neither compatible nor all attachments
+-- `rule` and `judged` joined, where single merges are given usages' bits: it conflicts if and only if a named subresource's usages are
+-- neither compatible nor all attachments
 pub webgpu : (bit : Usage → ℕ) (scopes trackers : List Opening) (calls : List Call) → All GivenWord calls → All (GivenUsage bit) calls
     → (n i : ℕ) (sh : Extent) (sel : Option Selector) (u : Usage) → Word (bit u)
-    → (r : Set Held) → getElem? (afterCalls ranged calls (newly ranged scopes trackers) .scopes) n ≡ some r → Renders (r .flags) bit → singleRefusal (headOf r) i sh sel (bit u) ≡ none
+    → (r : Set Held) → getElem? (afterCalls ranged calls (newly ranged scopes trackers) .scopes) n ≡ some r → Renders (r .flags) bit
+    → singleRefusal (headOf r) i sh sel (bit u) ≡ none
     → (s : Set Histories) × (getElem? (afterCalls histories calls (newly histories scopes trackers) .scopes) n ≡ some s)
-    × (InConflict (step ranged (callMergeSingle n (trackerIndex i) sh sel (bit u)) (afterCalls ranged calls (newly ranged scopes trackers)) .answer) ↔ NotCompatible bit s i sh sel u)
+    × (InConflict (step ranged (callMergeSingle n (trackerIndex i) sh sel (bit u))
+    (afterCalls ranged calls (newly ranged scopes trackers)) .answer) ↔ NotCompatible bit s i sh sel u)
 webgpu = usages-judged

@@ -1,4 +1,5 @@
--- The test of a well-formed set (model, WellFormed) decides the records that the proofs go by (Fits): both directions, for scopes and for trackers.
+-- The test of a well-formed set (model, WellFormed) decides the records that the proofs go by (Fits): both directions, for scopes and for
+-- trackers.
 use Rattle.model.specs.Prelude.{ℕ, _≤_, _<_, arith, _≡_, refl, sym, Bool, true, false, not, and-eq-true-iff, List, [], _∷_, map, eqb}
 use Rattle.model.specs.Prelude.{bitAnd, eqb-true, eqb-false, ltb-true, not-true, eq-eqb, ne-eqb, lt-ltb, le-ltb}
 use Rattle.model.specs.{declared.{Extent.Extent, Range.Range, UsageFlags.UsageFlags}, Flags.meets, Representation.Ends}
@@ -18,11 +19,17 @@ meets-apart a b e = rw (eq-eqb _ _ e)
 state-to : (p : UsageFlags) (s : ℕ) → stateFits p s ≡ true → StateFits p s
 state-to p s e =
     let a = and-eq-true-iff _ _ .0 e in let b = and-eq-true-iff _ _ .0 (a .0) in let c = and-eq-true-iff _ _ .0 (b .0) in
-    record { nonzero = eqb-false s 0 (not-true _ (c .0)); word = ltb-true _ _ (c .1); compatible = not-true _ (b .1); plain = no-meet s (p .complex) (a .1) }
+    record {
+      nonzero = eqb-false s 0 (not-true _ (c .0));
+      word = ltb-true _ _ (c .1);
+      compatible = not-true _ (b .1);
+      plain = no-meet s (p .complex) (a .1);
+    }
 
 state-from : (p : UsageFlags) (s : ℕ) → StateFits p s → stateFits p s ≡ true
 state-from p s f =
-    both (both (both (false-not _ (ne-eqb s 0 (f .nonzero))) (lt-ltb _ _ (f .word))) (false-not _ (f .compatible))) (meets-apart s (p .complex) (f .plain))
+    both (both (both (false-not _ (ne-eqb s 0 (f .nonzero))) (lt-ltb _ _ (f .word))) (false-not _ (f .compatible)))
+    (meets-apart s (p .complex) (f .plain))
 
 pub single-to : (p : UsageFlags) (s : ℕ) → singleFits p s ≡ true → SingleFits p s
 single-to p s e = let a = and-eq-true-iff _ _ .0 e in record { state = state-to p s (a .0); known = no-meet s (p .unknown) (a .1) }
@@ -44,7 +51,8 @@ ranges-to p e a (r ∷ s) t =
 ranges-from : (p : UsageFlags) (e a : ℕ) (s : List Range) → RangesFit p e a s → rangesFit p e a s ≡ true
 ranges-from p e a [] t = eq-eqb a e (t .0)
 ranges-from p e a (r ∷ s) t =
-    both (both (both (eq-eqb _ _ (t .0 .0)) (lt-ltb _ _ (t .0 .1))) (state-from p (r .state) (t .1 .0))) (ranges-from p e (r .end) s (t .0 .2, t .1 .1))
+    both (both (both (eq-eqb _ _ (t .0 .0)) (lt-ltb _ _ (t .0 .1))) (state-from p (r .state) (t .1 .0)))
+    (ranges-from p e (r .end) s (t .0 .2, t .1 .1))
 
 mip-to : (p : UsageFlags) (e : ℕ) (s : List Range) → rangesFit p e 0 s ≡ true → MipFits p e s
 mip-to p e s t = let f = ranges-to p e 0 s t in record { tiles = f .0; states = f .1 }
@@ -61,7 +69,8 @@ held-to p sh (many ss) e =
 
 pub held-from : (p : UsageFlags) (sh : Extent) (h : Held) → HeldFits p sh h → heldFits p sh h ≡ true
 held-from p sh (single s) f = single-from p s f
-held-from p sh (many ss) f = both (eq-eqb _ _ (f .0)) (all-every (MipFits p (sh .layers)) (rangesFit p (sh .layers) 0) (mip-from p (sh .layers)) ss (f .1))
+held-from p sh (many ss) f =
+    both (eq-eqb _ _ (f .0)) (all-every (MipFits p (sh .layers)) (rangesFit p (sh .layers) 0) (mip-from p (sh .layers)) ss (f .1))
 
 -- ---- a texture of a tracker
 same-to : (a b : Bool) → sameTest a b ≡ true → a ≡ b
@@ -106,13 +115,15 @@ ends-to p sh e t =
     let a = and-eq-true-iff _ _ .0 t in let b = and-eq-true-iff _ _ .0 (a .0) in record {
       start = held-to p sh (e .start) (b .0);
       end = held-to p sh (e .end) (b .1);
-      agree = rw (seen-states sh (e .start), seen-states sh (e .end)) (unknown-to (p .unknown) (subresources sh (e .start)) (subresources sh (e .end)) (a .1));
+      agree = rw (seen-states sh (e .start), seen-states sh (e .end))
+          (unknown-to (p .unknown) (subresources sh (e .start)) (subresources sh (e .end)) (a .1));
     }
 
 pub ends-from : (p : UsageFlags) (sh : Extent) (e : Ends Held) → EndsFit p sh e → endsFit p sh e ≡ true
 ends-from p sh e f =
     both (both (held-from p sh (e .start) (f .start)) (held-from p sh (e .end) (f .end)))
-    (unknown-from (p .unknown) (subresources sh (e .start)) (subresources sh (e .end)) (rw (seen-states sh (e .start), seen-states sh (e .end)) at (f .agree)))
+    (unknown-from (p .unknown) (subresources sh (e .start)) (subresources sh (e .end))
+    (rw (seen-states sh (e .start), seen-states sh (e .end)) at (f .agree)))
 
 -- ---- a set
 extent-to : (n : Numbers) (sh : Extent) → not (extentOutside n sh) ≡ true → ExtentFits n sh
@@ -127,7 +138,8 @@ extent-from : (n : Numbers) (sh : Extent) → ExtentFits n sh → not (extentOut
 extent-from n sh f = rw (not-outside _ _ (f .mip) (f .mips), not-outside _ _ (f .layer) (f .layers))
 
 module _ {H : Type 0} (fits : UsageFlags → Extent → H → Bool) (P : UsageFlags → Extent → H → Type 0)
-    (to : (p : UsageFlags) (sh : Extent) (h : H) → fits p sh h ≡ true → P p sh h) (from : (p : UsageFlags) (sh : Extent) (h : H) → P p sh h → fits p sh h ≡ true) where
+    (to : (p : UsageFlags) (sh : Extent) (h : H) → fits p sh h ≡ true → P p sh h) (from : (p : UsageFlags) (sh : Extent) (h : H) → P p sh h
+    → fits p sh h ≡ true) where
   slot-to : (n : Numbers) (p : UsageFlags) (x : Slot H) → slotFits fits n p x ≡ true → SlotFits P n p x
   slot-to n p x e = record {
     extent = λ o. extent-to n (x .extent) (and-left _ (fits p (x .extent) (x .held)) (rw o at e));
@@ -136,7 +148,8 @@ module _ {H : Type 0} (fits : UsageFlags → Extent → H → Bool) (P : UsageFl
 
   slot-from : (n : Numbers) (p : UsageFlags) (x : Slot H) → SlotFits P n p x → slotFits fits n p x ≡ true
   slot-from n p x f =
-      by-test (λ (b : Bool). b ≡ true) (x .owned) (λ o. both (extent-from n (x .extent) (f .extent o)) (from p (x .extent) (x .held) (f .held o))) (λ o. refl)
+      by-test (λ (b : Bool). b ≡ true) (x .owned)
+      (λ o. both (extent-from n (x .extent) (f .extent o)) (from p (x .extent) (x .held) (f .held o))) (λ o. refl)
 
   set-to : (s : Set H) → setFits fits s ≡ true → SetFits P s
   set-to s e =
@@ -144,13 +157,15 @@ module _ {H : Type 0} (fits : UsageFlags → Extent → H → Bool) (P : UsageFl
         numbers = c .0;
         flags = c .1;
         room = eqb-true _ _ (b .1);
-        slots = every-all (SlotFits P (s .numbers) (s .flags)) (slotFits fits (s .numbers) (s .flags)) (slot-to (s .numbers) (s .flags)) (s .slots) (a .1);
+        slots = every-all (SlotFits P (s .numbers) (s .flags)) (slotFits fits (s .numbers) (s .flags)) (slot-to (s .numbers) (s .flags))
+            (s .slots) (a .1);
       }
 
   set-from : (s : Set H) → SetFits P s → setFits fits s ≡ true
   set-from s f =
       both (both (both (f .numbers) (f .flags)) (eq-eqb _ _ (f .room)))
-      (all-every (SlotFits P (s .numbers) (s .flags)) (slotFits fits (s .numbers) (s .flags)) (slot-from (s .numbers) (s .flags)) (s .slots) (f .slots))
+      (all-every (SlotFits P (s .numbers) (s .flags)) (slotFits fits (s .numbers) (s .flags)) (slot-from (s .numbers) (s .flags)) (s .slots)
+      (f .slots))
 
 -- ---- the two claims
 pub scope-to : (s : Set Held) → scopeFits s ≡ true → SetFits HeldFits s

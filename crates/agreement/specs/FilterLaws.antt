@@ -20,11 +20,19 @@ unfolding layerStates
 held-state f l [] a e d t h g = absurd (omega arith)
 held-state {A} f l (r ∷ s) a e d t h g =
     let lo : r .start ≤ l = omega arith in
-    rw (le-leb (r .start) l lo) (by-test (λ (x : List A). x ++ held f l s ≡ f (getD (replicate (r .end - r .start) (r .state) ++ layerStates s) (l - a) d)) (ltb l (r .end))
+    rw (le-leb (r .start) l lo)
+    (by-test (λ (x : List A). x ++ held f l s ≡ f (getD (replicate (r .end - r .start) (r .state) ++ layerStates s) (l - a) d))
+    (ltb l (r .end))
     (λ b. let x = ltb-true l (r .end) b in
     let n : l - a < r .end - r .start = omega arith in
     let m : l - a < length (replicate (r .end - r .start) (r .state)) = rw length-replicate n in
-    rw (held-before f l s (r .end) e (t .2) x, append-nil, List·getD-append (replicate (r .end - r .start) (r .state)) (layerStates s) d (l - a) m, getD-replicate _ _ (r .state) d n))
+    rw (
+      held-before f l s (r .end) e (t .2) x,
+      append-nil,
+      List·getD-append (replicate (r .end - r .start) (r .state)) (layerStates s) d
+          (l - a) m,
+      getD-replicate _ _ (r .state) d n,
+    ))
     (λ b. let x = ltb-false l (r .end) b in
     let n : l - a ≡ length (replicate (r .end - r .start) (r .state)) + (l - r .end) = rw length-replicate (omega arith) in
     rw (n, getD-append-add) (held-state f l s (r .end) e d (t .2) x g)))
@@ -54,5 +62,6 @@ held-filter {A} f l a e (r ∷ s) h g =
     (λ b. ih ∙ sym (away (decLt a (r .end)) b))
   where
     away : Dec (a < r .end) → ltb a (r .end) && ltb (r .start) e ≡ false → held f l (r ∷ s) ≡ held f l s
-    away (yes d) b = let x = ltb-false (r .start) e (rw (lt-ltb a (r .end) d) at b) in let y : l < r .start = omega arith in rw (lt-leb (r .start) l y)
+    away (yes d) b = let x = ltb-false (r .start) e (rw (lt-ltb a (r .end) d) at b) in let y : l < r .start = omega arith in
+        rw (lt-leb (r .start) l y)
     away (no d) b = let y : r .end ≤ l = omega arith in rw (le-ltb l (r .end) y, and-false)

@@ -29,7 +29,8 @@ union-word p (s ∷ us) t = or-lt 16 s (unionOf us) (t .0 .word) (union-word p u
 -- none meets EXCLUSIVE just where the union does not
 none-exclusive : (p : UsageFlags) (us : List ℕ) → every (λ s. not (meets s (p .exclusive))) us ≡ not (meets (unionOf us) (p .exclusive))
 none-exclusive p [] = refl
-none-exclusive p (s ∷ us) = rw (and-or s (unionOf us) (p .exclusive), none-exclusive p us) (go (bitAnd s (p .exclusive)) (bitAnd (unionOf us) (p .exclusive)))
+none-exclusive p (s ∷ us) = rw (and-or s (unionOf us) (p .exclusive), none-exclusive p us)
+    (go (bitAnd s (p .exclusive)) (bitAnd (unionOf us) (p .exclusive)))
   where
     go : (a b : ℕ) → not (not (eqb a 0)) && not (not (eqb b 0)) ≡ not (not (eqb (bitOr a b) 0))
     go a b = by (eqb a 0) refl (eqb b 0) refl
@@ -40,10 +41,12 @@ none-exclusive p (s ∷ us) = rw (and-or s (unionOf us) (p .exclusive), none-exc
         by false e y f = rw (ne-eqb (bitOr a b) 0 (λ z. eqb-false a 0 e (or-zero a b z .0)))
 
 -- uses in one bit are all that bit
-all-that : (p : UsageFlags) (us : List ℕ) (u b : ℕ) → onesIn 16 u ≡ 1 → u < 65536 → bitOr b (unionOf us) ≡ u → All (UseFits p) us → every (λ x. eqb x u) us ≡ true
+all-that : (p : UsageFlags) (us : List ℕ) (u b : ℕ) → onesIn 16 u ≡ 1 → u < 65536 → bitOr b (unionOf us) ≡ u → All (UseFits p) us
+    → every (λ x. eqb x u) us ≡ true
 all-that p [] u b o w e t = refl
 all-that p (s ∷ us) u b o w e t =
-    let a : bitOr s (bitOr b (unionOf us)) ≡ u = sym (or-assoc s b (unionOf us)) ∙ ap (λ (x : ℕ). bitOr x (unionOf us)) (or-comm s b) ∙ or-assoc b s (unionOf us) ∙ e in
+    let a : bitOr s (bitOr b (unionOf us)) ≡ u = sym (or-assoc s b (unionOf us)) ∙ ap (λ (x : ℕ). bitOr x (unionOf us)) (or-comm s b)
+    ∙ or-assoc b s (unionOf us) ∙ e in
     let q = in-one-bit 16 u s (bitOr b (unionOf us)) o w a (t .0 .nonzero) in
     let r = all-that p us u (bitOr b s) o w (or-assoc b s (unionOf us) ∙ e) (t .1) in
     rw (eq-eqb s u q, r)
@@ -64,16 +67,15 @@ same-bit p (s ∷ us) t e = go (oneBit (bitOr s (unionOf us))) refl
 
     go : (b : Bool) → oneBit (bitOr s (unionOf us)) ≡ b → oneBit s && every (λ x. eqb x s) us ≡ b
     go true o =
-        let one = eqb-true _ _ o in
-        let q = in-one-bit 16 (bitOr s (unionOf us)) s (unionOf us) one w refl (t .0 .nonzero) in
-        let r = all-that p us (bitOr s (unionOf us)) s one w refl (t .1) in
-        let r′ : every (λ x. eqb x s) us ≡ true = rw (← q) at r in
+        let one = eqb-true _ _ o in let q = in-one-bit 16 (bitOr s (unionOf us)) s (unionOf us) one w refl (t .0 .nonzero) in
+        let r = all-that p us (bitOr s (unionOf us)) s one w refl (t .1) in let r′ : every (λ x. eqb x s) us ≡ true = rw (← q) at r in
         let o′ : oneBit s ≡ true = rw (← q) at o in
         rw (o′, r′)
     go false o = other (oneBit s) refl (every (λ x. eqb x s) us) refl
       where
         other : (a : Bool) → oneBit s ≡ a → (b : Bool) → every (λ x. eqb x s) us ≡ b → a && b ≡ false
-        other true f true g = absurd (let h = same-union s us g in let z : _≡_ {A = Bool} true false = sym f ∙ (rw h at o) in let y : _≡_ {A = ℕ} 0 1 = cc in omega arith)
+        other true f true g = absurd (let h = same-union s us g in let z : _≡_ {A = Bool} true false = sym f ∙ (rw h at o) in
+            let y : _≡_ {A = ℕ} 0 1 = cc in omega arith)
         other true f false g = refl
         other false f b g = refl
 
@@ -108,7 +110,8 @@ module _ (p : UsageFlags) (bit : Usage → ℕ) (R : Renders p bit) where
   -- a reading bit is no writing one
   differs : (u w : Usage) → reads u ≡ true → reads w ≡ false → eqb (bit u) (bit w) ≡ false
   differs u w a b = ne-eqb (bit u) (bit w)
-      (λ e. let x = exclusive-bit u in let y = exclusive-bit w in let z : _≡_ {A = Bool} true false = sym a ∙ sym x ∙ (ap (λ (s : ℕ). not (meets s (p .exclusive))) e) ∙ y ∙ b in let v : _≡_ {A = ℕ} 0 1 = cc in omega arith)
+      (λ e. let x = exclusive-bit u in let y = exclusive-bit w in let z : _≡_ {A = Bool} true false = sym a ∙ sym x
+      ∙ (ap (λ (s : ℕ). not (meets s (p .exclusive))) e) ∙ y ∙ b in let v : _≡_ {A = ℕ} 0 1 = cc in omega arith)
 
   self : (u : Usage) → eqb (bit u) (bit u) ≡ true
   self u = eq-eqb (bit u) (bit u) refl
@@ -142,7 +145,8 @@ module _ (p : UsageFlags) (bit : Usage → ℕ) (R : Renders p bit) where
   all-read u r [] e = refl
   all-read u r (w ∷ us) e =
       let h = and-eq-true-iff (eqb (bit w) (bit u)) (every (λ x. eqb x (bit u)) (map bit us)) .0 e in
-      let a : reads w ≡ true = sym (exclusive-bit w) ∙ ap (λ (s : ℕ). not (meets s (p .exclusive))) (eqb-true (bit w) (bit u) (h .0)) ∙ exclusive-bit u ∙ r in
+      let a : reads w ≡ true = sym (exclusive-bit w) ∙ ap (λ (s : ℕ). not (meets s (p .exclusive))) (eqb-true (bit w) (bit u) (h .0))
+      ∙ exclusive-bit u ∙ r in
       rw (a, all-read u r us (h .1))
 
   or-idle : (a b c : Bool) → (b ≡ true → a ≡ true) → a || (c && b) ≡ a || false || false || false
@@ -164,16 +168,24 @@ module _ (p : UsageFlags) (bit : Usage → ℕ) (R : Renders p bit) where
 
   by-head : (u : Usage) (us : List Usage) → usesFit p (map bit (u ∷ us)) ≡ compatibleList (u ∷ us) || every isAttachment (u ∷ us)
   unfolding usesFit
-  by-head input us = rw (none-writes (input ∷ us), and-off (oneElement (input ∷ us))) (or-idle (every reads us) (every (λ x. eqb x (bit input)) (map bit us)) (oneBit (bit input)) (all-read input refl us))
-  by-head constant us = rw (none-writes (constant ∷ us), and-off (oneElement (constant ∷ us))) (or-idle (every reads us) (every (λ x. eqb x (bit constant)) (map bit us)) (oneBit (bit constant)) (all-read constant refl us))
-  by-head storage us = rw (none-writes (storage ∷ us), and-off (oneElement (storage ∷ us)), R .stores, all-storage us) (last (every isStorage us))
+  by-head input us = rw (none-writes (input ∷ us), and-off (oneElement (input ∷ us)))
+      (or-idle (every reads us) (every (λ x. eqb x (bit input)) (map bit us)) (oneBit (bit input)) (all-read input refl us))
+  by-head constant us = rw (none-writes (constant ∷ us), and-off (oneElement (constant ∷ us)))
+      (or-idle (every reads us) (every (λ x. eqb x (bit constant)) (map bit us)) (oneBit (bit constant)) (all-read constant refl us))
+  by-head storage us = rw (none-writes (storage ∷ us), and-off (oneElement (storage ∷ us)), R .stores, all-storage us)
+      (last (every isStorage us))
     where
       last : (a : Bool) → a ≡ a || false || false
       last true = refl
       last false = refl
-  by-head storageRead us = rw (none-writes (storageRead ∷ us), and-off (oneElement (storageRead ∷ us))) (or-idle (every reads us) (every (λ x. eqb x (bit storageRead)) (map bit us)) (oneBit (bit storageRead)) (all-read storageRead refl us))
-  by-head attachment us = rw (none-writes (attachment ∷ us), R .attaches, all-attachment us) (sym (absorb (every isAttachment us) (oneElement (attachment ∷ us))))
-  by-head attachmentRead us = rw (none-writes (attachmentRead ∷ us), and-off (oneElement (attachmentRead ∷ us))) (or-idle (every reads us) (every (λ x. eqb x (bit attachmentRead)) (map bit us)) (oneBit (bit attachmentRead)) (all-read attachmentRead refl us))
+  by-head storageRead us = rw (none-writes (storageRead ∷ us), and-off (oneElement (storageRead ∷ us)))
+      (or-idle (every reads us) (every (λ x. eqb x (bit storageRead)) (map bit us)) (oneBit (bit storageRead))
+      (all-read storageRead refl us))
+  by-head attachment us = rw (none-writes (attachment ∷ us), R .attaches, all-attachment us)
+      (sym (absorb (every isAttachment us) (oneElement (attachment ∷ us))))
+  by-head attachmentRead us = rw (none-writes (attachmentRead ∷ us), and-off (oneElement (attachmentRead ∷ us)))
+      (or-idle (every reads us) (every (λ x. eqb x (bit attachmentRead)) (map bit us)) (oneBit (bit attachmentRead))
+      (all-read attachmentRead refl us))
 
   -- the usage flags' rule is WebGPU's, but for several attachment uses, which fit here
   pub flags-rule : (us : List Usage) → usesFit p (map bit us) ≡ compatibleList us || every isAttachment us

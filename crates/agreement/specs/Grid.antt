@@ -1,5 +1,6 @@
--- The grid model: 01, "Sheet rules". Each comment quotes the words of 01 that a definition renders; 01's words for it are: sheet for the grid, cell for a
--- subresource, mark for the flag `single`, whole and parted for Single and Many, clash for a conflict, shape for an extent.
+-- The grid model: 01, "Sheet rules". Each comment quotes the words of 01 that a definition renders; 01's words for it are: sheet for the
+-- grid, cell for a subresource, mark for the flag `single`, whole and parted for Single and Many, clash for a conflict, shape for an
+-- extent.
 use Rattle.model.specs.Prelude.{ℕ, zero, suc, _-_, Bool, true, false, _&&_, not, Option, none, some, List, [], _∷_, _++_, map, eqb, bitAnd}
 use Rattle.model.specs.Prelude.{bitOr, bitXor, replicate}
 use Rattle.model.specs.declared.{Extent.Extent, Selector.Selector, UsageFlags.UsageFlags}

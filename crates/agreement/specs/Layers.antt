@@ -1,4 +1,5 @@
--- The layers of a list of ranges: how many they are, and those that it covers; and a texture whose ranges add up, mip by mip, to its layers.
+-- The layers of a list of ranges: how many they are, and those that it covers; and a texture whose ranges add up, mip by mip, to its
+-- layers.
 use Rattle.model.specs.Prelude.{ℕ, _+_, _-_, _≡_, Bool, false, _&&_, _||_, List, [], _∷_, leb, ltb}
 use Rattle.model.specs.{declared.{Extent.Extent, Range.Range}, Texture.{Held, single, many}, Base.All}
 use Rattle.agreement.specs.LogBound.{sumFrom, oneIf}

@@ -1,4 +1,5 @@
--- How many entries a call adds to the log, and how many subresources it names; demand 3: "Before each call the logs are emptied and given a free entry for every cell.".
+-- How many entries a call adds to the log, and how many subresources it names; demand 3: "Before each call the logs are emptied and given a
+-- free entry for every cell.".
 use Rattle.model.specs.Prelude.{ℕ, zero, suc, _+_, _*_, Bool, true, false, Option, none, some, List, [], _∷_, eqb, length, getElem?}
 use Rattle.model.specs.{declared.Extent.Extent, Base.if_then_else_, Representation.holds, Sets.{Slot, Set, Tracker, capacity}}
 use Rattle.model.specs.Calls.{Indexed, Sets, Call, callMergeSingle, callMergeUsageScope, callSetSingle, callSetFromUsageScope}

@@ -17,7 +17,8 @@ module _ (f : ℕ → ℕ → Option ℕ) (k : ℕ) where
   row-united st new u e l (suc n) = rw (e, row-united st new u e (suc l) n)
 
   pub row-conflict : (st new : ℕ) → f st new ≡ none → (l n : ℕ) → 0 < n
-      → walk₂ (uniteState f k) l (replicate n st) (replicate n (some new)) ≡ stopped (replicate n st) (record { mip = k; layer = l; old = st; new = new })
+      → walk₂ (uniteState f k) l (replicate n st) (replicate n (some new))
+      ≡ stopped (replicate n st) (record { mip = k; layer = l; old = st; new = new })
   row-conflict st new e l zero h = absurd (omega arith)
   row-conflict st new e l (suc n) h = rw e
 
@@ -39,11 +40,12 @@ module _ (p : UsageFlags) (k new : ℕ) where
 
   row-split : (l b e st : ℕ) (s : List ℕ) → l < b → b ≤ e
       → overStates l (replicate (b - l) st ++ s) (e - l)
-      ≡ joinStop (overStates l (replicate (b - l) st) (b - l) .value) (overStates l (replicate (b - l) st) (b - l) .conflict) s (overStates b s (e - b))
+      ≡ joinStop (overStates l (replicate (b - l) st) (b - l) .value) (overStates l (replicate (b - l) st) (b - l) .conflict) s (overStates
+      b s (e - b))
   row-split l b e st s h g =
-      let n : e - l ≡ (b - l) + (e - b) = omega arith in
-      let m : l + (b - l) ≡ b = omega arith in
-      let c : length (replicate (b - l) st) ≡ length (replicate {A = Option ℕ} (b - l) (some new)) = rw (length-replicate, length-replicate) in
+      let n : e - l ≡ (b - l) + (e - b) = omega arith in let m : l + (b - l) ≡ b = omega arith in
+      let c : length (replicate (b - l) st) ≡ length (replicate {A = Option ℕ} (b - l) (some new)) =
+      rw (length-replicate, length-replicate) in
       rw (n, ← replicate-append-replicate, walk-append (uniteState (uniteKnown p) k), length-replicate, m)
 
   pub run-sim : (s : List Range) (a e i : ℕ) → Tiles a s e → Runs a e (overRanges i s) (overStates a (layerStates s) (e - a))
@@ -54,7 +56,8 @@ module _ (p : UsageFlags) (k new : ℕ) where
       row : Stop SubresourceConflict (List ℕ)
       row = overStates a (layerStates (r ∷ s)) (e - a)
 
-      go : (o : Option ℕ) → uniteKnown p (r .state) new ≡ o → Runs (r .end) e (overRanges (suc i) s) (overStates (r .end) (layerStates s) (e - r .end))
+      go : (o : Option ℕ) → uniteKnown p (r .state) new ≡ o
+          → Runs (r .end) e (overRanges (suc i) s) (overStates (r .end) (layerStates s) (e - r .end))
           → (let x = ruled r (invalidUse (select k (suc k) (r .start) (r .end)) (r .state) new) (Option·map (λ u. inState u r) o) in
           Runs a e (onward (x .value) (x .conflict) s (overRanges (suc i) s)) row)
       go none q ih =
@@ -79,7 +82,8 @@ row-parts f k = row-parts-of (uniteState f k) (λ l c. refl)
 -- one piece on one mip
 pub ranges-sim : (p : UsageFlags) (sh : Extent) (q : Piece) (k : ℕ) (s : List Range)
     → q .selector .layers .start .0 < q .selector .layers .end .0 → q .selector .layers .end .0 ≤ sh .layers → Tiles 0 s (sh .layers)
-    → Runs 0 (sh .layers) (mergeMip p q k s) (walk₂ (uniteState (uniteKnown p) k) 0 (layerStates s) (namedRow sh (q .selector) (q .state) k))
+    → Runs 0 (sh .layers) (mergeMip p q k s) (walk₂ (uniteState (uniteKnown p) k) 0 (layerStates s)
+    (namedRow sh (q .selector) (q .state) k))
 unfolding mergeMip
 ranges-sim p sh q k s h g t = go (inMips (q .selector) k)
   where
@@ -103,14 +107,19 @@ ranges-sim p sh q k s h g t = go (inMips (q .selector) k)
 
     go : (b : Bool) → Runs 0 (sh .layers)
         (if b then record { value = settled (w .conflict) (c .before ++ (w .value ++ c .after)); conflict = w .conflict } else fine s)
-        (walk₂ (uniteState (uniteKnown p) k) 0 (layerStates s) (if b then band a e (sh .layers) (some (q .state)) none else replicate (sh .layers) none))
+        (walk₂ (uniteState (uniteKnown p) k) 0 (layerStates s) (if b then band a e (sh .layers) (some (q .state)) none else replicate
+        (sh .layers) none))
     go true =
         let tiled = tiles-append (c .before) (w .value ++ c .after) 0 a (sh .layers) (cuts .before)
         (tiles-append (w .value) (c .after) a e (sh .layers) (sim .ok) (cuts .after)) in
         let same = settled-same (w .conflict) (c .before ++ (w .value ++ c .after)) 0 (sh .layers) tiled in
         let hx : length (layerStates (c .before)) ≡ a = omega (arith, tiles-length (c .before) 0 a (cuts .before)) in
         let hy = tiles-length (c .run) a e (cuts .run) in
-        rw (← cuts .same, row-parts (uniteKnown p) k (q .state) a e (sh .layers) (layerStates (c .before)) (layerStates (c .run)) (layerStates (c .after)) hx hy (omega arith) g)
+        rw (
+          ← cuts .same,
+          row-parts (uniteKnown p) k (q .state) a e (sh .layers) (layerStates (c .before)) (layerStates (c .run))
+              (layerStates (c .after)) hx hy (omega arith) g,
+        )
         record { ok = same .0; same = same .1 ∙ rw (states-append, states-append, sim .same); conflict = sim .conflict }
     go false = rw row-unnamed record { ok = t; same = refl; conflict = refl }
 

@@ -1,4 +1,5 @@
--- None of the six calls refuses with 1 to 5, 14 or 15: 1 to 3 are of an opening, 4, 5 and 15 of what a call is handed, and 14 is of the calls on ranges.
+-- None of the six calls refuses with 1 to 5, 14 or 15: 1 to 3 are of an opening, 4, 5 and 15 of what a call is handed, and 14 is of the
+-- calls on ranges.
 use Rattle.model.specs.Prelude.{ℕ, suc, _≡_, refl, subst, false, Option, none, some, List, [], _∷_, _++_, eqb, getElem?, getD}
 use Rattle.model.specs.declared.{Extent.Extent, Refusal.Refusal, Selector.Selector, UsageFlags.UsageFlags}
 use Rattle.model.specs.{Base.{each, eachAt, walk₂, All}, Representation.{Representation, Ends}, Sets.{Set, Tracker, Head, headOf, slotAt}}
@@ -65,10 +66,12 @@ sparse-own into given is = first-own _ (refl, go is)
   where
     go : (is : List ℕ) → OwnChecks (each (sparseChecks into given) is)
     go [] = tt
-    go (i ∷ is) = all-join OwnCheck (sparseChecks into given i) (each (sparseChecks into given) is) (refl, owned-own into i (getD (given .extents) i none)) (go is)
+    go (i ∷ is) = all-join OwnCheck (sparseChecks into given i) (each (sparseChecks into given) is)
+        (refl, owned-own into i (getD (given .extents) i none)) (go is)
 
 -- ---- the calls
-unless-own : {C L X : Type 0} (o : Option Refusal) (was : X) (out : CallResult C L X) → OwnOption o → OwnAnswer (out .answer) → OwnAnswer (unless o was out .answer)
+unless-own : {C L X : Type 0} (o : Option Refusal) (was : X) (out : CallResult C L X) → OwnOption o → OwnAnswer (out .answer)
+    → OwnAnswer (unless o was out .answer)
 unless-own none was out a b = b
 unless-own (some r) was out a b = a
 
@@ -84,7 +87,8 @@ module _ (K : Representation) where
   with-one k none f h = tt
   with-one k (some x) f h = h x
 
-  with-two : {X Y : Type 0} (k : Sets K) (o : Option X) (u : Option Y) (f : X → Y → Result K (Sets K)) → ((x : X) (y : Y) → OwnResult (f x y)) → OwnResult (with₂ K k o u f)
+  with-two : {X Y : Type 0} (k : Sets K) (o : Option X) (u : Option Y) (f : X → Y → Result K (Sets K))
+      → ((x : X) (y : Y) → OwnResult (f x y)) → OwnResult (with₂ K k o u f)
   with-two k none u f h = tt
   with-two k (some x) none f h = tt
   with-two k (some x) (some y) f h = h x y
@@ -99,21 +103,28 @@ module _ (K : Representation) where
   step-own : (c : Call) (k : Sets K) → OwnResult (step K c k)
   unfolding step
   step-own (callMergeSingle n i sh sel st) k =
-      with-one k (getElem? (k .scopes) n) _ (λ s. unless-own (singleRefusal (headOf s) (i .0) sh sel st) s _ (single-own (headOf s) (i .0) sh sel st)
+      with-one k (getElem? (k .scopes) n) _ (λ s. unless-own (singleRefusal (headOf s) (i .0) sh sel st) s _
+      (single-own (headOf s) (i .0) sh sel st)
       (answer-own (mergeSlot K (s .flags) sh (K .use-of sh sel st) (i .0) (slotAt (K .fresh 0) s (i .0)) .conflict)))
   step-own (callMergeUsageScope n m) k =
       by-test OwnResult (eqb n m) (λ e. tt)
-      (λ e. with-two k (getElem? (k .scopes) n) (getElem? (k .scopes) m) _ (λ s g. unless-own (setRefusal (headOf s) (headOf g)) s _ (set-own (headOf s) (headOf g))
+      (λ e. with-two k (getElem? (k .scopes) n) (getElem? (k .scopes) m) _ (λ s g. unless-own (setRefusal (headOf s) (headOf g)) s _
+      (set-own (headOf s) (headOf g))
       (answer-own (walk₂ (mergeGiven K (s .flags)) 0 (s .slots) (g .slots) .conflict))))
   step-own (callSetSingle n i sh sel st) k =
-      with-one k (getElem? (k .trackers) n) _ (λ t. unless-own (singleRefusal (headOf (t .set)) (i .0) sh (some sel) st) t _ (single-own (headOf (t .set)) (i .0) sh (some sel) st) tt)
-  step-own (callSetFromUsageScope n m) k = with-two k (getElem? (k .trackers) n) (getElem? (k .scopes) m) _ (λ t g. from-own (K .pass) (K .pass) t g)
+      with-one k (getElem? (k .trackers) n) _ (λ t. unless-own (singleRefusal (headOf (t .set)) (i .0) sh (some sel) st) t _
+      (single-own (headOf (t .set)) (i .0) sh (some sel) st) tt)
+  step-own (callSetFromUsageScope n m) k = with-two k (getElem? (k .trackers) n) (getElem? (k .scopes) m) _
+      (λ t g. from-own (K .pass) (K .pass) t g)
   step-own (callSetFromTracker n m) k =
       by-test OwnResult (eqb n m) (λ e. tt)
-      (λ e. with-two k (getElem? (k .trackers) n) (getElem? (k .trackers) m) _ (λ t g. from-own (λ (e : Ends (K .Held)). K .pass (e .start)) (λ (e : Ends (K .Held)). K .pass (e .end)) t (g .set)))
+      (λ e. with-two k (getElem? (k .trackers) n) (getElem? (k .trackers) m) _ (λ t g. from-own (λ (e : Ends (K .Held)). K .pass (e .start))
+      (λ (e : Ends (K .Held)). K .pass (e .end)) t (g .set)))
   step-own (callSetAndRemoveSparse n m is) k =
       with-two k (getElem? (k .trackers) n) (getElem? (k .scopes) m) _
-      (λ t s. unless-own (sparseRefusal (headOf (t .set)) (headOf s) is) (t, s) _ (sparse-own (headOf (t .set)) (headOf s) is) (sparse-done is (t, s)))
+      (λ t s. unless-own (sparseRefusal (headOf (t .set)) (headOf s) is) (t, s) _ (sparse-own (headOf (t .set)) (headOf s) is)
+      (sparse-done is (t, s)))
 
-  pub own-refusals : (c : Call) (k : Sets K) (r : Refusal) → step K c k .answer ≡ refused r → listed (numberOf r) (1 ∷ 2 ∷ 3 ∷ 4 ∷ 5 ∷ 14 ∷ 15 ∷ []) ≡ false
+  pub own-refusals : (c : Call) (k : Sets K) (r : Refusal) → step K c k .answer ≡ refused r
+      → listed (numberOf r) (1 ∷ 2 ∷ 3 ∷ 4 ∷ 5 ∷ 14 ∷ 15 ∷ []) ≡ false
   own-refusals c k r e = subst OwnAnswer e (step-own c k)

@@ -1,4 +1,5 @@
--- Passes over a texture's mips, one for each piece that is handed in, are one walk over its subresources: for any S that holds a mip, seen as a list by `view`, with Ok for what holds of it.
+-- Passes over a texture's mips, one for each piece that is handed in, are one walk over its subresources: for any S that holds a mip, seen
+-- as a list by `view`, with Ok for what holds of it.
 use Rattle.model.specs.Prelude.{ℕ, zero, suc, _-_, _+_, _≤_, _<_, arith, _≡_, refl, sym, ap, _∙_, Bool, true, false, _&&_, Option, none}
 use Rattle.model.specs.Prelude.{some, Option·map, List, [], _∷_, _++_, map, append-assoc, append-nil, map-append, leb, ltb, replicate}
 use Rattle.model.specs.Prelude.{length, length-replicate, length-append, take, drop, take-append-drop, length-take, le-leb, lt-ltb, le-ltb}
@@ -37,7 +38,8 @@ passes-append {C} {Q} {S} f (q ∷ x) y s = rw (passes-append f x y (f q s .valu
     P = passes f x (f q s .value)
 
     go : (o : Option C) → andThen o (f q s .value) (andThen (P .conflict) (P .value) (passes f y (P .value)))
-        ≡ andThen (andThen o (f q s .value) P .conflict) (andThen o (f q s .value) P .value) (passes f y (andThen o (f q s .value) P .value))
+        ≡ andThen (andThen o (f q s .value) P .conflict) (andThen o (f q s .value) P .value) (passes f y
+        (andThen o (f q s .value) P .value))
     go none = refl
     go (some c) = refl
 
@@ -47,7 +49,8 @@ onward-same x (some c) s = refl
 
 module _ {S C K D : Type 0} (view : S → List C) (Ok : S → Type 0) (cl : K → D) where
   after-piece : (x y z : List C) (s : S) (o : Option K) (o′ : Option D) (more : Stop K S) (v : Stop D (List C))
-      → Ok s → view s ≡ x ++ (y ++ z) → Option·map cl o ≡ o′ → RunsOf view Ok cl more (record { value = (x ++ y) ++ v .value; conflict = v .conflict })
+      → Ok s → view s ≡ x ++ (y ++ z) → Option·map cl o ≡ o′
+      → RunsOf view Ok cl more (record { value = (x ++ y) ++ v .value; conflict = v .conflict })
       → RunsOf view Ok cl (andThen o s more) (record { value = x ++ joinStop y o′ z v .value; conflict = joinStop y o′ z v .conflict })
   after-piece x y z s none o′ more v t e q ih = rw (← q) (rw append-assoc at ih)
   after-piece x y z s (some c) o′ more v t e q ih = rw (← q) record { ok = t; same = e; conflict = refl }
@@ -62,14 +65,18 @@ module _ {S C K D : Type 0} (view : S → List C) (Ok : S → Type 0) (cl : K �
 
 -- Passes over mips, one for each piece: what a pass does with the layers that it names, by the subresources' rule f.
 -- Q holds of the subresources that no pass has met yet.
-module _ {S C K D : Type 0} (view : S → List C) (Ok : S → Type 0) (cl : K → D) (sh : Extent) (full-length : (s : S) → Ok s → length (view s) ≡ sh .layers)
-    (U : ℕ → ℕ → C → Option ℕ → Stop D C) (blank : (k l : ℕ) (c : C) → U k l c none ≡ fine c) (Q : C → Type 0) (pass : Piece → ℕ → S → Stop K S) where
+module _ {S C K D : Type 0} (view : S → List C) (Ok : S → Type 0) (cl : K → D) (sh : Extent) (full-length : (s : S) → Ok s
+    → length (view s) ≡ sh .layers)
+    (U : ℕ → ℕ → C → Option ℕ → Stop D C) (blank : (k l : ℕ) (c : C) → U k l c none ≡ fine c) (Q : C → Type 0) (pass : Piece → ℕ → S
+    → Stop K S) where
   pub record Pass : Type 0 where
     pub skips : (q : Piece) (k : ℕ) (s : S) → inMips (q .selector) k ≡ false → pass q k s ≡ fine s
     pub names : (q : Piece) (k : ℕ) (s : S) (x y z : List C) → inMips (q .selector) k ≡ true
         → q .selector .layers .start .0 < q .selector .layers .end .0 → q .selector .layers .end .0 ≤ sh .layers → Ok s
-        → length x ≡ q .selector .layers .start .0 → length y ≡ q .selector .layers .end .0 - q .selector .layers .start .0 → view s ≡ x ++ (y ++ z) → All Q y
-        → (let v = walk₂ (U k) (q .selector .layers .start .0) y (replicate (q .selector .layers .end .0 - q .selector .layers .start .0) (some (q .state))) in
+        → length x ≡ q .selector .layers .start .0 → length y ≡ q .selector .layers .end .0 - q .selector .layers .start .0
+        → view s ≡ x ++ (y ++ z) → All Q y
+        → (let v = walk₂ (U k) (q .selector .layers .start .0) y (replicate (q .selector .layers .end .0 - q .selector .layers .start .0)
+        (some (q .state))) in
         RunsOf view Ok cl (pass q k s) (record { value = x ++ (v .value ++ z); conflict = v .conflict }))
 
   module _ (R : Pass) where
@@ -79,12 +86,14 @@ module _ {S C K D : Type 0} (view : S → List C) (Ok : S → Type 0) (cl : K �
 
       row-passes : (t : List Range) (s : S) (a : ℕ) (x y : List C) → Tiles a t (sh .layers) → Ok s
           → length x ≡ a → view s ≡ x ++ y → All Q y
-          → RunsOf view Ok cl (rowPasses t s) (record { value = x ++ walk₂ (U k) a y (map some (layerStates t)) .value; conflict = walk₂ (U k) a y (map some (layerStates t)) .conflict })
+          → RunsOf view Ok cl (rowPasses t s) (record {
+            value = x ++ walk₂ (U k) a y (map some (layerStates t)) .value;
+            conflict = walk₂ (U k) a y (map some (layerStates t)) .conflict;
+          })
       unfolding layerStates
       row-passes [] s a x y t u hx e o = rw walk-none record { ok = u; same = e; conflict = refl }
       row-passes (r ∷ t) s a x y g u hx e o =
-          let n = r .end - r .start in
-          let le = tiles-le t (r .end) (sh .layers) (g .2) in
+          let n = r .end - r .start in let le = tiles-le t (r .end) (sh .layers) (g .2) in
           let both : length (view s) ≡ length x + length y = rw e (length-append x y) in
           let short : length (take n y) ≡ n = rw length-take (omega (arith, full-length s u)) in
           rw (← take-append-drop n y) (go (take n y) (drop n y) (rw take-append-drop e) short (rw take-append-drop o)
@@ -92,13 +101,19 @@ module _ {S C K D : Type 0} (view : S → List C) (Ok : S → Type 0) (cl : K �
         where
           go : (y z : List C) → view s ≡ x ++ (y ++ z) → length y ≡ r .end - r .start → All Q (y ++ z)
               → ((s : S) (x y : List C) → Ok s → length x ≡ r .end → view s ≡ x ++ y → All Q y
-              → RunsOf view Ok cl (rowPasses t s) (record { value = x ++ walk₂ (U k) (r .end) y (map some (layerStates t)) .value; conflict = walk₂ (U k) (r .end) y (map some (layerStates t)) .conflict }))
+              → RunsOf view Ok cl (rowPasses t s) (record {
+                value = x ++ walk₂ (U k) (r .end) y (map some (layerStates t)) .value;
+                conflict = walk₂ (U k) (r .end) y (map some (layerStates t)) .conflict;
+              }))
               → RunsOf view Ok cl (rowPasses (r ∷ t) s)
-              (record { value = x ++ walk₂ (U k) a (y ++ z) (map some (layerStates (r ∷ t))) .value; conflict = walk₂ (U k) a (y ++ z) (map some (layerStates (r ∷ t))) .conflict })
+              (record {
+                value = x ++ walk₂ (U k) a (y ++ z) (map some (layerStates (r ∷ t))) .value;
+                conflict = walk₂ (U k) a (y ++ z) (map some (layerStates (r ∷ t))) .conflict;
+              })
           go y z e hy o ih =
-              let n = r .end - r .start in
-              let w = pass (pieceAt k r) k s in
-              let m = R .names (pieceAt k r) k s x y z (own-mip k (r .start) (r .end)) (omega arith) (tiles-le t (r .end) (sh .layers) (g .2)) u (omega arith) hy e (all-left Q y z o) in
+              let n = r .end - r .start in let w = pass (pieceAt k r) k s in
+              let m = R .names (pieceAt k r) k s x y z (own-mip k (r .start) (r .end)) (omega arith)
+              (tiles-le t (r .end) (sh .layers) (g .2)) u (omega arith) hy e (all-left Q y z o) in
               let l : length y ≡ length (replicate {A = Option ℕ} n (some (r .state))) = rw length-replicate hy in
               let long = walk-length (U k) (r .start) y (replicate n (some (r .state))) in
               let at-end : r .start + length y ≡ r .end = omega arith in
@@ -110,10 +125,12 @@ module _ {S C K D : Type 0} (view : S → List C) (Ok : S → Type 0) (cl : K �
       -- a piece of mip k goes past every other mip
       walk-past : (r : Range) (j : ℕ) (l : List S) → k < j → walk (pass (pieceAt k r)) j l ≡ fine l
       walk-past r j [] h = refl
-      walk-past r j (s ∷ l) h = rw (R .skips (pieceAt k r) j s (other-mip k j (r .start) (r .end) (λ e. omega arith)), walk-past r (suc j) l (omega arith))
+      walk-past r j (s ∷ l) h =
+          rw (R .skips (pieceAt k r) j s (other-mip k j (r .start) (r .end) (λ e. omega arith)), walk-past r (suc j) l (omega arith))
 
       walk-at : (r : Range) (j : ℕ) (d : List S) (s : S) (l : List S) → j + length d ≡ k
-          → walk (pass (pieceAt k r)) j (d ++ (s ∷ l)) ≡ record { value = d ++ (pass (pieceAt k r) k s .value ∷ l); conflict = pass (pieceAt k r) k s .conflict }
+          → walk (pass (pieceAt k r)) j (d ++ (s ∷ l))
+          ≡ record { value = d ++ (pass (pieceAt k r) k s .value ∷ l); conflict = pass (pieceAt k r) k s .conflict }
       walk-at r j [] s l e =
           let h : j ≡ k = omega arith in
           rw (walk-past r (suc j) l (omega arith), h) (onward-same _ _ l)
@@ -125,7 +142,8 @@ module _ {S C K D : Type 0} (view : S → List C) (Ok : S → Type 0) (cl : K �
 
       -- the pieces of one mip touch that mip alone
       row-in-grid : (t : List Range) (d : List S) (s : S) (l : List S) → length d ≡ k
-          → gridPasses (map (pieceAt k) t) (d ++ (s ∷ l)) ≡ record { value = d ++ (rowPasses t s .value ∷ l); conflict = rowPasses t s .conflict }
+          → gridPasses (map (pieceAt k) t) (d ++ (s ∷ l))
+          ≡ record { value = d ++ (rowPasses t s .value ∷ l); conflict = rowPasses t s .conflict }
       row-in-grid [] d s l e = refl
       row-in-grid (r ∷ t) d s l e =
           let h : 0 + length d ≡ k = omega arith in
@@ -146,22 +164,25 @@ module _ {S C K D : Type 0} (view : S → List C) (Ok : S → Type 0) (cl : K �
     grid-passes k d [] (r ∷ t) hd hl td tl tg o = absurd (omega arith)
     grid-passes k d (s ∷ l) [] hd hl td tl tg o = absurd (omega arith)
     grid-passes k d (s ∷ l) (r ∷ t) hd hl td tl tg o =
-        let w = rowPasses k r s in
-        let m = row-passes k r s 0 [] (view s) (tg .0) (tl .0) refl refl (o .0) in
+        let w = rowPasses k r s in let m = row-passes k r s 0 [] (view s) (tg .0) (tl .0) refl refl (o .0) in
         let long : length (d ++ (w .value ∷ [])) ≡ suc k = rw length-append (omega arith) in
-        let ih = grid-passes (suc k) (d ++ (w .value ∷ [])) l t long (omega arith) (all-join _ d (w .value ∷ []) td (m .ok, tt)) (tl .1) (tg .1) (o .1) in
+        let ih = grid-passes (suc k) (d ++ (w .value ∷ [])) l t long (omega arith) (all-join _ d (w .value ∷ []) td (m .ok, tt)) (tl .1)
+        (tg .1) (o .1) in
         rw (passes-append (λ (q : Piece). walk (pass q) 0) (map (pieceAt k) r) _ (d ++ (s ∷ l)), row-in-grid k r d s l hd)
-        (after-row view Ok cl d (w .value) l _ (w .conflict) _ _ _ (all-join _ d (w .value ∷ l) td (m .ok, tl .1)) (m .same) (m .conflict) (rw append-assoc at ih))
+        (after-row view Ok cl d (w .value) l _ (w .conflict) _ _ _ (all-join _ d (w .value ∷ l) td (m .ok, tl .1)) (m .same) (m .conflict)
+        (rw append-assoc at ih))
 
     -- a Many texture handed in: its pieces, and all of its subresources
     pub set-passes : (l : List S) (t : List (List Range)) → length l ≡ length t → All Ok l → Tiled sh t → All (λ (s : S). All Q (view s)) l
-        → GridsOf view Ok cl [] (passes (λ (q : Piece). walk (pass q) 0) (piecesOf t) l) (walk₂ (λ m. walk₂ (U m) 0) 0 (map view l) (map (map some) (map layerStates t)))
+        → GridsOf view Ok cl [] (passes (λ (q : Piece). walk (pass q) 0) (piecesOf t) l) (walk₂ (λ m. walk₂ (U m) 0) 0 (map view l)
+        (map (map some) (map layerStates t)))
     set-passes l t hl tl tg o = grid-passes 0 [] l t refl hl tt tl tg o
 
     -- a selector handed in: one piece
     pub place-pass : (q : Piece) (l : List S) → length l ≡ sh .mips → All Ok l → All (λ (s : S). All Q (view s)) l
         → q .selector .layers .start .0 < q .selector .layers .end .0 → q .selector .layers .end .0 ≤ sh .layers
-        → GridsOf view Ok cl [] (passes (λ (q : Piece). walk (pass q) 0) (q ∷ []) l) (walk₂ (λ m. walk₂ (U m) 0) 0 (map view l) (tab (namedRow sh (q .selector) (q .state)) 0 (sh .mips)))
+        → GridsOf view Ok cl [] (passes (λ (q : Piece). walk (pass q) 0) (q ∷ []) l) (walk₂ (λ m. walk₂ (U m) 0) 0 (map view l)
+        (tab (namedRow sh (q .selector) (q .state)) 0 (sh .mips)))
     place-pass q l hl tl o h g =
         let r = lockstep view cl Okay Ok (λ s t. t .0) (pass q) (λ m. walk₂ (U m) 0)
         (namedRow sh (q .selector) (q .state)) one 0 l (all-both Ok (λ (s : S). All Q (view s)) l tl o) in
@@ -176,12 +197,21 @@ module _ {S C K D : Type 0} (view : S → List C) (Ok : S → Type 0) (cl : K �
           where
             go : (b : Bool) → inMips (q .selector) k ≡ b → Ok (pass q k s .value)
                 × Sim view cl (pass q k s) (walk₂ (U k) 0 (view s)
-                (if b then band (q .selector .layers .start .0) (q .selector .layers .end .0) (sh .layers) (some (q .state)) none else replicate (sh .layers) none))
+                (if b then band (q .selector .layers .start .0) (q .selector .layers .end .0) (sh .layers) (some (q .state)) none else
+                replicate (sh .layers) none))
             go true b =
                 let a = q .selector .layers .start .0 in let e = q .selector .layers .end .0 in
                 let d = thirds (view s) a e (omega arith) (omega (arith, full-length s (t .0))) in
                 let all = all-right Q (d .before) _ (rw (d .parts) at (t .1)) in
-                let m = R .names q k s (d .before) (d .run) (d .after) b h g (t .0) (d .first) (d .middle) (d .parts) (all-left Q (d .run) _ all) in
-                let u = rw (← d .parts) at (row-parts-of (U k) (blank k) (q .state) a e (sh .layers) (d .before) (d .run) (d .after) (d .first) (d .middle) (omega arith) g) in
-                (m .ok, (m .same ∙ ap (λ (x : Stop D (List C)). x .value) (sym u), m .conflict ∙ ap (λ (x : Stop D (List C)). x .conflict) (sym u)))
+                let m = R .names q k s (d .before) (d .run) (d .after) b h g (t .0) (d .first) (d .middle) (d .parts)
+                (all-left Q (d .run) _ all) in
+                let u = rw (← d .parts) at (row-parts-of (U k) (blank k) (q .state) a e (sh .layers) (d .before) (d .run) (d .after)
+                (d .first) (d .middle) (omega arith) g) in (
+                  m .ok,
+                  (
+                    m .same ∙ ap (λ (x : Stop D (List C)). x .value) (sym u),
+                    m .conflict
+                        ∙ ap (λ (x : Stop D (List C)). x .conflict) (sym u),
+                  ),
+                )
             go false b = rw (R .skips q k s b, unnamed-of (U k) (blank k)) (t .0, (refl, refl))

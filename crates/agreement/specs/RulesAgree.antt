@@ -18,17 +18,22 @@ single-state : (p : UsageFlags) → singleUnion p ≡ unite p
 unfolding singleUnion unite
 single-state p = refl
 
-by-zero : (p : UsageFlags) (old u : ℕ) → (if incompatible p u then none else if eqb u 0 then some old else some u) ≡ (if eqb u 0 then some old else if invalidState p u then none else some u)
+by-zero : (p : UsageFlags) (old u : ℕ)
+    → (if incompatible p u then none else if eqb u 0 then some old else some u)
+    ≡ (if eqb u 0 then some old else if invalidState p u then none else some u)
 unfolding incompatible invalidState
 by-zero p old u = go (eqb u 0) refl
   where
-    go : (b : Bool) → eqb u 0 ≡ b → (if incompatible p u then none else if b then some old else some u) ≡ (if b then some old else if invalidState p u then none else some u)
+    go : (b : Bool) → eqb u 0 ≡ b
+        → (if incompatible p u then none else if b then some old else some u)
+        ≡ (if b then some old else if invalidState p u then none else some u)
     go true e = rw (eqb-true u 0 e)
     go false e = refl
 
 many-state : (p : UsageFlags) → manyUnion p ≡ uniteKnown p
 unfolding manyUnion uniteKnown
-many-state p = fun-ext λ old. fun-ext λ new. by-zero p old (without (p .unknown) (bitOr old new)) ∙ rw (less-without (p .unknown) (bitOr old new))
+many-state p = fun-ext λ old. fun-ext λ new. by-zero p old (without (p .unknown) (bitOr old new))
+    ∙ rw (less-without (p .unknown) (bitOr old new))
 
 same-move : (p : UsageFlags) (mask old new : ℕ) → transition p mask old new ≡ moveOf (p .unknown) mask old new
 unfolding transition moveOf skipped skipBarrier

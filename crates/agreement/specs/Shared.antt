@@ -1,4 +1,5 @@
--- What the ranged and the grid representation share: of one texture, after one call, and demand 3, after each call of a list on sets newly opened alike.
+-- What the ranged and the grid representation share: of one texture, after one call, and demand 3, after each call of a list on sets newly
+-- opened alike.
 use Rattle.model.specs.Prelude.{ℕ, _≤_, _≡_, Bool, true, false, _&&_, not, Option, none, some, Option·map, List, [], _∷_, map, eqb, getD}
 use Rattle.model.specs.Prelude.{length}
 use Rattle.model.specs.declared.{Extent.Extent, InvalidUse.InvalidUse, Selector.Selector, UsageFlags.UsageFlags}
@@ -11,7 +12,8 @@ use Rattle.model.specs.{Subresources.subresources, WellFormed.{singleFits, held
 use Rattle.agreement.specs.Grid.{Grid, Named, namedUse, namedAll, gridInsert, SubresourceConflict, gridMerge, gridBarrier, gridUpdate}
 use Rattle.agreement.specs.Grid.{grid}
 
--- ---- The ranged representation, seen as a grid: "In the range keeper a cell has the state of the range with its layer, or of its whole texture."
+-- ---- The ranged representation, seen as a grid: "In the range keeper a cell has the state of the range with its layer, or of its whole
+-- texture."
 unfoldable pub gridOf : Extent → Held → Grid
 unfolding layerStates subresources
 gridOf sh (single st) = record { single = true; states = subresources sh (single st) }
@@ -31,7 +33,14 @@ gridScope s = record { numbers = s .numbers; flags = s .flags; slots = gridSlots
 
 -- a tracker
 abbrev pub gridTracker : Tracker Held → Tracker Grid
-gridTracker t = record { mask = t .mask; set = record { numbers = t .set .numbers; flags = t .set .flags; slots = gridSlots gridEnds (t .set .slots) } }
+gridTracker t = record {
+  mask = t .mask;
+  set = record {
+    numbers = t .set .numbers;
+    flags = t .set .flags;
+    slots = gridSlots gridEnds (t .set .slots);
+  };
+}
 
 -- all sets
 abbrev pub toGrids : Sets ranged → Sets grid
@@ -115,25 +124,32 @@ abbrev pub useFits : UsageFlags → Extent → Use → Bool
 useFits p sh (ofSelector sel st) = selectorFits sh sel && singleFits p st
 useFits p sh (ofTexture h) = heldFits p sh h
 
--- insert, merge, barrier and update of a texture of extent sh, well formed, with a use: what they share, and that the texture stays well formed
+-- insert, merge, barrier and update of a texture of extent sh, well formed, with a use: what they share, and that the texture stays well
+-- formed
 pub record TextureShares (p : UsageFlags) (sh : Extent) (u : Use) : Type 0 where
   pub inserted : gridOf sh (insert p sh (rangedUse sh u)) ≡ gridInsert p sh (gridUse sh u)
   pub inserted-fits : heldFits p sh (insert p sh (rangedUse sh u)) ≡ true
-  -- also what stays changed where a conflict stopped it; a conflict in one just where in the other, with the same first subresource and states
-  pub merged : (h : Held) → heldFits p sh h ≡ true → gridOf sh (merge p sh h (rangedUse sh u) .value) ≡ gridMerge p sh (gridOf sh h) (gridUse sh u) .value
-  pub conflict : (h : Held) → heldFits p sh h ≡ true → Option·map firstOf (merge p sh h (rangedUse sh u) .conflict) ≡ gridMerge p sh (gridOf sh h) (gridUse sh u) .conflict
+  -- also what stays changed where a conflict stopped it; a conflict in one just where in the other, with the same first subresource and
+  -- states
+  pub merged : (h : Held) → heldFits p sh h ≡ true
+      → gridOf sh (merge p sh h (rangedUse sh u) .value) ≡ gridMerge p sh (gridOf sh h) (gridUse sh u) .value
+  pub conflict : (h : Held) → heldFits p sh h ≡ true
+      → Option·map firstOf (merge p sh h (rangedUse sh u) .conflict) ≡ gridMerge p sh (gridOf sh h) (gridUse sh u) .conflict
   pub merged-fits : (h : Held) → heldFits p sh h ≡ true → heldFits p sh (merge p sh h (rangedUse sh u) .value) ≡ true
   -- of the entries, those that hold a subresource are the grid's one, or none
   pub logged : (mask : ℕ) (e : Ends Held) → endsFit p sh e ≡ true → (m l : ℕ)
       → entriesAt m l (barrier p mask sh (e .end) (rangedUse sh u)) ≡ gridAt m l (gridBarrier p mask sh (gridOf sh (e .end)) (gridUse sh u))
-  pub updated : (e : Ends Held) → endsFit p sh e ≡ true → gridEnds sh (update p sh e (rangedUse sh u)) ≡ gridUpdate p sh (gridEnds sh e) (gridUse sh u)
+  pub updated : (e : Ends Held) → endsFit p sh e ≡ true
+      → gridEnds sh (update p sh e (rangedUse sh u)) ≡ gridUpdate p sh (gridEnds sh e) (gridUse sh u)
   pub updated-fits : (e : Ends Held) → endsFit p sh e ≡ true → endsFit p sh (update p sh e (rangedUse sh u)) ≡ true
 
 -- ---- What is shared after one call
-pub record Shares (r : CallResult InvalidUse (List Entry) (Sets ranged)) (s : CallResult SubresourceConflict (List (List (Option Move))) (Sets grid)) : Type 0 where
+pub record Shares (r : CallResult InvalidUse (List Entry) (Sets ranged)) (s : CallResult SubresourceConflict (List (List (Option Move)))
+    (Sets grid)) : Type 0 where
   pub answer : seenAnswer (r .answer) ≡ s .answer
   pub scopes : map (seen gridOf) (r .after .scopes) ≡ map (seen itself) (s .after .scopes)
-  pub trackers : map (λ (t : Tracker Held). seen gridEnds (t .set)) (r .after .trackers) ≡ map (λ (t : Tracker Grid). seen itself (t .set)) (s .after .trackers)
+  pub trackers : map (λ (t : Tracker Held). seen gridEnds (t .set)) (r .after .trackers)
+      ≡ map (λ (t : Tracker Grid). seen itself (t .set)) (s .after .trackers)
   pub moves : (i m l : ℕ) → loggedAt i m l (r .log) ≡ movedAt i m l (s .log)
   -- "at most one a call"
   pub once : (i m l : ℕ) → length (loggedAt i m l (r .log)) ≤ 1

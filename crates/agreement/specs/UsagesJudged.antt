@@ -1,4 +1,5 @@
--- The WebGPU rule after every list of calls: single merges conflict just where the uses of some named subresource do not fit, and the same in the specification's own usages.
+-- The WebGPU rule after every list of calls: single merges conflict just where the uses of some named subresource do not fit, and the same
+-- in the specification's own usages.
 use Rattle.model.specs.Prelude.{ℕ, zero, suc, arith, _≡_, refl, sym, ap, _∙_, subst, _↔_, true, _||_, false≢true, Option, none, some}
 use Rattle.model.specs.Prelude.{Option·map, List, [], _∷_, _++_, map, bitAnd, getElem?, getD}
 use Rattle.model.specs.{declared.{Extent.Extent, Selector.Selector, UsageFlags.UsageFlags}, Sets.{Set, Head, headOf, Opening, slotAt}}
@@ -48,13 +49,15 @@ module _ (os ts : List Opening) (cs : List Call) (w : All GivenWord cs) where
   KS = afterCalls grid cs (newly grid os ts)
 
   run-ranges : Good ranged grid gridOf firstOf WordP WordP FitS FitEnds GivesC Pairs entriesAt gridAt KR × (toGrids KR ≡ KS)
-  run-ranges = ran ranged grid gridOf firstOf WordP WordP FitS FitEnds GivesC Pairs entriesAt gridAt scope-facts tracker-facts os ts cs (all-free cs)
+  run-ranges = ran ranged grid gridOf firstOf WordP WordP FitS FitEnds GivesC Pairs entriesAt gridAt scope-facts tracker-facts os ts cs
+      (all-free cs)
 
   abbrev viewT : Sets histories → Sets grid
   viewT = imageSets histories grid plainView same Word Word TiedHeld AnyEnds TiedGiven SameHanded gridAt gridAt
 
   run-histories : Good histories grid plainView same Word Word TiedHeld AnyEnds TiedGiven SameHanded gridAt gridAt KT × (viewT KT ≡ KS)
-  run-histories = ran histories grid plainView same Word Word TiedHeld AnyEnds TiedGiven SameHanded gridAt gridAt history-scopes history-trackers os ts cs (all-words cs w)
+  run-histories = ran histories grid plainView same Word Word TiedHeld AnyEnds TiedGiven SameHanded gridAt gridAt history-scopes
+      history-trackers os ts cs (all-words cs w)
 
   -- the three representations answer alike
   ranges-answer : (c : Call) → mapAnswer firstOf (step ranged c KR .answer) ≡ step grid c KS .answer
@@ -62,55 +65,65 @@ module _ (os ts : List Opening) (cs : List Call) (w : All GivenWord cs) where
 
   histories-answer : (c : Call) → Words Word Word c → mapAnswer same (step histories c KT .answer) ≡ step grid c KS .answer
   histories-answer c word =
-      stepped histories grid plainView same Word Word TiedHeld AnyEnds TiedGiven SameHanded gridAt gridAt history-scopes history-trackers c KT word (run-histories .0) .answer
+      stepped histories grid plainView same Word Word TiedHeld AnyEnds TiedGiven SameHanded gridAt gridAt history-scopes history-trackers c
+      KT word (run-histories .0) .answer
       ∙ ap (λ (k : Sets grid). step grid c k .answer) (run-histories .1)
 
   -- so they conflict alike
   conflicts : (c : Call) → Words Word Word c → InConflict (step ranged c KR .answer) ≡ InConflict (step histories c KT .answer)
   conflicts c word =
-      sym (image-conflict firstOf (step ranged c KR .answer)) ∙ ap InConflict (ranges-answer c ∙ sym (histories-answer c word)) ∙ image-conflict same (step histories c KT .answer)
+      sym (image-conflict firstOf (step ranged c KR .answer)) ∙ ap InConflict (ranges-answer c ∙ sym (histories-answer c word))
+      ∙ image-conflict same (step histories c KT .answer)
 
   elem-good : {A : Type 0} (P : A → Type 0) (l : List A) (n : ℕ) (x : A) → All P l → getElem? l n ≡ some x → P x
   elem-good P [] n x t e = absurd (let z : _≡_ {A = ℕ} 0 1 = cc in native.Mathlib.Nat.not-suc-le-zero (native.Mathlib.Nat.le-of-eq (sym z)))
   elem-good P (y ∷ l) zero x t e = let h : y ≡ x = cc in subst P h (t .0)
   elem-good P (y ∷ l) (suc n) x t e = elem-good P l n x (t .1) e
 
-  one-merge : (n i : ℕ) (sh : Extent) (sel : Option Selector) (st : ℕ) (s : Set Histories) → getElem? (KT .scopes) n ≡ some s → step histories (callMergeSingle n (trackerIndex i) sh sel st) KT .answer ≡ mergeSingle histories s i sh sel st .answer
+  one-merge : (n i : ℕ) (sh : Extent) (sel : Option Selector) (st : ℕ) (s : Set Histories) → getElem? (KT .scopes) n ≡ some s
+      → step histories (callMergeSingle n (trackerIndex i) sh sel st) KT .answer ≡ mergeSingle histories s i sh sel st .answer
   unfolding step
   one-merge n i sh sel st s e = rw e
 
-  -- "WebGPU judges each subresource by the uses made of it": for a single merge that passes its checks, after any list of calls, on any scope
-  webgpu-judges : (n i : ℕ) (sh : Extent) (sel : Option Selector) (st : ℕ) → Word st → (s : Set Histories) → getElem? (KT .scopes) n ≡ some s → singleRefusal (headOf s) i sh sel st ≡ none
-      → (InConflict (step ranged (callMergeSingle n (trackerIndex i) sh sel st) KR .answer) → Unfit s i sh sel st) × (Unfit s i sh sel st → InConflict (step ranged (callMergeSingle n (trackerIndex i) sh sel st) KR .answer))
+  -- "WebGPU judges each subresource by the uses made of it": for a single merge that passes its checks, after any list of calls, on any
+  -- scope
+  webgpu-judges : (n i : ℕ) (sh : Extent) (sel : Option Selector) (st : ℕ) → Word st → (s : Set Histories)
+      → getElem? (KT .scopes) n ≡ some s → singleRefusal (headOf s) i sh sel st ≡ none
+      → (InConflict (step ranged (callMergeSingle n (trackerIndex i) sh sel st) KR .answer) → Unfit s i sh sel st) × (Unfit s i sh sel st
+      → InConflict (step ranged (callMergeSingle n (trackerIndex i) sh sel st) KR .answer))
   webgpu-judges n i sh sel st word s e r =
-      let good = elem-good _ (KT .scopes) n s (run-histories .0 .0) e in
-      let m = conflict-unfit s i sh sel st good word r in
+      let good = elem-good _ (KT .scopes) n s (run-histories .0 .0) e in let m = conflict-unfit s i sh sel st good word r in
       let one = conflicts (callMergeSingle n (trackerIndex i) sh sel st) word ∙ ap InConflict (one-merge n i sh sel st s e) in
       (λ t. m .0 (coe 0 1 (k. one k) t), λ u. coe 1 0 (k. one k) (m .1 u))
 
-  beside : (n : ℕ) (r : Set Held) → getElem? (KR .scopes) n ≡ some r → (s : Set Histories) × (getElem? (KT .scopes) n ≡ some s) × (headOf s ≡ headOf r)
+  beside : (n : ℕ) (r : Set Held) → getElem? (KR .scopes) n ≡ some r
+      → (s : Set Histories) × (getElem? (KT .scopes) n ≡ some s) × (headOf s ≡ headOf r)
   beside n r e = go (getElem? (KT .scopes) n) refl
     where
       both : Option·map (imageSet plainView) (getElem? (KT .scopes) n) ≡ some (gridScope r)
       both =
-          sym (elem-map (imageSet plainView) (KT .scopes) n) ∙ ap (λ (k : Sets grid). getElem? (k .scopes) n) (run-histories .1 ∙ sym (run-ranges .1))
+          sym (elem-map (imageSet plainView) (KT .scopes) n) ∙ ap (λ (k : Sets grid). getElem? (k .scopes) n) (run-histories .1
+          ∙ sym (run-ranges .1))
           ∙ elem-map gridScope (KR .scopes) n ∙ ap (Option·map gridScope) e
 
-      go : (o : Option (Set Histories)) → getElem? (KT .scopes) n ≡ o → (s : Set Histories) × (getElem? (KT .scopes) n ≡ some s) × (headOf s ≡ headOf r)
+      go : (o : Option (Set Histories)) → getElem? (KT .scopes) n ≡ o
+          → (s : Set Histories) × (getElem? (KT .scopes) n ≡ some s) × (headOf s ≡ headOf r)
       go none q = absurd (let z : none ≡ some (gridScope r) = rw q at both in unlike (gridScope r) z)
         where
           unlike : (x : Set Grid) → none ≡ some x → ⊥
           unlike x e = let h : _≡_ {A = ℕ} 0 1 = cc in omega arith
       go (some s) q =
-          let z : some (imageSet plainView s) ≡ some (gridScope r) = rw q at both in
-          let y : imageSet plainView s ≡ gridScope r = cc in
+          let z : some (imageSet plainView s) ≡ some (gridScope r) = rw q at both in let y : imageSet plainView s ≡ gridScope r = cc in
           (s, q, sym (head-image plainView s) ∙ ap headOf y ∙ head-image gridOf r)
 
-  pub uses-judged : (n i : ℕ) (sh : Extent) (sel : Option Selector) (st : ℕ) → Word st → (r : Set Held) → getElem? (KR .scopes) n ≡ some r → singleRefusal (headOf r) i sh sel st ≡ none
+  pub uses-judged : (n i : ℕ) (sh : Extent) (sel : Option Selector) (st : ℕ) → Word st → (r : Set Held) → getElem? (KR .scopes) n ≡ some r
+      → singleRefusal (headOf r) i sh sel st ≡ none
       → (s : Set Histories) × (getElem? (KT .scopes) n ≡ some s) × (headOf s ≡ headOf r)
-      × (InConflict (step ranged (callMergeSingle n (trackerIndex i) sh sel st) KR .answer) → Unfit s i sh sel st) × (Unfit s i sh sel st → InConflict (step ranged (callMergeSingle n (trackerIndex i) sh sel st) KR .answer))
+      × (InConflict (step ranged (callMergeSingle n (trackerIndex i) sh sel st) KR .answer) → Unfit s i sh sel st) × (Unfit s i sh sel st
+      → InConflict (step ranged (callMergeSingle n (trackerIndex i) sh sel st) KR .answer))
   uses-judged n i sh sel st word r e c =
-      let b = beside n r e in let j = webgpu-judges n i sh sel st word (b .0) (b .1) (subst (λ (h : Head). singleRefusal h i sh sel st ≡ none) (sym (b .2)) c) in (b .0, b .1, b .2, j .0, j .1)
+      let b = beside n r e in let j = webgpu-judges n i sh sel st word (b .0) (b .1)
+      (subst (λ (h : Head). singleRefusal h i sh sel st ≡ none) (sym (b .2)) c) in (b .0, b .1, b .2, j .0, j .1)
 
 -- ---- what holds of every use that single merges are given holds of every use that a scope has taken
 -- a conflict seen as it is
@@ -138,15 +151,20 @@ module _ (W : ℕ → Type 0) where
   inserted-all : (p : UsageFlags) (sh : Extent) (g : HandedIn) → HandedAll g → HeldAll (historyInsert p sh g)
   inserted-all p sh g t = grid-map (AllO UsesAll) UsesAll (namedOr (blankOf p)) (or-blank p) (g .states) t
 
-  takes-all : (f : ℕ → ℕ → Option ℕ) (g : List (List History)) (n : List (List (Option History))) → GridAll UsesAll g → GridAll (AllO UsesAll) n → GridAll UsesAll (takeStates f g n .value)
+  takes-all : (f : ℕ → ℕ → Option ℕ) (g : List (List History)) (n : List (List (Option History))) → GridAll UsesAll g
+      → GridAll (AllO UsesAll) n → GridAll UsesAll (takeStates f g n .value)
   takes-all f = takes-keep UsesAll f (λ c g u x y e. all-join W (c .uses) (g .uses) x y)
 
-  merged-all : (p : UsageFlags) (sh : Extent) (h : Histories) (g : HandedIn) → HeldAll h → HandedAll g → HeldAll (historyMerge p sh h g .value)
+  merged-all : (p : UsageFlags) (sh : Extent) (h : Histories) (g : HandedIn) → HeldAll h → HandedAll g
+      → HeldAll (historyMerge p sh h g .value)
   unfolding historyMerge
   merged-all p sh h g x y =
-      by-test (λ (w : Stop SubresourceConflict Histories). HeldAll (w .value)) (h .single) (λ e. kept (takeStates (singleUnion p) (h .states) (g .states) .conflict)) (λ e. takes-all (manyUnion p) (h .states) (g .states) x y)
+      by-test (λ (w : Stop SubresourceConflict Histories). HeldAll (w .value)) (h .single)
+      (λ e. kept (takeStates (singleUnion p) (h .states) (g .states) .conflict))
+      (λ e. takes-all (manyUnion p) (h .states) (g .states) x y)
     where
-      kept : (o : Option SubresourceConflict) → HeldAll (orKeep o h (record { single = g .single; states = takeStates (singleUnion p) (h .states) (g .states) .value }) .value)
+      kept : (o : Option SubresourceConflict)
+          → HeldAll (orKeep o h (record { single = g .single; states = takeStates (singleUnion p) (h .states) (g .states) .value }) .value)
       kept none = takes-all (singleUnion p) (h .states) (g .states) x y
       kept (some c) = x
 
@@ -191,14 +209,23 @@ module _ (W : ℕ → Type 0) where
   words (callSetFromTracker n m) w = w
   words (callSetAndRemoveSparse n m is) w = w
 
-  pub uses-kept : (os ts : List Opening) (cs : List Call) → All (MergeGiven W) cs → All (SetFits FitU) (afterCalls histories cs (newly histories os ts) .scopes)
+  pub uses-kept : (os ts : List Opening) (cs : List Call) → All (MergeGiven W) cs
+      → All (SetFits FitU) (afterCalls histories cs (newly histories os ts) .scopes)
   uses-kept os ts cs w =
-      ran histories histories itself (λ (c : SubresourceConflict). c) W WordP FitU AnyEnds GivesU Alike gridAt gridAt kept-scopes kept-trackers os ts cs (all-weak (MergeGiven W) (Words W WordP) words cs w) .0 .0
+      ran histories histories itself (λ (c : SubresourceConflict). c) W WordP FitU AnyEnds GivesU Alike gridAt gridAt kept-scopes
+      kept-trackers os ts cs (all-weak (MergeGiven W) (Words W WordP) words cs w) .0 .0
 
 -- ---- renderings
 pub bench-renders : Renders benchFlags benchBit
 unfolding onesIn
-bench-renders = record { reading = read; storing = refl; attaching = refl; stores = refl; attaches = refl; apart = λ e. absurd (omega (arith, e)) }
+bench-renders = record {
+  reading = read;
+  storing = refl;
+  attaching = refl;
+  stores = refl;
+  attaches = refl;
+  apart = λ e. absurd (omega (arith, e));
+}
   where
     read : (u : Usage) → reads u ≡ true → bitAnd (benchBit u) (benchFlags .exclusive) ≡ 0
     read input e = refl
@@ -210,7 +237,8 @@ bench-renders = record { reading = read; storing = refl; attaching = refl; store
 
 pub wgpu-renders : (x : Storing) (y : Attaching) → Renders wgpuFlags (wgpuBit x y)
 unfolding onesIn
-wgpu-renders x y = record { reading = read; storing = storing x; attaching = attaching y; stores = stores x; attaches = attaches y; apart = apart x y }
+wgpu-renders x y = record
+    { reading = read; storing = storing x; attaching = attaching y; stores = stores x; attaches = attaches y; apart = apart x y }
   where
     read : (u : Usage) → reads u ≡ true → bitAnd (wgpuBit x y u) (wgpuFlags .exclusive) ≡ 0
     read input e = refl
@@ -260,11 +288,14 @@ module _ (bit : Usage → ℕ) where
   taken-usages s i m l t =
       let x = slotAt (histories .fresh 0) s i in
       by-test (All (Rendered bit)) (x .owned)
-      (λ o. all-getD (UsesAll (Rendered bit)) (getD (x .held .states) m []) l noHistory tt (all-getD (All (UsesAll (Rendered bit))) (x .held .states) m [] tt (slot-fits (FitU (Rendered bit)) s (histories .fresh 0) i t .held o)))
+      (λ o. all-getD (UsesAll (Rendered bit)) (getD (x .held .states) m []) l noHistory tt
+      (all-getD (All (UsesAll (Rendered bit))) (x .held .states) m [] tt
+      (slot-fits (FitU (Rendered bit)) s (histories .fresh 0) i t .held o)))
       (λ o. tt)
 
   -- the rule, with the given usage last
-  with-given : (p : UsageFlags) → Renders p bit → (vs : List Usage) (u : Usage) → usesFit p (map bit vs ++ (bit u ∷ [])) ≡ compatibleList (vs ++ (u ∷ [])) || every isAttachment (vs ++ (u ∷ []))
+  with-given : (p : UsageFlags) → Renders p bit → (vs : List Usage) (u : Usage)
+      → usesFit p (map bit vs ++ (bit u ∷ [])) ≡ compatibleList (vs ++ (u ∷ [])) || every isAttachment (vs ++ (u ∷ []))
   with-given p r vs u = ap (usesFit p) (sym (map-append bit vs (u ∷ []))) ∙ flags-rule p bit r (vs ++ (u ∷ []))
 
   module _ (s : Set Histories) (r : Renders (s .flags) bit) (i : ℕ) (sh : Extent) (sel : Option Selector) (u : Usage) where
@@ -277,7 +308,8 @@ module _ (bit : Usage → ℕ) where
           names = f .names;
           usages = v .0;
           taken = v .1;
-          unfit = sym (with-given (s .flags) r (v .0) u) ∙ ap (λ (us : List ℕ). usesFit (s .flags) (us ++ (bit u ∷ []))) (sym (v .1)) ∙ f .unfit;
+          unfit = sym (with-given (s .flags) r (v .0) u) ∙ ap (λ (us : List ℕ). usesFit (s .flags) (us ++ (bit u ∷ []))) (sym (v .1))
+              ∙ f .unfit;
         }
 
     from-usages : NotCompatible bit s i sh sel u → Unfit s i sh sel (bit u)
@@ -290,13 +322,15 @@ module _ (bit : Usage → ℕ) where
 
   pub usages-judged : (scopes trackers : List Opening) (calls : List Call) → All GivenWord calls → All (GivenUsage bit) calls
       → (n i : ℕ) (sh : Extent) (sel : Option Selector) (u : Usage) → Word (bit u)
-      → (r : Set Held) → getElem? (afterCalls ranged calls (newly ranged scopes trackers) .scopes) n ≡ some r → Renders (r .flags) bit → singleRefusal (headOf r) i sh sel (bit u) ≡ none
+      → (r : Set Held) → getElem? (afterCalls ranged calls (newly ranged scopes trackers) .scopes) n ≡ some r → Renders (r .flags) bit
+      → singleRefusal (headOf r) i sh sel (bit u) ≡ none
       → (s : Set Histories) × (getElem? (afterCalls histories calls (newly histories scopes trackers) .scopes) n ≡ some s)
-      × (InConflict (step ranged (callMergeSingle n (trackerIndex i) sh sel (bit u)) (afterCalls ranged calls (newly ranged scopes trackers)) .answer) ↔ NotCompatible bit s i sh sel u)
+      × (InConflict (step ranged (callMergeSingle n (trackerIndex i) sh sel (bit u))
+      (afterCalls ranged calls (newly ranged scopes trackers)) .answer) ↔ NotCompatible bit s i sh sel u)
   usages-judged os ts cs w g n i sh sel u word r e rr p =
-      let j = uses-judged os ts cs w n i sh sel (bit u) word r e p in
-      let s = j .0 in
-      let same : s .flags ≡ r .flags = ap (λ (h : Head). h .flags) (j .2) in
-      let rs : Renders (s .flags) bit = rw same rr in
-      let kept : AllO (SetFits (FitU (Rendered bit))) (some s) = rw (j .1) at (all-elem (SetFits (FitU (Rendered bit))) (afterCalls histories cs (newly histories os ts) .scopes) n (uses-kept (Rendered bit) os ts cs g)) in
+      let j = uses-judged os ts cs w n i sh sel (bit u) word r e p in let s = j .0 in
+      let same : s .flags ≡ r .flags = ap (λ (h : Head). h .flags) (j .2) in let rs : Renders (s .flags) bit = rw same rr in
+      let kept : AllO (SetFits (FitU (Rendered bit))) (some s) =
+      rw (j .1) at (all-elem (SetFits (FitU (Rendered bit))) (afterCalls histories cs (newly histories os ts) .scopes) n
+      (uses-kept (Rendered bit) os ts cs g)) in
       (s, j .1, (λ c. to-usages s rs i sh sel u kept (j .3 c), λ c. j .4 (from-usages s rs i sh sel u c)))

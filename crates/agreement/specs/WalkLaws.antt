@@ -58,7 +58,8 @@ module _ {A G C : Type 0} (h : ℕ → A → G → Stop C A) where
       rw (walk-append (suc l) s y n m (omega arith), suc-add, ← add-suc)
       (join-onward (h l x b .value) (h l x b .conflict) s y (walk₂ h (suc l) s n) (walk₂ h (l + suc (length s)) y m))
 
-  onward-length : (x : A) (o : Option C) (was : List A) (w : Stop C (List A)) → length (w .value) ≡ length was → length (onward x o was w .value) ≡ suc (length was)
+  onward-length : (x : A) (o : Option C) (was : List A) (w : Stop C (List A)) → length (w .value) ≡ length was
+      → length (onward x o was w .value) ≡ suc (length was)
   onward-length x none was w e = rw e
   onward-length x (some c) was w e = refl
 
@@ -81,7 +82,8 @@ join-same : {C A : Type 0} (x : List A) (o : Option C) (y : List A) → joinStop
 join-same x none y = refl
 join-same x (some c) y = refl
 
-pub row-parts-of : {C D : Type 0} (f : ℕ → C → Option ℕ → Stop D C) → ((l : ℕ) (c : C) → f l c none ≡ fine c) → (new a e w : ℕ) (x y z : List C)
+pub row-parts-of : {C D : Type 0} (f : ℕ → C → Option ℕ → Stop D C) → ((l : ℕ) (c : C) → f l c none ≡ fine c)
+    → (new a e w : ℕ) (x y z : List C)
     → length x ≡ a → length y ≡ e - a → a ≤ e → e ≤ w
     → (let v = walk₂ f a y (replicate (e - a) (some new)) in
     walk₂ f 0 (x ++ (y ++ z)) (band a e w (some new) none) ≡ record { value = x ++ (v .value ++ z); conflict = v .conflict })
@@ -96,7 +98,8 @@ pub record RunsOf {S C K D : Type 0} (view : S → List C) (Ok : S → Type 0) (
   pub same : view (w .value) ≡ v .value
   pub conflict : Option·map cl (w .conflict) ≡ v .conflict
 
-pub record GridsOf {S C K D : Type 0} (view : S → List C) (Ok : S → Type 0) (cl : K → D) (d : List (List C)) (w : Stop K (List S)) (v : Stop D (List (List C))) : Type 0 where
+pub record GridsOf {S C K D : Type 0} (view : S → List C) (Ok : S → Type 0) (cl : K → D) (d : List (List C)) (w : Stop K (List S))
+    (v : Stop D (List (List C))) : Type 0 where
   pub tiled : All Ok (w .value)
   pub same : map view (w .value) ≡ d ++ v .value
   pub conflict : Option·map cl (w .conflict) ≡ v .conflict

@@ -1,6 +1,6 @@
--- The rule of the WebGPU specification (W3C) for the uses of one subresource within a usage scope, and the uses that each subresource of a scope has taken
--- and keeps. The specification's words below are of its text of 2025, section 3.4, "Resource Usages" and "Synchronization" (usage scopes), written down
--- without the document at hand, and held against an implementation: tests/webgpu, docs/DIFFERENCES.md.
+-- The rule of the WebGPU specification (W3C) for the uses of one subresource within a usage scope, and the uses that each subresource of a
+-- scope has taken and keeps. The specification's words below are of its text of 2025, section 3.4, "Resource Usages" and "Synchronization"
+-- (usage scopes), written down without the document at hand, and held against an implementation: tests/webgpu, docs/DIFFERENCES.md.
 use Rattle.model.specs.Prelude.{ℕ, _+_, _≤_, _<_, _≡_, Bool, true, false, _&&_, _||_, not, Option, none, some, Option·map, List, [], _∷_}
 use Rattle.model.specs.Prelude.{_++_, map, eqb, bitAnd, getD}
 use Rattle.model.specs.declared.{Extent.Extent, Selector.Selector, UsageFlags.UsageFlags}
@@ -47,9 +47,10 @@ oneElement [] = false
 oneElement (x ∷ []) = true
 oneElement (x ∷ y ∷ s) = false
 
--- "a list U of internal usages is a compatible usage list if (and only if) it satisfies any of the following rules: Each usage in U is input, constant,
--- storage-read, or attachment-read. Each usage in U is storage. U contains exactly one element: attachment." ("Synchronization" asks it of each
--- subresource: "the list of all internal usages of that subresource within the usage scope must be a compatible usage list".)
+-- "a list U of internal usages is a compatible usage list if (and only if) it satisfies any of the following rules: Each usage in U is
+-- input, constant, storage-read, or attachment-read. Each usage in U is storage. U contains exactly one element: attachment."
+-- ("Synchronization" asks it of each subresource: "the list of all internal usages of that subresource within the usage scope must be a
+-- compatible usage list".)
 abbrev pub compatibleList : List Usage → Bool
 compatibleList us = every reads us || every isStorage us || (oneElement us && every isAttachment us)
 
@@ -62,7 +63,8 @@ sameBit (s ∷ us) = oneBit s && every (λ x. eqb x s) us
 unfoldable pub usesFit : UsageFlags → List ℕ → Bool
 usesFit p us = every (λ s. not (meets s (p .exclusive))) us || sameBit us
 
--- ---- usage flags that render WebGPU's usages: each usage has its bits, and only the writing ones, storage and attachment, lie in EXCLUSIVE, one bit each
+-- ---- usage flags that render WebGPU's usages: each usage has its bits, and only the writing ones, storage and attachment, lie in
+-- EXCLUSIVE, one bit each
 pub record Renders (p : UsageFlags) (bit : Usage → ℕ) : Type 0 where
   pub reading : (u : Usage) → reads u ≡ true → bitAnd (bit u) (p .exclusive) ≡ 0
   pub storing : meets (bit storage) (p .exclusive) ≡ true
@@ -84,7 +86,8 @@ benchBit storageRead = 32
 benchBit attachment = 16
 benchBit attachmentRead = 64
 
--- wgpu's `TextureUses` (tests/constants compares them with wgpu-types' own): EXCLUSIVE is PRESENT, COPY_DST, COLOR_TARGET, DEPTH_STENCIL_WRITE and the three storage uses that write
+-- wgpu's `TextureUses` (tests/constants compares them with wgpu-types' own): EXCLUSIVE is PRESENT, COPY_DST, COLOR_TARGET,
+-- DEPTH_STENCIL_WRITE and the three storage uses that write
 abbrev pub wgpuFlags : UsageFlags
 wgpuFlags = record { exclusive = 2 + 8 + 32 + 128 + 512 + 1024 + 2048; uninitialized = 1; complex = 8192; unknown = 16384 }
 
@@ -154,7 +157,8 @@ takeState f m l c (some g) =
     (Option·map (λ u. record { state = u; uses = c .uses ++ g .uses }) (f (c .state) (g .state)))
 
 -- mip first, then layer
-abbrev pub takeStates : (ℕ → ℕ → Option ℕ) → List (List History) → List (List (Option History)) → Stop SubresourceConflict (List (List History))
+abbrev pub takeStates : (ℕ → ℕ → Option ℕ) → List (List History) → List (List (Option History))
+    → Stop SubresourceConflict (List (List History))
 takeStates f = walk₂ (λ m. walk₂ (takeState f m) 0) 0
 
 -- the grid's merge, with the uses: a Single texture that conflicts takes none, a Many one those before the conflict
@@ -183,7 +187,8 @@ bare s = record { single = s .single; states = map (map (λ (c : ℕ). record { 
 -- as the grid's update
 abbrev pub historyUpdate : UsageFlags → Extent → Ends Histories → HandedIn → Ends Histories
 historyUpdate p sh e g =
-    let s = gridUpdate p sh (record { start = statesOf (e .start); end = statesOf (e .end) }) (named g) in record { start = bare (s .start); end = bare (s .end) }
+    let s = gridUpdate p sh (record { start = statesOf (e .start); end = statesOf (e .end) }) (named g) in
+    record { start = bare (s .start); end = bare (s .end) }
 
 -- a third representation: the grid, with the uses of each subresource of a scope
 abbrev pub histories : Representation

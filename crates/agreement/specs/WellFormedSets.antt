@@ -1,4 +1,5 @@
--- Well-formed sets of the ranged model, by model's tests of a scope and of a tracker (01: sound), and calls whose given state has sixteen bits.
+-- Well-formed sets of the ranged model, by model's tests of a scope and of a tracker (01: sound), and calls whose given state has sixteen
+-- bits.
 use Rattle.model.specs.Prelude.{ℕ, _<_, Bool, _&&_}
 use Rattle.model.specs.Base.{every}
 use Rattle.model.specs.Calls.{Sets, Call, callMergeSingle, callMergeUsageScope, callSetSingle, callSetFromUsageScope, callSetFromTracker}

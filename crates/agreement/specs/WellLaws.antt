@@ -46,10 +46,12 @@ pub record PairsW (p : UsageFlags) (sh : Extent) (a : Given) (b : Named) (c : Gi
   pub base : Pairs p sh a b c d
   pub from : NamedFit p (b .states)
   pub to : NamedFit p (d .states)
-  pub alike : unknowns (p .unknown) (map (map (namedOr (p .unknown))) (b .states)) ≡ unknowns (p .unknown) (map (map (namedOr (p .unknown))) (d .states))
+  pub alike : unknowns (p .unknown) (map (map (namedOr (p .unknown))) (b .states))
+      ≡ unknowns (p .unknown) (map (map (namedOr (p .unknown))) (d .states))
 
 -- checks 12 and 13, and the sixteen bits
-state-fits : (h : Head) (i : ℕ) (sh : Extent) (sel : Option Selector) (st : ℕ) → Word st → singleRefusal h i sh sel st ≡ none → StateFits (h .flags) st
+state-fits : (h : Head) (i : ℕ) (sh : Extent) (sel : Option Selector) (st : ℕ) → Word st → singleRefusal h i sh sel st ≡ none
+    → StateFits (h .flags) st
 state-fits h i sh sel st w e =
     let t = all-right _ (textureChecks h i sh ++ selectorChecks sh sel) (stateChecks (h .flags) st) (passed _ e) in
     let o = neither (eqb st 0 || meets st (h .flags .unknown)) (meets st (h .flags .complex)) (t .0) in
@@ -64,12 +66,32 @@ state-fits h i sh sel st w e =
 pub scopes-well : Textures ranged grid gridOf firstOf Word FitW GivesW
 scopes-well = record {
   fresh = scope-facts .fresh;
-  used = λ h i sh sel st s w e. record { sure = sure-flags (h .flags) s; base = scope-facts .used h i sh sel st s tt e; states = use-fits (h .flags) sh sel st (state-fits h i sh sel st w e) };
-  passed-on = λ p sh h f. record { sure = f .sure; base = scope-facts .passed-on p sh h (f .base); states = pass-fits p (gridOf sh h) (f .states) };
-  inserted = λ p sh g n r. let m = scope-facts .inserted p sh g n (r .base) in
-      (record { sure = r .sure; base = m .0; states = subst (λ (s : Grid). StatesFit p (s .states)) (sym (m .1)) (insert-fits p sh n (r .sure) (r .states)) }, m .1);
-  merged = λ p sh h g n r f. let m = scope-facts .merged p sh h g n (r .base) (f .base) in
-      (record { sure = r .sure; base = m .0; states = subst (λ (s : Grid). StatesFit p (s .states)) (sym (m .1 .0)) (merge-fits p sh (gridOf sh h) n (f .states) (r .states)) }, m .1);
+  used = λ h i sh sel st s w e.
+      record {
+        sure = sure-flags (h .flags) s;
+        base = scope-facts .used h i sh sel st s tt e;
+        states = use-fits (h .flags) sh sel st (state-fits h i sh sel st w e);
+      };
+  passed-on = λ p sh h f. record
+      { sure = f .sure; base = scope-facts .passed-on p sh h (f .base); states = pass-fits p (gridOf sh h) (f .states) };
+  inserted = λ p sh g n r. let m = scope-facts .inserted p sh g n (r .base) in (
+    record {
+      sure = r .sure;
+      base = m .0;
+      states = subst (λ (s : Grid). StatesFit p (s .states)) (sym (m .1))
+          (insert-fits p sh n (r .sure) (r .states));
+    },
+    m .1,
+  );
+  merged = λ p sh h g n r f. let m = scope-facts .merged p sh h g n (r .base) (f .base) in (
+    record {
+      sure = r .sure;
+      base = m .0;
+      states = subst (λ (s : Grid). StatesFit p (s .states)) (sym (m .1 .0))
+          (merge-fits p sh (gridOf sh h) n (f .states) (r .states));
+    },
+    m .1,
+  );
 }
 
 pub trackers-well : Tracks ranged grid gridOf Word FitW FitEW PairsW entriesAt gridAt
@@ -93,7 +115,8 @@ trackers-well = record {
       base = m .0;
       start = subst (λ (s : Grid). StatesFit p (s .states)) (sym (m .1)) (insert-fits p sh b (r .sure) (r .from));
       end = subst (λ (s : Grid). StatesFit p (s .states)) (sym (m .2)) (insert-fits p sh d (r .sure) (r .to));
-      alike = ap (λ (s : Grid). unknowns (p .unknown) (s .states)) (m .1) ∙ r .alike ∙ sym (ap (λ (s : Grid). unknowns (p .unknown) (s .states)) (m .2));
+      alike = ap (λ (s : Grid). unknowns (p .unknown) (s .states)) (m .1) ∙ r .alike
+          ∙ sym (ap (λ (s : Grid). unknowns (p .unknown) (s .states)) (m .2));
     },
     m .1,
     m .2,
@@ -102,9 +125,12 @@ trackers-well = record {
     record {
       sure = f .sure;
       base = m .0;
-      start = subst (λ (s : Ends Grid). StatesFit p (s .start .states)) (sym (m .1)) (update-start-fits p (gridOf sh (e .start) .states) (gridOf sh (e .end) .states) (d .states) (f .start) (f .end) (r .to));
-      end = subst (λ (s : Ends Grid). StatesFit p (s .end .states)) (sym (m .1)) (update-end-fits p (gridOf sh (e .end) .states) (d .states) (f .end) (r .to));
-      alike = ap (λ (s : Ends Grid). unknowns (p .unknown) (s .start .states)) (m .1) ∙ grid-alike p (gridOf sh (e .start) .states) (gridOf sh (e .end) .states) (d .states) (f .alike)
+      start = subst (λ (s : Ends Grid). StatesFit p (s .start .states)) (sym (m .1))
+          (update-start-fits p (gridOf sh (e .start) .states) (gridOf sh (e .end) .states) (d .states) (f .start) (f .end) (r .to));
+      end = subst (λ (s : Ends Grid). StatesFit p (s .end .states)) (sym (m .1)) (update-end-fits p (gridOf sh (e .end) .states) (d .states)
+          (f .end) (r .to));
+      alike = ap (λ (s : Ends Grid). unknowns (p .unknown) (s .start .states)) (m .1)
+          ∙ grid-alike p (gridOf sh (e .start) .states) (gridOf sh (e .end) .states) (d .states) (f .alike)
           ∙ sym (ap (λ (s : Ends Grid). unknowns (p .unknown) (s .end .states)) (m .1));
     },
     m .1,
@@ -116,7 +142,8 @@ trackers-well = record {
 states-of : (P : ℕ → Type 0) (s : List Range) → All (λ (r : Range). P (r .state)) s → All P (layerStates s)
 unfolding layerStates
 states-of P [] t = tt
-states-of P (r ∷ s) t = all-join P (replicate (r .end - r .start) (r .state)) _ (all-replicate P (r .state) (r .end - r .start) (t .0)) (states-of P s (t .1))
+states-of P (r ∷ s) t = all-join P (replicate (r .end - r .start) (r .state)) _ (all-replicate P (r .state) (r .end - r .start) (t .0))
+    (states-of P s (t .1))
 
 pub ranges-of : (P : ℕ → Type 0) (s : List Range) (a e : ℕ) → Tiles a s e → All P (layerStates s) → All (λ (r : Range). P (r .state)) s
 unfolding layerStates
@@ -126,11 +153,13 @@ ranges-of P (r ∷ s) a e t c = (
   ranges-of P s (r .end) e (t .2) (all-right P (replicate (r .end - r .start) (r .state)) (layerStates s) c),
 )
 
-mips-in : (p : UsageFlags) (w : ℕ) (ss : List (List Range)) → All (MipFits p w) ss → All (λ (s : List Range). Tiles 0 s w) ss × GridAll (StateFits p) (map layerStates ss)
+mips-in : (p : UsageFlags) (w : ℕ) (ss : List (List Range)) → All (MipFits p w) ss
+    → All (λ (s : List Range). Tiles 0 s w) ss × GridAll (StateFits p) (map layerStates ss)
 mips-in p w [] t = (tt, tt)
 mips-in p w (s ∷ ss) t = let ih = mips-in p w ss (t .1) in ((t .0 .tiles, ih .0), (states-of (StateFits p) s (t .0 .states), ih .1))
 
-mips-out : (p : UsageFlags) (w : ℕ) (ss : List (List Range)) → All (λ (s : List Range). Tiles 0 s w) ss → GridAll (StateFits p) (map layerStates ss) → All (MipFits p w) ss
+mips-out : (p : UsageFlags) (w : ℕ) (ss : List (List Range)) → All (λ (s : List Range). Tiles 0 s w) ss
+    → GridAll (StateFits p) (map layerStates ss) → All (MipFits p w) ss
 mips-out p w [] t c = tt
 mips-out p w (s ∷ ss) t c = (record { tiles = t .0; states = ranges-of (StateFits p) s 0 w (t .0) (c .0) }, mips-out p w ss (t .1) (c .1))
 
@@ -147,9 +176,15 @@ held-in p sh (many ss) s e f = let t = mips-in p (sh .layers) ss (f .1) in recor
   states = t .1;
 }
 
-held-out : (p : UsageFlags) (sh : Extent) (h : Held) → Measured sh → Fit sh h → ClearHeld p h → StatesFit p (gridOf sh h .states) → HeldFits p sh h
+held-out : (p : UsageFlags) (sh : Extent) (h : Held) → Measured sh → Fit sh h → ClearHeld p h → StatesFit p (gridOf sh h .states)
+    → HeldFits p sh h
 unfolding gridOf
-held-out p sh (single st) e f c t = record { state = first-of (StateFits p) st (sh .layers) (e .1) (first-of (All (StateFits p)) (replicate (sh .layers) st) (sh .mips) (e .0) t); known = c }
+held-out p sh (single st) e f c t =
+    record {
+      state = first-of (StateFits p) st (sh .layers) (e .1) (first-of (All (StateFits p)) (replicate (sh .layers) st) (sh .mips)
+          (e .0) t);
+      known = c;
+    }
 held-out p sh (many ss) e f c t = (f .1, mips-out p (sh .layers) ss (f .2) t)
 
 -- a grid whose UNKNOWN subresources are another's, which has none
@@ -169,7 +204,8 @@ known-grid u (x ∷ r) (y ∷ q) e t =
     let a : map (λ c. eqb c u) x ≡ map (λ c. eqb c u) y = cc in let b : unknowns u r ≡ unknowns u q = cc in
     (known-row u x y a (t .0), known-grid u r q b (t .1))
 
-known-end : (p : UsageFlags) (sh : Extent) (s : Held) (g : List (List ℕ)) → UnknownNonzero p → ClearHeld p s → unknowns (p .unknown) (gridOf sh s .states) ≡ unknowns (p .unknown) g → KnownEnd p s g
+known-end : (p : UsageFlags) (sh : Extent) (s : Held) (g : List (List ℕ)) → UnknownNonzero p → ClearHeld p s
+    → unknowns (p .unknown) (gridOf sh s .states) ≡ unknowns (p .unknown) g → KnownEnd p s g
 unfolding gridOf
 known-end p sh (single st) g s c e = known-grid (p .unknown) (everywhere sh st) g e
     (grid-everywhere (Known (p .unknown)) sh st (clear-known p st s c))
@@ -215,15 +251,20 @@ WellSets k = All WellScope (k .scopes) × All WellTracker (k .trackers)
 
 pub well-good : (k : Sets ranged) → SetsFit k → WellSets k
 well-good k w = (
-  all-weak (SetFits HeldFits) WellScope (λ s f. fits-weak HeldFits FitW s f (λ sh h x. held-in (s .flags) sh h (sure-flags (s .flags) (f .flags)) (x .mip, x .layer))) (k .scopes) (w .scopes),
+  all-weak (SetFits HeldFits) WellScope
+      (λ s f. fits-weak HeldFits FitW s f (λ sh h x. held-in (s .flags) sh h (sure-flags (s .flags) (f .flags)) (x .mip, x .layer)))
+      (k .scopes) (w .scopes),
   all-weak (λ (t : Tracker Held). SetFits EndsFit (t .set)) WellTracker
-      (λ t f. fits-weak EndsFit FitEW (t .set) f (λ sh e x. ends-in (t .set .flags) sh e (sure-flags (t .set .flags) (f .flags)) (x .mip, x .layer))) (k .trackers) (w .trackers),
+      (λ t f. fits-weak EndsFit FitEW (t .set) f (λ sh e x. ends-in (t .set .flags) sh e (sure-flags (t .set .flags) (f .flags))
+      (x .mip, x .layer))) (k .trackers) (w .trackers),
 )
 
 good-well : (k : Sets ranged) → WellSets k → SetsFit k
 good-well k g = record {
-  scopes = all-weak WellScope (SetFits HeldFits) (λ s f. fits-weak FitW HeldFits s f (λ sh h x. fit-out (s .flags) sh h (x .mip, x .layer))) (k .scopes) (g .0);
-  trackers = all-weak WellTracker (λ (t : Tracker Held). SetFits EndsFit (t .set)) (λ t f. fits-weak FitEW EndsFit (t .set) f (λ sh e x. ends-out (t .set .flags) sh e (x .mip, x .layer))) (k .trackers) (g .1);
+  scopes = all-weak WellScope (SetFits HeldFits) (λ s f. fits-weak FitW HeldFits s f (λ sh h x. fit-out (s .flags) sh h (x .mip, x .layer)))
+      (k .scopes) (g .0);
+  trackers = all-weak WellTracker (λ (t : Tracker Held). SetFits EndsFit (t .set))
+      (λ t f. fits-weak FitEW EndsFit (t .set) f (λ sh e x. ends-out (t .set .flags) sh e (x .mip, x .layer))) (k .trackers) (g .1);
 }
 
 words : (c : Call) → GivenWord c → Words Word Word c
@@ -240,10 +281,13 @@ all-words = all-weak GivenWord (Words Word Word) words
 -- each of the six calls, on any well-formed sets
 pub call-keeps-well-formed : (c : Call) (k : Sets ranged) → GivenWord c → SetsFit k → SetsFit (step ranged c k .after)
 call-keeps-well-formed c k w f =
-    good-well (step ranged c k .after) (stepped ranged grid gridOf firstOf Word Word FitW FitEW GivesW PairsW entriesAt gridAt scopes-well trackers-well c k (words c w) (well-good k f) .good)
+    good-well (step ranged c k .after) (stepped ranged grid gridOf firstOf Word Word FitW FitEW GivesW PairsW entriesAt gridAt scopes-well
+    trackers-well c k (words c w) (well-good k f) .good)
 
 pub opened-well-formed : (scopes trackers : List Opening) → SetsFit (newly ranged scopes trackers)
-opened-well-formed os ts = good-well (newly ranged os ts) (opened ranged grid gridOf firstOf Word Word FitW FitEW GivesW PairsW entriesAt gridAt scopes-well trackers-well os ts .0)
+opened-well-formed os ts =
+    good-well (newly ranged os ts) (opened ranged grid gridOf firstOf Word Word FitW FitEW GivesW PairsW entriesAt gridAt scopes-well
+    trackers-well os ts .0)
 
 -- one index that the sparse call takes from the scope, and the sets after it
 abbrev pub TakenW : Tracker Held → Set Held → ℕ → Type 0

@@ -22,7 +22,8 @@ module _ {t s e : List ℕ} {from to : ℕ} {g a b : List ℕ} (w : Joins t s e 
 
 -- ---- The entries are the model's
 -- an index that the tracker lacks is not owned by the given set
-not-past : {t s e : List ℕ} {from to : ℕ} {g a b : List ℕ} → Joins t s e from to g a b → (i : ℕ) → i < getD g texturesAt 0 → getD t texturesAt 0 ≤ i → ownedOf g i ≡ false
+not-past : {t s e : List ℕ} {from to : ℕ} {g a b : List ℕ} → Joins t s e from to g a b → (i : ℕ) → i < getD g texturesAt 0
+    → getD t texturesAt 0 ≤ i → ownedOf g i ≡ false
 not-past {g = g} w i h past = go (ownedOf g i) refl
   where
     go : (x : Bool) → ownedOf g i ≡ x → x ≡ false
@@ -31,12 +32,18 @@ not-past {g = g} w i h past = go (ownedOf g i) refl
 
 -- those of every index
 pub entries-model : {t s e : List ℕ} {from to : ℕ} {g a b : List ℕ} → Joins t s e from to g a b
-    → pending (eachAt₂ (logGiven ranged passStart passEnd (flagsOf t) (getD t maskAt 0)) 0 (trackerOf t s e .set .slots) (givenOf from to g a b .slots)) ≡ joinedEntries t e from g a
+    → pending (eachAt₂ (logGiven ranged passStart passEnd (flagsOf t) (getD t maskAt 0)) 0 (trackerOf t s e .set .slots)
+    (givenOf from to g a b .slots)) ≡ joinedEntries t e from g a
 unfolding trackerOf
 entries-model {t} {s} {e} {from} {to} {g} {a} {b} w =
-    each-list pendingOf (logGiven ranged passStart passEnd (flagsOf t) (getD t maskAt 0)) (trackerSlot t s e) (slotWith (pairOf from to g a b) g) (λ (i : ℕ). entriesAt i (givenEntries (flagsOf t) (getD t maskAt 0) t e from g a i)) (getD t texturesAt 0) (getD g texturesAt 0)
+    each-list pendingOf (logGiven ranged passStart passEnd (flagsOf t) (getD t maskAt 0)) (trackerSlot t s e)
+    (slotWith (pairOf from to g a b) g) (λ (i : ℕ). entriesAt i (givenEntries (flagsOf t) (getD t maskAt 0) t e from g a i))
+    (getD t texturesAt 0) (getD g texturesAt 0)
     (λ x h k. go x (ownedOf g x)) (λ x h k. rw (not-past w x k h))
   where
-    go : (x : ℕ) (o : Bool) → pending (if o then logSlot ranged (flagsOf t) (getD t maskAt 0) (extentOf g x) (givenAt from g a x) x (trackerSlot t s e x) else []) ≡ entriesAt x (if o then endEntries (flagsOf t) (getD t maskAt 0) (extentOf g x) (givenAt from g a x) t e x else [])
+    go : (x : ℕ) (o : Bool)
+        → pending (if o then logSlot ranged (flagsOf t) (getD t maskAt 0) (extentOf g x) (givenAt from g a x) x
+        (trackerSlot t s e x) else []) ≡ entriesAt x (if o then endEntries (flagsOf t) (getD t maskAt 0) (extentOf g x) (givenAt from g a x)
+        t e x else [])
     go x true = slot-pending (flagsOf t) (getD t maskAt 0) (extentOf g x) (givenAt from g a x) x (trackerSlot t s e x)
     go x false = refl

@@ -55,7 +55,6 @@ unfolding trackerOf
 setting-end {t} {s} {e} {from} {to} {g} {a} {b} {t′} {s′} {e′} p k f n q =
     let P : UsageFlags → ℕ → Type 0 = λ x m. Setting (within t (ownedBy g)) t s e (slotAfter x from to g a b) m t′ s′ e′ in
     let y : P (flagsOf t) (getD g texturesAt 0) = subst (P (flagsOf t)) n (subst (λ (x : UsageFlags). P x k) f q) in
-    let G = slotWith (pairOf from to g a b) g in
-    let F = setGiven ranged passStart passEnd (flagsOf t) in
+    let G = slotWith (pairOf from to g a b) g in let F = setGiven ranged passStart passEnd (flagsOf t) in
     let slots = over-end F (trackerSlot t s e) (slotsBy t t′ s′ e′) G _ (getD g texturesAt 0) (y .slots) in
     record { view = walked-view (q .frame) ∙ ap (withTracker (trackerOf t s e)) slots; frame = q .frame }

@@ -6,7 +6,8 @@ use Rattle.texture_track.specs.Tracked.{TrackerCall}
 
 -- `set_from_usage_scope`
 abbrev pub SetFromUsageScope : LentTracker → LentScope → LogHead → List ℕ → Answered → LentTracker → List ℕ → Type 0
-SetFromUsageScope t g = TrackerCall (ownedBy (g .table)) (trackerTest t && scopeTest g) (setFromUsageScope ranged (trackerIn t) (scopeIn g)) t
+SetFromUsageScope t g = TrackerCall (ownedBy (g .table)) (trackerTest t && scopeTest g) (setFromUsageScope ranged (trackerIn t) (scopeIn g))
+    t
 
 -- `set_from_tracker`
 abbrev pub SetFromTracker : LentTracker → LentTracker → LogHead → List ℕ → Answered → LentTracker → List ℕ → Type 0

@@ -27,7 +27,8 @@ pub record GivenTested (from to : ℕ) (g a b : List ℕ) : Type 0 where
 -- a scope's states are both
 pub scope-given : {g r : List ℕ} → ScopeTested g r → GivenTested startHalf startHalf g r r
 scope-given {g} {r} q =
-    let held : (i : ℕ) → i < getD g texturesAt 0 → ownedOf g i ≡ true → HalfFits startHalf g r i = λ i h o. let f = q .slots i h in half-fits startHalf g r i (f .extent o .mips) (f .held o) in
+    let held : (i : ℕ) → i < getD g texturesAt 0 → ownedOf g i ≡ true → HalfFits startHalf g r i = λ i h o. let f = q .slots i h in
+    half-fits startHalf g r i (f .extent o .mips) (f .held o) in
     record { start = q .measured; end = q .measured; extent = λ i h o. q .slots i h .extent o; start-held = held; end-held = held }
 
 -- a tracker's start and end
@@ -51,11 +52,25 @@ module _ {t s e : List ℕ} {from to : ℕ} {g a b : List ℕ} (w : Joins t s e 
   module _ (u : List ℕ) (same : flagsOf u ≡ flagsOf t) (i : ℕ) (h : i < getD g texturesAt 0) (o : ownedOf g i ≡ true) where
     -- as start
     pub start-given : HalfGiven u i (extentOf g i) from g a
-    start-given = record { measured = w .given .start; texture = h; flags = w .passed .flags ∙ sym same; extent = refl; fits = w .given .extent i h o; held = w .given .start-held i h o }
+    start-given = record {
+      measured = w .given .start;
+      texture = h;
+      flags = w .passed .flags ∙ sym same;
+      extent = refl;
+      fits = w .given .extent i h o;
+      held = w .given .start-held i h o;
+    }
 
     -- as end
     pub end-given : HalfGiven u i (extentOf g i) to g b
-    end-given = record { measured = w .given .end; texture = h; flags = w .passed .flags ∙ sym same; extent = refl; fits = w .given .extent i h o; held = w .given .end-held i h o }
+    end-given = record {
+      measured = w .given .end;
+      texture = h;
+      flags = w .passed .flags ∙ sym same;
+      extent = refl;
+      fits = w .given .extent i h o;
+      held = w .given .end-held i h o;
+    }
 
 -- ---- The transitions: every index is ready
 -- what is asked for
@@ -74,7 +89,8 @@ joinedEntries t e from g a = entriesTo (flagsOf t) (getD t maskAt 0) t e from g 
 -- ---- The change: THE VIEW after it is the model's
 -- the slots that the model makes
 abbrev pub slotsAfter : List ℕ → List ℕ → List ℕ → ℕ → ℕ → List ℕ → List ℕ → List ℕ → List (Slot (Ends Held))
-slotsAfter t s e from to g a b = over₂ (setGiven ranged passStart passEnd (flagsOf t)) 0 (trackerOf t s e .set .slots) (givenOf from to g a b .slots)
+slotsAfter t s e from to g a b = over₂ (setGiven ranged passStart passEnd (flagsOf t)) 0 (trackerOf t s e .set .slots)
+    (givenOf from to g a b .slots)
 
 -- the tracker that it leaves
 abbrev pub joinedTracker : List ℕ → List ℕ → List ℕ → ℕ → ℕ → List ℕ → List ℕ → List ℕ → Tracker Held

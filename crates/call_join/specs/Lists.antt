@@ -6,14 +6,17 @@ use Rattle.log_head.specs.UpTo.{upTo}
 
 -- ---- Where the second list is of another kind
 -- `over₂`
-pub over-same : {A B D : Type 0} (f : ℕ → A → B → A) (g : ℕ → A → D → A) (F : ℕ → B) (G : ℕ → D) → ((x : ℕ) (y : A) → f x y (F x) ≡ g x y (G x)) → (s : List A) (k n : ℕ) → over₂ f k s (listFrom F k n) ≡ over₂ g k s (listFrom G k n)
+pub over-same : {A B D : Type 0} (f : ℕ → A → B → A) (g : ℕ → A → D → A) (F : ℕ → B) (G : ℕ → D)
+    → ((x : ℕ) (y : A) → f x y (F x) ≡ g x y (G x)) → (s : List A) (k n : ℕ) → over₂ f k s (listFrom F k n) ≡ over₂ g k s (listFrom G k n)
 unfolding listFrom
 over-same f g F G e [] k n = refl
 over-same f g F G e (y ∷ s) k zero = refl
 over-same f g F G e (y ∷ s) k (suc n) = rw (e k y, over-same f g F G e s (suc k) n)
 
 -- `eachAt₂`
-pub each-same : {A B D E : Type 0} (f : ℕ → A → B → List E) (g : ℕ → A → D → List E) (F : ℕ → B) (G : ℕ → D) → ((x : ℕ) (y : A) → f x y (F x) ≡ g x y (G x)) → (s : List A) (k n : ℕ) → eachAt₂ f k s (listFrom F k n) ≡ eachAt₂ g k s (listFrom G k n)
+pub each-same : {A B D E : Type 0} (f : ℕ → A → B → List E) (g : ℕ → A → D → List E) (F : ℕ → B) (G : ℕ → D)
+    → ((x : ℕ) (y : A) → f x y (F x) ≡ g x y (G x)) → (s : List A) (k n : ℕ)
+    → eachAt₂ f k s (listFrom F k n) ≡ eachAt₂ g k s (listFrom G k n)
 unfolding listFrom
 each-same f g F G e [] k n = refl
 each-same f g F G e (y ∷ s) k zero = refl
@@ -36,7 +39,8 @@ module _ {A : Type 0} (h : ℕ → List A) where
   all-last k zero = let e : k ≡ k + 0 = omega arith in append-nil (h k) ∙ ap h e
   all-last k (suc n) =
       let e : suc k + n ≡ k + suc n = omega arith in
-      ap (λ (y : List A). h k ++ y) (all-last (suc k) n) ∙ sym (append-assoc (h k) (allFrom h (suc k) n) (h (suc k + n))) ∙ ap (λ (x : ℕ). (h k ++ allFrom h (suc k) n) ++ h x) e
+      ap (λ (y : List A). h k ++ y) (all-last (suc k) n) ∙ sym (append-assoc (h k) (allFrom h (suc k) n) (h (suc k + n)))
+      ∙ ap (λ (x : ℕ). (h k ++ allFrom h (suc k) n) ++ h x) e
 
   all-up : (n : ℕ) → allFrom h 0 n ≡ upTo h n
   unfolding allFrom upTo
@@ -44,14 +48,19 @@ module _ {A : Type 0} (h : ℕ → List A) where
   all-up (suc n) = let e : 0 + n ≡ n = omega arith in all-last 0 n ∙ rw (e, all-up n)
 
 module _ {A B D E : Type 0} (r : D → List E) (f : ℕ → A → B → List D) (F : ℕ → A) (G : ℕ → B) (h : ℕ → List E) where
-  each-from : (k n m : ℕ) → ((x : ℕ) → k ≤ x → x < k + n → x < k + m → each r (f x (F x) (G x)) ≡ h x) → ((x : ℕ) → k + n ≤ x → x < k + m → h x ≡ [])
+  each-from : (k n m : ℕ) → ((x : ℕ) → k ≤ x → x < k + n → x < k + m → each r (f x (F x) (G x)) ≡ h x)
+      → ((x : ℕ) → k + n ≤ x → x < k + m → h x ≡ [])
       → each r (eachAt₂ f k (listFrom F k n) (listFrom G k m)) ≡ allFrom h k m
   unfolding listFrom allFrom
   each-from k zero m a b = sym (all-none h k m (λ x p q. b x (omega arith) (omega arith)))
   each-from k (suc n) zero a b = refl
   each-from k (suc n) (suc m) a b =
       each-append r (f k (F k) (G k)) (eachAt₂ f (suc k) (listFrom F (suc k) n) (listFrom G (suc k) m))
-      ∙ rw (a k (omega arith) (omega arith) (omega arith), each-from (suc k) n m (λ x p q w. a x (omega arith) (omega arith) (omega arith)) (λ x p q. b x (omega arith) (omega arith)))
+      ∙ rw (
+        a k (omega arith) (omega arith) (omega arith),
+        each-from (suc k) n m (λ x p q w. a x (omega arith) (omega arith) (omega arith))
+            (λ x p q. b x (omega arith) (omega arith)),
+      )
 
   -- where the first list ends, h makes nothing
   pub each-list : (n m : ℕ) → ((x : ℕ) → x < n → x < m → each r (f x (F x) (G x)) ≡ h x) → ((x : ℕ) → n ≤ x → x < m → h x ≡ [])

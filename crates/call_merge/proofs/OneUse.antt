@@ -8,7 +8,7 @@ use Rattle.model.specs.Calls.{Indexed, CallResult, answer, turnedAway, unless, 
 use Rattle.model.specs.{Log.{isRefused, outcomeOf, merging}, Texture.{Held, single, Entry, fromUse, ranged}}
 use Rattle.set_storage.specs.{Storage.{flagsOf, scopeOf, startHalf, texturesAt, scopeSlot}, Stays.{only, keeps-refl, keeps-more}}
 use Rattle.set_storage.specs.Lists.{list-at}
-use Rattle.texture_merge.specs.declared.Stopped.{Stopped}
+use Rattle.texture_merge.specs.declared.{Stopped.Stopped}
 use Rattle.set_checks.specs.Head.{selectorOf, useRefusal, scope-head, UseTold}
 use Rattle.set_checks.specs.Passed.{StatePassed, use-passed, texture-passed, state-passed}
 use Rattle.set_ready.specs.{Tested.ScopeTested, Half.{HalfReady, scope-texture}, Named.within, Checked.TakenUse}
@@ -111,4 +111,9 @@ module _ {t : List ℕ} {i : ℕ} {sh : Extent} {s : Selection} {st : ℕ} (z : 
   pub single-use : {u : Use} {p : UsageFlags} → UseIs sh s u → p ≡ flagsOf t → TakenUse t sh (u .all) (u .selector) p st
   single-use {u} {p} y e =
       let a = use-passed t i sh s st (z .is) in let x = texture-passed t i sh (a .0) in
-      record { flags = e; selector = y .passed (x .mip) (x .some) (a .1 .0); whole = y .whole; state = subst (λ (f : UsageFlags). StatePassed f st) (sym e) (state-passed (flagsOf t) st (a .1 .1)) }
+      record {
+        flags = e;
+        selector = y .passed (x .mip) (x .some) (a .1 .0);
+        whole = y .whole;
+        state = subst (λ (f : UsageFlags). StatePassed f st) (sym e) (state-passed (flagsOf t) st (a .1 .1));
+      }

@@ -62,7 +62,8 @@ module _ {p : UsageFlags} {t₀ r₀ g l : List ℕ} {k : ℕ} {t r : List ℕ} 
         (record { index = omega (arith, few); ready = slot-now; given = given-now }, q .flags ∙ sym (flags-stay keeps))
 
     -- ---- After a lap
-    module _ {x : Stopped} {t′ r′ : List ℕ} (y : SlotMerged (onlyOwned g k) t r k (mergeGiven ranged p k (scopeSlot t r k) (scopeSlot g l k)) x t′ r′) where
+    module _ {x : Stopped} {t′ r′ : List ℕ}
+        (y : SlotMerged (onlyOwned g k) t r k (mergeGiven ranged p k (scopeSlot t r k) (scopeSlot g l k)) x t′ r′) where
       -- what it changed is of an index that the given scope owns
       frame-now : ScopeFrame (ownedBy g) (numbersOf t₀) t₀ r₀ t′ r′
       frame-now =
@@ -99,5 +100,6 @@ module _ {p : UsageFlags} {t₀ r₀ g l : List ℕ} {k : ℕ} {t r : List ℕ} 
       unfolding scopeOf
       stop {c} e =
           let b = q .passed .each k h (is-owned (ownedOf g k) refl e) .texture in
-          let w = walk-stop (mergeGiven ranged p) (scopeSlot t₀ r₀) (scopeSlot t′ r′) (scopeSlot g l) (m .slots) b h others (rw e at this) in
+          let w = walk-stop (mergeGiven ranged p) (scopeSlot t₀ r₀) (scopeSlot t′ r′) (scopeSlot g l) (m .slots) b h others
+          (rw e at this) in
           walk-gives w frame-now

@@ -9,7 +9,8 @@ use Rattle.set_ready.specs.Named.{within}
 -- names. All that is lent stays but the words and the ranges of those: "More room is ignored". Free, and in no view, is only what is
 -- unused inside them: which nonzero number marks one as owned, the counts and the ranges of a Single texture, counts and ranges of mips
 -- that it does not have, and the ranges past a count.
-pub record Merged (named : ℕ → Type 0) (fits : Bool) (m : CallResult InvalidUse (List Entry) (Set Held)) (t r : List ℕ) (x : Outcome) (t′ r′ : List ℕ) : Type 0 where
+pub record Merged (named : ℕ → Type 0) (fits : Bool) (m : CallResult InvalidUse (List Entry) (Set Held)) (t r : List ℕ) (x : Outcome)
+    (t′ r′ : List ℕ) : Type 0 where
   pub answer : x ≡ outcomeOf ((merging fits (scopeOf t r) m) .answer)
   pub view : scopeOf t′ r′ ≡ (merging fits (scopeOf t r) m) .after
   -- "Everything lent stays."

@@ -18,7 +18,8 @@ pub record SlotsReady (t r g l : List ℕ) (p : UsageFlags) : Type 0 where
   pub flags : p ≡ flagsOf t
 
 -- THE CONTRACT: the textures become what the model's walk gives, its conflict is told, and all but the named ones stay
-pub record SlotsMerged (named : ℕ → Type 0) (w : Stop (Indexed InvalidUse) (List (Slot Held))) (t r : List ℕ) (x : Outcome) (t′ r′ : List ℕ) : Type 0 where
+pub record SlotsMerged (named : ℕ → Type 0) (w : Stop (Indexed InvalidUse) (List (Slot Held))) (t r : List ℕ) (x : Outcome)
+    (t′ r′ : List ℕ) : Type 0 where
   pub answer : x ≡ outcomeOf (answer (w .conflict))
   pub view : scopeOf t′ r′ ≡ withSlots (scopeOf t r) (w .value)
   pub frame : ScopeFrame named (numbersOf t) t r t′ r′

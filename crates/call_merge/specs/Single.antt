@@ -16,7 +16,16 @@ pub record UseIs (sh : Extent) (s : Selection) (u : Use) : Type 0 where
 
 -- all of it
 pub full-use : (sh : Extent) → UseIs sh Full (record { all = true; selector = full sh })
-full-use sh = record { given = λ st. refl; whole = λ e. refl; passed = λ a b e. record { order = a; span = b; in-mips = omega arith; in-layers = omega arith } }
+full-use sh = record {
+  given = λ st. refl;
+  whole = λ e. refl;
+  passed = λ a b e. record {
+    order = a;
+    span = b;
+    in-mips = omega arith;
+    in-layers = omega arith;
+  };
+}
 
 -- or a part
 pub part-use : (sh : Extent) (q : Selector) (b : Bool) → b ≡ isFull sh q → UseIs sh (Part q) (record { all = b; selector = q })

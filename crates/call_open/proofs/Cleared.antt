@@ -19,7 +19,8 @@ module _ (l : List ℕ) (u k : ℕ) where
   at-long = simp length-set
 
   -- a word that is none of the five
-  at-other : (x : ℕ) → (x ≡ ownedAt k → ⊥) → (x ≡ mipsAt k → ⊥) → (x ≡ layersAt k → ⊥) → (x ≡ stateAt startHalf k → ⊥) → (x ≡ stateAt endHalf k → ⊥) → getD (clearedAt l u k) x 0 ≡ getD l x 0
+  at-other : (x : ℕ) → (x ≡ ownedAt k → ⊥) → (x ≡ mipsAt k → ⊥) → (x ≡ layersAt k → ⊥) → (x ≡ stateAt startHalf k → ⊥)
+      → (x ≡ stateAt endHalf k → ⊥) → getD (clearedAt l u k) x 0 ≡ getD l x 0
   at-other x a b c d e =
       getD-set-other (set (set (set (set l (ownedAt k) 0) (mipsAt k) 0) (layersAt k) 0) (stateAt startHalf k) u) (stateAt endHalf k) x u 0 e
       ∙ getD-set-other (set (set (set l (ownedAt k) 0) (mipsAt k) 0) (layersAt k) 0) (stateAt startHalf k) x u 0 d
@@ -29,30 +30,37 @@ module _ (l : List ℕ) (u k : ℕ) where
 
   module _ (h : k < 64) (n : length l ≡ tableLength) where
     at-end : getD (clearedAt l u k) (stateAt endHalf k) 0 ≡ u
-    at-end = getD-set-same (set (set (set (set l (ownedAt k) 0) (mipsAt k) 0) (layersAt k) 0) (stateAt startHalf k) u) (stateAt endHalf k) u 0 (simp length-set (omega arith))
+    at-end = getD-set-same (set (set (set (set l (ownedAt k) 0) (mipsAt k) 0) (layersAt k) 0) (stateAt startHalf k) u) (stateAt endHalf k) u
+        0 (simp length-set (omega arith))
 
     at-start : getD (clearedAt l u k) (stateAt startHalf k) 0 ≡ u
     at-start =
-        getD-set-other (set (set (set (set l (ownedAt k) 0) (mipsAt k) 0) (layersAt k) 0) (stateAt startHalf k) u) (stateAt endHalf k) (stateAt startHalf k) u 0 (λ z. omega arith)
-        ∙ getD-set-same (set (set (set l (ownedAt k) 0) (mipsAt k) 0) (layersAt k) 0) (stateAt startHalf k) u 0 (simp length-set (omega arith))
+        getD-set-other (set (set (set (set l (ownedAt k) 0) (mipsAt k) 0) (layersAt k) 0) (stateAt startHalf k) u) (stateAt endHalf k)
+        (stateAt startHalf k) u 0 (λ z. omega arith)
+        ∙ getD-set-same (set (set (set l (ownedAt k) 0) (mipsAt k) 0) (layersAt k) 0) (stateAt startHalf k) u 0 (simp length-set
+        (omega arith))
 
     -- the words of ownership and extent: the halves' words are written after them
     low : (x : ℕ) → x < startHalf → getD (clearedAt l u k) x 0 ≡ getD (set (set (set l (ownedAt k) 0) (mipsAt k) 0) (layersAt k) 0) x 0
     low x q =
-        getD-set-other (set (set (set (set l (ownedAt k) 0) (mipsAt k) 0) (layersAt k) 0) (stateAt startHalf k) u) (stateAt endHalf k) x u 0 (λ z. omega arith)
+        getD-set-other (set (set (set (set l (ownedAt k) 0) (mipsAt k) 0) (layersAt k) 0) (stateAt startHalf k) u) (stateAt endHalf k) x u 0
+        (λ z. omega arith)
         ∙ getD-set-other (set (set (set l (ownedAt k) 0) (mipsAt k) 0) (layersAt k) 0) (stateAt startHalf k) x u 0 (λ z. omega arith)
 
     at-layers : getD (clearedAt l u k) (layersAt k) 0 ≡ 0
-    at-layers = low (layersAt k) (omega arith) ∙ getD-set-same (set (set l (ownedAt k) 0) (mipsAt k) 0) (layersAt k) 0 0 (simp length-set (omega arith))
+    at-layers = low (layersAt k) (omega arith)
+        ∙ getD-set-same (set (set l (ownedAt k) 0) (mipsAt k) 0) (layersAt k) 0 0 (simp length-set (omega arith))
 
     at-mips : getD (clearedAt l u k) (mipsAt k) 0 ≡ 0
     at-mips =
-        low (mipsAt k) (omega arith) ∙ getD-set-other (set (set l (ownedAt k) 0) (mipsAt k) 0) (layersAt k) (mipsAt k) 0 0 (λ z. omega arith)
+        low (mipsAt k) (omega arith) ∙ getD-set-other (set (set l (ownedAt k) 0) (mipsAt k) 0) (layersAt k) (mipsAt k) 0 0 (λ z.
+        omega arith)
         ∙ getD-set-same (set l (ownedAt k) 0) (mipsAt k) 0 0 (simp length-set (omega arith))
 
     at-owned : getD (clearedAt l u k) (ownedAt k) 0 ≡ 0
     at-owned =
-        low (ownedAt k) (omega arith) ∙ getD-set-other (set (set l (ownedAt k) 0) (mipsAt k) 0) (layersAt k) (ownedAt k) 0 0 (λ z. omega arith)
+        low (ownedAt k) (omega arith) ∙ getD-set-other (set (set l (ownedAt k) 0) (mipsAt k) 0) (layersAt k) (ownedAt k) 0 0 (λ z.
+        omega arith)
         ∙ getD-set-other (set l (ownedAt k) 0) (mipsAt k) (ownedAt k) 0 0 (λ z. omega arith) ∙ getD-set-same l (ownedAt k) 0 0 (omega arith)
 
 -- ---- all of them
@@ -65,7 +73,8 @@ cleared-long t u (suc k) = at-long (cleared t u k) u k ∙ cleared-long t u k
 cleared-head : (t : List ℕ) (u n x : ℕ) → x < ownedAt 0 → getD (cleared t u n) x 0 ≡ getD t x 0
 unfolding cleared
 cleared-head t u zero x h = refl
-cleared-head t u (suc k) x h = at-other (cleared t u k) u k x (λ z. omega arith) (λ z. omega arith) (λ z. omega arith) (λ z. omega arith) (λ z. omega arith) ∙ cleared-head t u k x h
+cleared-head t u (suc k) x h = at-other (cleared t u k) u k x (λ z. omega arith) (λ z. omega arith) (λ z. omega arith) (λ z.
+    omega arith) (λ z. omega arith) ∙ cleared-head t u k x h
 
 -- one of an index's five words, which those of another index do not meet
 module _ (t : List ℕ) (u v : ℕ) (at : ℕ → ℕ) (long : length t ≡ tableLength)
@@ -77,7 +86,8 @@ module _ (t : List ℕ) (u v : ℕ) (at : ℕ → ℕ) (long : length t ≡ tabl
   cleared-word (suc k) i m h =
       by-eq i k
       (λ e. rw e (here (cleared t u k) k (omega arith) (cleared-long t u k ∙ long)))
-      (λ ne. far (cleared t u k) k i (omega arith) (omega arith) ne ∙ cleared-word k i (omega arith) (by-lt i k (λ q. q) (λ q. absurd (ne (omega arith)))))
+      (λ ne. far (cleared t u k) k i (omega arith) (omega arith) ne
+      ∙ cleared-word k i (omega arith) (by-lt i k (λ q. q) (λ q. absurd (ne (omega arith)))))
 
 -- ---- the flags that fit have UNINITIALIZED apart from COMPLEX
 fourth : (a b c d e f g h : Bool) → a && b && c && d && e && f && g && h ≡ true → d ≡ true
@@ -86,7 +96,8 @@ fourth a b c d e f g h q = and-right (a && b && c) d (and-left _ e (and-left _ f
 flags-apart : (p : UsageFlags) → flagsFit p ≡ true → p .uninitialized ≡ p .complex → ⊥
 unfolding flagsFit
 flags-apart p e z =
-    let differ = fourth (ltb (p .exclusive) 65536) (isBit (p .uninitialized)) (isBit (p .complex)) (not (eqb (p .uninitialized) (p .complex)))
+    let differ = fourth (ltb (p .exclusive) 65536) (isBit (p .uninitialized)) (isBit (p .complex))
+    (not (eqb (p .uninitialized) (p .complex)))
     (not (eqb (p .uninitialized) (p .unknown))) (not (eqb (p .complex) (p .unknown))) (not (meets (p .complex) (p .exclusive)))
     (not (meets (p .unknown) (p .exclusive))) (and-right (isBit (p .unknown)) (apart p) e) in
     false≢true (rw (eq-eqb (p .uninitialized) (p .complex) z) at differ)
@@ -129,31 +140,38 @@ module _ (t : List ℕ) (n m w : ℕ) (p : UsageFlags) (mask : ℕ) (long : leng
   module _ (i : ℕ) (q : i < n) where
     owned-at : getD t′ (ownedAt i) 0 ≡ 0
     owned-at = cleared-word h (p .uninitialized) 0 ownedAt head-long (λ l k a b. at-owned l (p .uninitialized) k a b)
-        (λ l k j a b ne. at-other l (p .uninitialized) k (ownedAt j) (λ z. ne (omega arith)) (λ z. omega arith) (λ z. omega arith) (λ z. omega arith) (λ z. omega arith)) n i few q
+        (λ l k j a b ne. at-other l (p .uninitialized) k (ownedAt j) (λ z. ne (omega arith)) (λ z. omega arith) (λ z. omega arith)
+        (λ z. omega arith) (λ z. omega arith)) n i few q
 
     mips-at : getD t′ (mipsAt i) 0 ≡ 0
     mips-at = cleared-word h (p .uninitialized) 0 mipsAt head-long (λ l k a b. at-mips l (p .uninitialized) k a b)
-        (λ l k j a b ne. at-other l (p .uninitialized) k (mipsAt j) (λ z. omega arith) (λ z. ne (omega arith)) (λ z. omega arith) (λ z. omega arith) (λ z. omega arith)) n i few q
+        (λ l k j a b ne. at-other l (p .uninitialized) k (mipsAt j) (λ z. omega arith) (λ z. ne (omega arith)) (λ z. omega arith)
+        (λ z. omega arith) (λ z. omega arith)) n i few q
 
     layers-at : getD t′ (layersAt i) 0 ≡ 0
     layers-at = cleared-word h (p .uninitialized) 0 layersAt head-long (λ l k a b. at-layers l (p .uninitialized) k a b)
-        (λ l k j a b ne. at-other l (p .uninitialized) k (layersAt j) (λ z. omega arith) (λ z. omega arith) (λ z. ne (omega arith)) (λ z. omega arith) (λ z. omega arith)) n i few q
+        (λ l k j a b ne. at-other l (p .uninitialized) k (layersAt j) (λ z. omega arith) (λ z. omega arith) (λ z. ne (omega arith))
+        (λ z. omega arith) (λ z. omega arith)) n i few q
 
     start-at : getD t′ (stateAt startHalf i) 0 ≡ p .uninitialized
     start-at = cleared-word h (p .uninitialized) _ (stateAt startHalf) head-long (λ l k a b. at-start l (p .uninitialized) k a b)
-        (λ l k j a b ne. at-other l (p .uninitialized) k (stateAt startHalf j) (λ z. omega arith) (λ z. omega arith) (λ z. omega arith) (λ z. ne (omega arith)) (λ z. omega arith)) n i few q
+        (λ l k j a b ne. at-other l (p .uninitialized) k (stateAt startHalf j) (λ z. omega arith) (λ z. omega arith) (λ z. omega arith)
+        (λ z. ne (omega arith)) (λ z. omega arith)) n i few q
 
     end-at : getD t′ (stateAt endHalf i) 0 ≡ p .uninitialized
     end-at = cleared-word h (p .uninitialized) _ (stateAt endHalf) head-long (λ l k a b. at-end l (p .uninitialized) k a b)
-        (λ l k j a b ne. at-other l (p .uninitialized) k (stateAt endHalf j) (λ z. omega arith) (λ z. omega arith) (λ z. omega arith) (λ z. omega arith) (λ z. ne (omega arith))) n i few q
+        (λ l k j a b ne. at-other l (p .uninitialized) k (stateAt endHalf j) (λ z. omega arith) (λ z. omega arith) (λ z. omega arith)
+        (λ z. omega arith) (λ z. ne (omega arith))) n i few q
 
     -- a half whose word is UNINITIALIZED
     held-at : (b : ℕ) (r : List ℕ) → getD t′ (stateAt b i) 0 ≡ p .uninitialized → heldOf d b t′ r i ≡ single (p .uninitialized)
     held-at b r e = held-single d b t′ r i (λ z. flags-apart p fit (sym e ∙ z ∙ word complexAt _ (omega arith) refl)) ∙ ap single e
 
-  slots-are : {H : Type 0} (held : ℕ → H) (x : H) → ((i : ℕ) → i < n → held i ≡ x) → listFrom (slotWith held t′) 0 n ≡ replicate n (emptySlot x)
+  slots-are : {H : Type 0} (held : ℕ → H) (x : H) → ((i : ℕ) → i < n → held i ≡ x)
+      → listFrom (slotWith held t′) 0 n ≡ replicate n (emptySlot x)
   slots-are held x e =
-      ext-getD (emptySlot x) (listFrom (slotWith held t′) 0 n) (replicate n (emptySlot x)) (list-long (slotWith held t′) 0 n ∙ sym (length-replicate n (emptySlot x)))
+      ext-getD (emptySlot x) (listFrom (slotWith held t′) 0 n) (replicate n (emptySlot x)) (list-long (slotWith held t′) 0 n
+      ∙ sym (length-replicate n (emptySlot x)))
       (λ i l. let q : i < n = omega (arith, list-long (slotWith held t′) 0 n) in
       let y : slotWith held t′ i ≡ emptySlot x = rw (owned-at i q, mips-at i q, layers-at i q, e i q) in
       list-at (slotWith held t′) n i (emptySlot x) q ∙ y ∙ sym (getD-replicate n i (emptySlot x) (emptySlot x) q))
@@ -208,6 +226,7 @@ module _ {t t′ : List ℕ} {n m w : ℕ} {p : UsageFlags} {mask room : ℕ} {x
   opened-tracker s e = rw written (tracker-opened t n m w p mask (b .long) (opened-few _ o) (opened-fits _ o) s e room)
 
 -- the mask is not looked at
-pub any-mask : (n m w : ℕ) (p : UsageFlags) (mask room : ℕ) → openingRefusal (asked n m w p 0 room) ≡ openingRefusal (asked n m w p mask room)
+pub any-mask : (n m w : ℕ) (p : UsageFlags) (mask room : ℕ)
+    → openingRefusal (asked n m w p 0 room) ≡ openingRefusal (asked n m w p mask room)
 unfolding openingRefusal firstFailing
 any-mask n m w p mask room = refl

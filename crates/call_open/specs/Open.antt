@@ -34,5 +34,7 @@ pub record OpenedScope (t r : List ℕ) (n m w : ℕ) (p : UsageFlags) (x : Outc
 -- a tracker's room is that of its start or of its end, whichever is less
 pub record OpenedTracker (t s e : List ℕ) (n m w : ℕ) (p : UsageFlags) (mask : ℕ) (x : Outcome) (t′ : List ℕ) : Type 0 where
   pub answer : x ≡ verdict (openingRefusal (asked n m w p mask (min (length s / 3) (length e / 3))))
-  pub content : t′ ≡ (if opens (asked n m w p mask (min (length s / 3) (length e / 3))) then cleared (headed t n m w p mask) (p .uninitialized) n else t)
-  pub view : opens (asked n m w p mask (min (length s / 3) (length e / 3))) ≡ true → trackerOf t′ s e ≡ openTracker single (asked n m w p mask (min (length s / 3) (length e / 3)))
+  pub content : t′ ≡ (if opens (asked n m w p mask (min (length s / 3) (length e / 3))) then cleared (headed t n m w p mask)
+      (p .uninitialized) n else t)
+  pub view : opens (asked n m w p mask (min (length s / 3) (length e / 3))) ≡ true
+      → trackerOf t′ s e ≡ openTracker single (asked n m w p mask (min (length s / 3) (length e / 3)))

@@ -19,8 +19,13 @@ use Rattle.model.specs.declared.Verdict.the-variants as verdict
 -- ---- `remove_checked`
 module _ {t s e g r is l : List ℕ} {h : LogHead} where
   -- 15
-  pub none-removed : h .free < length (removedEntries t e g r is) → Removes is (removedEntries t e g r is) (setsAfter t s e g r is) h t s e g r l (refusedWith NoFreeEntry h) t s e g l
-  none-removed k = record { change = not-enough refl (refl, (refl, (refl, refl))) k; gone = λ q. absurd (omega arith); frame = both-refl t s e }
+  pub none-removed : h .free < length (removedEntries t e g r is)
+      → Removes is (removedEntries t e g r is) (setsAfter t s e g r is) h t s e g r l (refusedWith NoFreeEntry h) t s e g l
+  none-removed k = record {
+    change = not-enough refl (refl, (refl, (refl, refl))) k;
+    gone = λ q. absurd (omega arith);
+    frame = both-refl t s e;
+  }
 
   -- written, and the textures changed
   pub all-removed : {k : ℕ} {t′ s′ e′ g′ l₂ : List ℕ} → Wrote (removedEntries t e g r is) h l k l₂ → Takes t s e g r is t′ s′ e′ g′
@@ -32,9 +37,11 @@ abbrev BothResult : Type 0
 BothResult = CallResult InvalidUse (List Entry) Both
 
 -- by what its checks tell
-call-is : (t s e g r is : List ℕ) (o : Option Refusal) → sparseRefusal (headIn t) (headIn g) is ≡ o → setAndRemoveSparse ranged (trackerOf t s e) (scopeOf g r) is ≡ unless o (setsOf t s e g r) (sparseAll ranged is (setsOf t s e g r))
+call-is : (t s e g r is : List ℕ) (o : Option Refusal) → sparseRefusal (headIn t) (headIn g) is ≡ o
+    → setAndRemoveSparse ranged (trackerOf t s e) (scopeOf g r) is ≡ unless o (setsOf t s e g r) (sparseAll ranged is (setsOf t s e g r))
 call-is t s e g r is o z =
-    ap (λ (h : Head). unless (sparseRefusal h (headOf (scopeOf g r)) is) (setsOf t s e g r) (sparseAll ranged is (setsOf t s e g r))) (tracker-head t s e)
+    ap (λ (h : Head). unless (sparseRefusal h (headOf (scopeOf g r)) is) (setsOf t s e g r) (sparseAll ranged is (setsOf t s e g r)))
+    (tracker-head t s e)
     ∙ ap (λ (h : Head). unless (sparseRefusal (headIn t) h is) (setsOf t s e g r) (sparseAll ranged is (setsOf t s e g r))) (scope-head g r)
     ∙ ap (λ (y : Option Refusal). unless y (setsOf t s e g r) (sparseAll ranged is (setsOf t s e g r))) z
 
@@ -56,23 +63,28 @@ module _ {t s e g r is : List ℕ} (tracker : TrackerTested t s e) (scope : Scop
   model-entries = entries-model tracker scope (removes .passed)
 
   -- no more than N × M × W
-  pub few-entries : trackerFits (trackerOf t s e) ≡ true → scopeFits (scopeOf g r) ≡ true → length (removedEntries t e g r is) ≤ capacity (numbersOf t)
+  pub few-entries : trackerFits (trackerOf t s e) ≡ true → scopeFits (scopeOf g r) ≡ true
+      → length (removedEntries t e g r is) ≤ capacity (numbersOf t)
   unfolding trackerOf
   few-entries a b =
       let z = sparse-room (trackerOf t s e) a (scopeOf g r) b is in
       let y : entries (setAndRemoveSparse ranged (trackerOf t s e) (scopeOf g r) is .log) ≡ length (removedEntries t e g r is) =
-      ap (λ (x : BothResult). entries (x .log)) (call-is t s e g r is none (told .is)) ∙ sym (entries-written (sparseAll ranged is (setsOf t s e g r) .log)) ∙ ap length model-entries in
+      ap (λ (x : BothResult). entries (x .log)) (call-is t s e g r is none (told .is))
+      ∙ sym (entries-written (sparseAll ranged is (setsOf t s e g r) .log)) ∙ ap length model-entries in
       omega arith
 
   -- and that is no more than the largest tracker has
-  pub most-entries : trackerFits (trackerOf t s e) ≡ true → scopeFits (scopeOf g r) ≡ true → length (removedEntries t e g r is) ≤ mostEntries
+  pub most-entries : trackerFits (trackerOf t s e) ≡ true → scopeFits (scopeOf g r) ≡ true
+      → length (removedEntries t e g r is) ≤ mostEntries
   most-entries a b =
       let m = tracker .starts in
-      let c : numbersOf t .textures * numbersOf t .mips * numbersOf t .layers ≤ 64 * 16 * 256 = mul-le-mul (mul-le-mul (m .textures) (m .mips)) (m .layers) in
+      let c : numbersOf t .textures * numbersOf t .mips * numbersOf t .layers ≤ 64 * 16 * 256 =
+      mul-le-mul (mul-le-mul (m .textures) (m .mips)) (m .layers) in
       omega (arith, few-entries a b)
 
   -- 15, or done
-  pub call-done : {fits : Bool} {h : LogHead} {l : List ℕ} {x : Answered} {t′ s′ e′ g′ l′ : List ℕ} → fits ≡ true → headWithin (length l / 7) h ≡ true → Removes is (removedEntries t e g r is) (setsAfter t s e g r is) h t s e g r l x t′ s′ e′ g′ l′
+  pub call-done : {fits : Bool} {h : LogHead} {l : List ℕ} {x : Answered} {t′ s′ e′ g′ l′ : List ℕ} → fits ≡ true
+      → headWithin (length l / 7) h ≡ true → Removes is (removedEntries t e g r is) (setsAfter t s e g r is) h t s e g r l x t′ s′ e′ g′ l′
       → Removed is fits (setAndRemoveSparse ranged (trackerOf t s e) (scopeOf g r) is) h t s e g r l x t′ s′ e′ g′ l′
   call-done {fits} {h} {l} {x} {t′} {s′} {e′} {g′} {l′} f k c =
       subst (λ (y : BothResult). Removed is fits y h t s e g r l x t′ s′ e′ g′ l′) (sym (call-is t s e g r is none (told .is)))
@@ -83,6 +95,8 @@ module _ {t s e g r is : List ℕ} (tracker : TrackerTested t s e) (scope : Scop
       answers (j ∷ js) = refl
 
 -- 6 to 9
-pub call-away : {t s e g r is : List ℕ} {fits : Bool} {h : LogHead} {l : List ℕ} {y : Refusal} → fits ≡ true → headWithin (length l / 7) h ≡ true → SparseTold t g is (verdict.Refused y)
+pub call-away : {t s e g r is : List ℕ} {fits : Bool} {h : LogHead} {l : List ℕ} {y : Refusal} → fits ≡ true
+    → headWithin (length l / 7) h ≡ true → SparseTold t g is (verdict.Refused y)
     → Removed is fits (setAndRemoveSparse ranged (trackerOf t s e) (scopeOf g r) is) h t s e g r l (refusedWith y h) t s e g l
-call-away {t} {s} {e} {g} {r} {is} {y = y} f k told = away-own y f k (ap (λ (x : BothResult). x .answer) (call-is t s e g r is (some y) (told .is)))
+call-away {t} {s} {e} {g} {r} {is} {y = y} f k told =
+    away-own y f k (ap (λ (x : BothResult). x .answer) (call-is t s e g r is (some y) (told .is)))

@@ -21,14 +21,19 @@ listed-last : (j i : ℕ) (l : List ℕ) → listed j (l ++ (i ∷ [])) ≡ (if 
 listed-last j i [] = refl
 listed-last j i (x ∷ l) = go (eqb x j) (eqb i j) (listed-last j i l)
   where
-    go : (a b : Bool) → listed j (l ++ (i ∷ [])) ≡ (if b then true else listed j l) → (if a then true else listed j (l ++ (i ∷ []))) ≡ (if b then true else (if a then true else listed j l))
+    go : (a b : Bool) → listed j (l ++ (i ∷ [])) ≡ (if b then true else listed j l)
+        → (if a then true else listed j (l ++ (i ∷ []))) ≡ (if b then true else (if a then true else listed j l))
     go true true e = refl
     go true false e = refl
     go false b e = e
 
 pub seen-next : {seen is : List ℕ} {k i : ℕ} → Seen seen is k → k < length is → i ≡ getD is k 0 → getD is k 0 < 64
     → Seen (set seen i 1) is (k + 1)
-seen-next {seen} {is} {k} {i} q h e l = record { long = length-set seen i 1 ∙ q .long; tells = λ j b. rw (add-one, take-suc is k 0 h, listed-last j (getD is k 0) (take k is), ← e) (go j b (ℕ-discrete i j)) }
+seen-next {seen} {is} {k} {i} q h e l =
+    record {
+      long = length-set seen i 1 ∙ q .long;
+      tells = λ j b. rw (add-one, take-suc is k 0 h, listed-last j (getD is k 0) (take k is), ← e) (go j b (ℕ-discrete i j));
+    }
   where
     go : (j : ℕ) → j < 64 → Dec (i ≡ j) → not (eqb (getD (set seen i 1) j 0) 0) ≡ (if eqb i j then true else listed j (take k is))
     go j b (yes z) = rw (← z, getD-set-same seen i 1 0 (omega (arith, q .long)), eq-eqb i i refl)

@@ -38,7 +38,8 @@ removedEntries t e g r is = entriesTo (flagsOf t) (getD t maskAt 0) t e g r is (
 
 -- ---- The slots of an index, as the model reads them
 -- the scope's, within its N
-pub given-is : (t s e g r : List ℕ) (i : ℕ) → i < getD g texturesAt 0 → given (setsOf t s e g r) i ≡ slotWith (heldOf (numbersOf g) startHalf g r) g i
+pub given-is : (t s e g r : List ℕ) (i : ℕ) → i < getD g texturesAt 0
+    → given (setsOf t s e g r) i ≡ slotWith (heldOf (numbersOf g) startHalf g r) g i
 unfolding scopeOf
 given-is t s e g r i h = list-at (slotWith (heldOf (numbersOf g) startHalf g r) g) (getD g texturesAt 0) i (emptySlot (ranged .fresh 0)) h
 
@@ -59,30 +60,49 @@ module _ {t s e g r is : List ℕ} (tested : TrackerTested t s e) (scope : Scope
           ready = λ o. tracker-texture tested (passed .each k h o) .end;
           given = λ o.
               let f = scope .slots i b in
-              record { measured = scope .measured; texture = b; flags = passed .flags; extent = refl; fits = f .extent o; held = half-fits startHalf g r i (f .extent o .mips) (f .held o) };
+              record {
+                measured = scope .measured;
+                texture = b;
+                flags = passed .flags;
+                extent = refl;
+                fits = f .extent o;
+                held = half-fits startHalf g r i (f .extent o .mips) (f .held o);
+              };
         };
   }
 
   -- what the index at position k logs
-  log-is : (k : ℕ) → k < length is → pending (takenLog (setsOf t s e g r) (getD is k 0)) ≡ entriesAt (getD is k 0) (givenEntries (flagsOf t) (getD t maskAt 0) t e startHalf g r (getD is k 0))
+  log-is : (k : ℕ) → k < length is
+      → pending (takenLog (setsOf t s e g r) (getD is k 0))
+      ≡ entriesAt (getD is k 0) (givenEntries (flagsOf t) (getD t maskAt 0) t e startHalf g r (getD is k 0))
   unfolding trackerOf
   log-is k h = rw (given-is t s e g r (getD is k 0) (passed .below k h)) (go (ownedOf g (getD is k 0)) refl)
     where
       go : (o : Bool) → ownedOf g (getD is k 0) ≡ o
-          → pending (if o then logSlot ranged (flagsOf t) (getD t maskAt 0) (extentOf g (getD is k 0)) (givenAt startHalf g r (getD is k 0)) (getD is k 0) (into (setsOf t s e g r) (getD is k 0)) else [])
-          ≡ entriesAt (getD is k 0) (if o then endEntries (flagsOf t) (getD t maskAt 0) (extentOf g (getD is k 0)) (givenAt startHalf g r (getD is k 0)) t e (getD is k 0) else [])
+          → pending (if o then logSlot ranged (flagsOf t) (getD t maskAt 0) (extentOf g (getD is k 0)) (givenAt startHalf g r (getD is k 0))
+          (getD is k 0) (into (setsOf t s e g r) (getD is k 0)) else [])
+          ≡ entriesAt (getD is k 0) (if o then endEntries (flagsOf t) (getD t maskAt 0) (extentOf g (getD is k 0))
+          (givenAt startHalf g r (getD is k 0)) t e (getD is k 0) else [])
       go true o =
-          ap (λ (x : Slot (Ends Held)). pending (logSlot ranged (flagsOf t) (getD t maskAt 0) (extentOf g (getD is k 0)) (givenAt startHalf g r (getD is k 0)) (getD is k 0) x)) (into-is t s e g r (getD is k 0) (passed .each k h o .texture))
-          ∙ slot-pending (flagsOf t) (getD t maskAt 0) (extentOf g (getD is k 0)) (givenAt startHalf g r (getD is k 0)) (getD is k 0) (trackerSlot t s e (getD is k 0))
+          ap (λ (x : Slot (Ends Held)). pending (logSlot ranged (flagsOf t) (getD t maskAt 0) (extentOf g (getD is k 0))
+          (givenAt startHalf g r (getD is k 0)) (getD is k 0) x)) (into-is t s e g r (getD is k 0) (passed .each k h o .texture))
+          ∙ slot-pending (flagsOf t) (getD t maskAt 0) (extentOf g (getD is k 0)) (givenAt startHalf g r (getD is k 0)) (getD is k 0)
+          (trackerSlot t s e (getD is k 0))
       go false o = refl
 
   -- THE ENTRIES are the model's
   pub entries-model : pending (sparseAll ranged is (setsOf t s e g r) .log) ≡ removedEntries t e g r is
   entries-model =
-      ap pending (sparse-log (setsOf t s e g r) is) ∙ once-each pendingOf (takenLog (setsOf t s e g r)) [] is ∙ once-up (λ (i : ℕ). pending (takenLog (setsOf t s e g r) i)) is
-      ∙ up-ext (onceAt (λ (i : ℕ). pending (takenLog (setsOf t s e g r) i)) is) (λ (k : ℕ). entriesAt (getD is k 0) (listedEntries (flagsOf t) (getD t maskAt 0) t e g r is k)) (length is) (λ k h. go k (listed (getD is k 0) (take k is)) (log-is k h))
+      ap pending (sparse-log (setsOf t s e g r) is) ∙ once-each pendingOf (takenLog (setsOf t s e g r)) [] is
+      ∙ once-up (λ (i : ℕ). pending (takenLog (setsOf t s e g r) i)) is
+      ∙ up-ext (onceAt (λ (i : ℕ). pending (takenLog (setsOf t s e g r) i)) is) (λ (k : ℕ). entriesAt (getD is k 0)
+      (listedEntries (flagsOf t) (getD t maskAt 0) t e g r is k)) (length is)
+      (λ k h. go k (listed (getD is k 0) (take k is)) (log-is k h))
     where
-      go : (k : ℕ) (b : Bool) → pending (takenLog (setsOf t s e g r) (getD is k 0)) ≡ entriesAt (getD is k 0) (givenEntries (flagsOf t) (getD t maskAt 0) t e startHalf g r (getD is k 0))
-          → (if b then [] else pending (takenLog (setsOf t s e g r) (getD is k 0))) ≡ entriesAt (getD is k 0) (if b then [] else givenEntries (flagsOf t) (getD t maskAt 0) t e startHalf g r (getD is k 0))
+      go : (k : ℕ) (b : Bool)
+          → pending (takenLog (setsOf t s e g r) (getD is k 0))
+          ≡ entriesAt (getD is k 0) (givenEntries (flagsOf t) (getD t maskAt 0) t e startHalf g r (getD is k 0))
+          → (if b then [] else pending (takenLog (setsOf t s e g r) (getD is k 0)))
+          ≡ entriesAt (getD is k 0) (if b then [] else givenEntries (flagsOf t) (getD t maskAt 0) t e startHalf g r (getD is k 0))
       go k true e = refl
       go k false e = e

@@ -16,7 +16,8 @@ listed-last [] i j = go (eqb i j)
     go false = refl
 listed-last (x ∷ is) i j = go (eqb x j) (listed-last is i j)
   where
-    go : (b : Bool) → listed j (is ++ (i ∷ [])) ≡ (if listed j is then true else eqb i j) → (if b then true else listed j (is ++ (i ∷ []))) ≡ (if (if b then true else listed j is) then true else eqb i j)
+    go : (b : Bool) → listed j (is ++ (i ∷ [])) ≡ (if listed j is then true else eqb i j)
+        → (if b then true else listed j (is ++ (i ∷ []))) ≡ (if (if b then true else listed j is) then true else eqb i j)
     go true e = refl
     go false e = e
 
@@ -64,7 +65,8 @@ module _ {A : Type 0} (f : ℕ → List A) (is : List ℕ) where
   unfolding eachOnce
   once-up =
       sym (once-front (length is) (omega arith))
-      ∙ ap (λ (y : List ℕ). upTo (onceAt f is) (length is) ++ eachOnce f (take (length is) is) y) (drop-length is) ∙ append-nil (upTo (onceAt f is) (length is))
+      ∙ ap (λ (y : List ℕ). upTo (onceAt f is) (length is) ++ eachOnce f (take (length is) is) y) (drop-length is)
+      ∙ append-nil (upTo (onceAt f is) (length is))
 
 -- what is made alike at each position
 pub up-ext : {A : Type 0} (f g : ℕ → List A) (n : ℕ) → ((k : ℕ) → k < n → f k ≡ g k) → upTo f n ≡ upTo g n
@@ -73,7 +75,8 @@ up-ext f g zero e = refl
 up-ext f g (suc n) e = rw (up-ext f g n (λ k h. e k (omega arith)), e n (omega arith))
 
 -- what r makes of all that
-pub once-each : {A B : Type 0} (r : A → List B) (f : ℕ → List A) (seen is : List ℕ) → each r (eachOnce f seen is) ≡ eachOnce (λ (i : ℕ). each r (f i)) seen is
+pub once-each : {A B : Type 0} (r : A → List B) (f : ℕ → List A) (seen is : List ℕ)
+    → each r (eachOnce f seen is) ≡ eachOnce (λ (i : ℕ). each r (f i)) seen is
 unfolding eachOnce
 once-each r f seen [] = refl
 once-each r f seen (i ∷ is) =

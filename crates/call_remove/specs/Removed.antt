@@ -61,12 +61,14 @@ module _ {is : List ℕ} {fits : Bool} {m : CallResult InvalidUse (List Entry) B
       → Removes is (pending (m .log)) (m .after) h t s e g r l x t′ s′ e′ g′ l′ → Removed is fits m h t s e g r l x t′ s′ e′ g′ l′
   removes-removed {x} f z a c = record {
     call = changed f z a (c .change);
-    gone = λ q. by-lt (h .free) (length (pending (m .log))) (λ k. absurd (false≢true (sym q ∙ ap (λ (y : Answered). isRefused (y .outcome)) (c .change .few k .0)))) (c .gone);
+    gone = λ q. by-lt (h .free) (length (pending (m .log)))
+        (λ k. absurd (false≢true (sym q ∙ ap (λ (y : Answered). isRefused (y .outcome)) (c .change .few k .0)))) (c .gone);
     stays = c .frame;
   }
 
 -- ---- `set_and_remove_from_usage_scope_sparse`, of what is lent: the scope's table becomes g′, its ranges are only read
 abbrev pub SetAndRemoveSparse : LentTracker → LentScope → List ℕ → LogHead → List ℕ → Answered → LentTracker → List ℕ → List ℕ → Type 0
 SetAndRemoveSparse t g is h l x t′ g′ l′ =
-    Removed is (trackerTest t && scopeTest g) (setAndRemoveSparse ranged (trackerIn t) (scopeIn g) is) h (t .table) (t .starts) (t .ends) (g .table) (g .ranges) l
+    Removed is (trackerTest t && scopeTest g) (setAndRemoveSparse ranged (trackerIn t) (scopeIn g) is) h (t .table) (t .starts) (t .ends)
+    (g .table) (g .ranges) l
     x (t′ .table) (t′ .starts) (t′ .ends) g′ l′

@@ -21,7 +21,8 @@ given ts i = slotAt (ranged .fresh 0) (ts .1) i
 
 -- the log of index i
 abbrev pub takenLog : Both → ℕ → List (Indexed (List Entry))
-takenLog ts i = if given ts i .owned then logSlot ranged (ts .0 .set .flags) (ts .0 .mask) (given ts i .extent) (fromHeld (given ts i .held)) i (into ts i) else []
+takenLog ts i = if given ts i .owned then logSlot ranged (ts .0 .set .flags) (ts .0 .mask) (given ts i .extent)
+    (fromHeld (given ts i .held)) i (into ts i) else []
 
 -- ---- What index i leaves
 -- an unowned slot is written, or the list has none there
@@ -49,16 +50,19 @@ module _ (ts : Both) (i : ℕ) where
   -- the slots of other indices stay
   one-into : (j : ℕ) → (j ≡ i → ⊥) → into next j ≡ into ts j
   one-into j ne =
-      by-test (λ (o : BothResult). into (o .after) j ≡ into ts j) (given ts i .owned) (λ e. getD-set-other (ts .0 .set .slots) i j _ (emptySlot (noEnds ranged)) ne) (λ e. refl)
+      by-test (λ (o : BothResult). into (o .after) j ≡ into ts j) (given ts i .owned)
+      (λ e. getD-set-other (ts .0 .set .slots) i j _ (emptySlot (noEnds ranged)) ne) (λ e. refl)
 
   one-given : (j : ℕ) → (j ≡ i → ⊥) → given next j ≡ given ts j
   one-given j ne =
-      by-test (λ (o : BothResult). given (o .after) j ≡ given ts j) (given ts i .owned) (λ e. getD-set-other (ts .1 .slots) i j _ (emptySlot (ranged .fresh 0)) ne) (λ e. refl)
+      by-test (λ (o : BothResult). given (o .after) j ≡ given ts j) (given ts i .owned)
+      (λ e. getD-set-other (ts .1 .slots) i j _ (emptySlot (ranged .fresh 0)) ne) (λ e. refl)
 
   -- "the scope then owns it no more"
   one-gone : given next i .owned ≡ false
   one-gone =
-      by-test (λ (o : BothResult). given (o .after) i .owned ≡ false) (given ts i .owned) (λ e. set-unowned (ts .1 .slots) i (emptySlot (ranged .fresh 0)) _ refl refl) (λ e. e)
+      by-test (λ (o : BothResult). given (o .after) i .owned ≡ false) (given ts i .owned)
+      (λ e. set-unowned (ts .1 .slots) i (emptySlot (ranged .fresh 0)) _ refl refl) (λ e. e)
 
 -- ---- The indices in `seen` are taken, and the others are as they were
 record Took (was : Both) (seen : List ℕ) (ts : Both) : Type 0 where

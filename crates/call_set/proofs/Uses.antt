@@ -21,8 +21,10 @@ use Rattle.model.specs.declared.Verdict.the-variants as verdict
 -- ---- `set_checked`
 module _ (t s e : List ℕ) (i : ℕ) (sh : Extent) (g : Given) where
   -- the texture changed
-  pub used : {h : LogHead} {l l′ : List ℕ} {x : Answered} {t′ s′ e′ : List ℕ} → BothReady t s e i sh → SlotSet (only i) t s e i (setSlot ranged (flagsOf t) sh g g (trackerSlot t s e i)) t′ s′ e′
-      → (trackerOf t′ s′ e′ ≡ usedTracker t s e i sh g → Changed (trackerOf t s e) (trackerOf t′ s′ e′) (Same t s e t′ s′ e′) (usedEntries t s e i sh g) (usedTracker t s e i sh g) h l x l′)
+  pub used : {h : LogHead} {l l′ : List ℕ} {x : Answered} {t′ s′ e′ : List ℕ} → BothReady t s e i sh
+      → SlotSet (only i) t s e i (setSlot ranged (flagsOf t) sh g g (trackerSlot t s e i)) t′ s′ e′
+      → (trackerOf t′ s′ e′ ≡ usedTracker t s e i sh g
+      → Changed (trackerOf t s e) (trackerOf t′ s′ e′) (Same t s e t′ s′ e′) (usedEntries t s e i sh g) (usedTracker t s e i sh g) h l x l′)
       → Changes (only i) (usedEntries t s e i sh g) (usedTracker t s e i sh g) h t s e l x t′ s′ e′ l′
   used x q c = record {
     change = c (tracker-view (x .start .measured) q);
@@ -39,36 +41,52 @@ module _ (t s e : List ℕ) (i : ℕ) (sh : Extent) (q : Selector) (st : ℕ) wh
   passing p mask x = record {
     answer = done;
     log = logSlot ranged p mask sh (fromUse sh (some q) st) i x;
-    after = withTracker (trackerOf t s e) (set (trackerOf t s e .set .slots) i (setSlot ranged p sh (fromUse sh (some q) st) (fromUse sh (some q) st) x));
+    after = withTracker (trackerOf t s e)
+        (set (trackerOf t s e .set .slots) i (setSlot ranged p sh (fromUse sh (some q) st) (fromUse sh (some q) st) x));
   }
 
   call-is : (o : Option Refusal) → useRefusal t i sh (Part q) st ≡ o
-      → setSingle ranged (trackerOf t s e) i sh q st ≡ unless o (trackerOf t s e) (passing (trackerOf t s e .set .flags) (trackerOf t s e .mask) (slotAt (noEnds ranged) (trackerOf t s e .set) i))
+      → setSingle ranged (trackerOf t s e) i sh q st
+      ≡ unless o (trackerOf t s e) (passing (trackerOf t s e .set .flags) (trackerOf t s e .mask)
+      (slotAt (noEnds ranged) (trackerOf t s e .set) i))
   unfolding useRefusal
   call-is o z =
-      ap (λ (h : Head). unless (singleRefusal h i sh (some q) st) (trackerOf t s e) (passing (trackerOf t s e .set .flags) (trackerOf t s e .mask) (slotAt (noEnds ranged) (trackerOf t s e .set) i))) (tracker-head t s e)
-      ∙ ap (λ (y : Option Refusal). unless y (trackerOf t s e) (passing (trackerOf t s e .set .flags) (trackerOf t s e .mask) (slotAt (noEnds ranged) (trackerOf t s e .set) i))) z
+      ap (λ (h : Head). unless (singleRefusal h i sh (some q) st) (trackerOf t s e)
+      (passing (trackerOf t s e .set .flags) (trackerOf t s e .mask) (slotAt (noEnds ranged) (trackerOf t s e .set) i)))
+      (tracker-head t s e)
+      ∙ ap (λ (y : Option Refusal). unless y (trackerOf t s e) (passing (trackerOf t s e .set .flags) (trackerOf t s e .mask)
+      (slotAt (noEnds ranged) (trackerOf t s e .set) i))) z
 
-  read-here : i < getD t texturesAt 0 → passing (trackerOf t s e .set .flags) (trackerOf t s e .mask) (slotAt (noEnds ranged) (trackerOf t s e .set) i) ≡ passing (flagsOf t) (getD t maskAt 0) (trackerSlot t s e i)
+  read-here : i < getD t texturesAt 0
+      → passing (trackerOf t s e .set .flags) (trackerOf t s e .mask) (slotAt (noEnds ranged) (trackerOf t s e .set) i)
+      ≡ passing (flagsOf t) (getD t maskAt 0) (trackerSlot t s e i)
   unfolding trackerOf
-  read-here h = ap (passing (flagsOf t) (getD t maskAt 0)) (list-at (trackerSlot t s e) (getD t texturesAt 0) i (emptySlot (noEnds ranged)) h)
+  read-here h = ap (passing (flagsOf t) (getD t maskAt 0)) (list-at (trackerSlot t s e) (getD t texturesAt 0) i
+      (emptySlot (noEnds ranged)) h)
 
-module _ {t s e : List ℕ} {i : ℕ} {sh : Extent} {q : Selector} {st : ℕ} {fits : Bool} {h : LogHead} {l : List ℕ} (f : fits ≡ true) (k : headWithin (length l / 7) h ≡ true) where
-  pub single-away : {r : Refusal} → UseTold t i sh (Part q) st (verdict.Refused r) → Tracked (only i) fits (setSingle ranged (trackerOf t s e) i sh q st) h t s e l (refusedWith r h) t s e l
-  single-away {r} z = away-own r f k (ap (λ (y : CallResult InvalidUse (List Entry) (Tracker Held)). y .answer) (call-is t s e i sh q st (some r) (z .is)))
+module _ {t s e : List ℕ} {i : ℕ} {sh : Extent} {q : Selector} {st : ℕ} {fits : Bool} {h : LogHead} {l : List ℕ} (f : fits ≡ true)
+    (k : headWithin (length l / 7) h ≡ true) where
+  pub single-away : {r : Refusal} → UseTold t i sh (Part q) st (verdict.Refused r)
+      → Tracked (only i) fits (setSingle ranged (trackerOf t s e) i sh q st) h t s e l (refusedWith r h) t s e l
+  single-away {r} z = away-own r f k (ap (λ (y : CallResult InvalidUse (List Entry) (Tracker Held)). y .answer)
+      (call-is t s e i sh q st (some r) (z .is)))
 
-  pub single-done : {x : Answered} {t′ s′ e′ l′ : List ℕ} (g : Given) → UseTold t i sh (Part q) st verdict.Accepted → fromUse sh (some q) st ≡ g → Changes (only i) (usedEntries t s e i sh g) (usedTracker t s e i sh g) h t s e l x t′ s′ e′ l′
+  pub single-done : {x : Answered} {t′ s′ e′ l′ : List ℕ} (g : Given) → UseTold t i sh (Part q) st verdict.Accepted
+      → fromUse sh (some q) st ≡ g → Changes (only i) (usedEntries t s e i sh g) (usedTracker t s e i sh g) h t s e l x t′ s′ e′ l′
       → Tracked (only i) fits (setSingle ranged (trackerOf t s e) i sh q st) h t s e l x t′ s′ e′ l′
   single-done {x} {t′} {s′} {e′} {l′} g z w c =
       let n = z .is in
       let m : setSingle ranged (trackerOf t s e) i sh q st ≡ passing t s e i sh q st (flagsOf t) (getD t maskAt 0) (trackerSlot t s e i) =
       call-is t s e i sh q st none n ∙ read-here t s e i sh q st (texture-passed t i sh (use-passed t i sh (Part q) st n .0) .texture) in
-      let d : Changes (only i) (usedEntries t s e i sh (fromUse sh (some q) st)) (usedTracker t s e i sh (fromUse sh (some q) st)) h t s e l x t′ s′ e′ l′ = rw w c in
+      let d : Changes (only i) (usedEntries t s e i sh (fromUse sh (some q) st)) (usedTracker t s e i sh (fromUse sh (some q) st)) h t s e l
+      x t′ s′ e′ l′ = rw w c in
       subst (λ (y : CallResult InvalidUse (List Entry) (Tracker Held)). Tracked (only i) fits y h t s e l x t′ s′ e′ l′) (sym m)
       (changes-tracked f k refl (rw (slot-pending (flagsOf t) (getD t maskAt 0) sh (fromUse sh (some q) st) i (trackerSlot t s e i)) d))
 
 -- no more entries than the tracker has subresources
-pub single-few : (t s e : List ℕ) {i : ℕ} {sh : Extent} {q : Selector} {st : ℕ} (room : ℕ) (room₂ : ℕ) → wellFormedTracker room room₂ (trackerOf t s e) ≡ true → st < 65536 → UseTold t i sh (Part q) st verdict.Accepted → (g : Given) → fromUse sh (some q) st ≡ g
+pub single-few : (t s e : List ℕ) {i : ℕ} {sh : Extent} {q : Selector} {st : ℕ} (room : ℕ) (room₂ : ℕ)
+    → wellFormedTracker room room₂ (trackerOf t s e) ≡ true → st < 65536 → UseTold t i sh (Part q) st verdict.Accepted → (g : Given)
+    → fromUse sh (some q) st ≡ g
     → length (usedEntries t s e i sh g) ≤ capacity (numbersOf t)
 unfolding trackerOf
 single-few t s e {i} {sh} {q} {st} room room₂ f b z g w =
@@ -76,7 +94,8 @@ single-few t s e {i} {sh} {q} {st} room room₂ f b z g w =
     let m : setSingle ranged (trackerOf t s e) i sh q st ≡ passing t s e i sh q st (flagsOf t) (getD t maskAt 0) (trackerSlot t s e i) =
     call-is t s e i sh q st none n ∙ read-here t s e i sh q st (texture-passed t i sh (use-passed t i sh (Part q) st n .0) .texture) in
     let d = set-single-room (trackerOf t s e) (and-left (trackerFits (trackerOf t s e)) _ (and-left _ _ f)) i sh q st b in
-    let k : length (pending (setSingle ranged (trackerOf t s e) i sh q st .log)) ≤ capacity (numbersOf t) = rw (entries-written (setSingle ranged (trackerOf t s e) i sh q st .log)) d in
+    let k : length (pending (setSingle ranged (trackerOf t s e) i sh q st .log)) ≤ capacity (numbersOf t) =
+    rw (entries-written (setSingle ranged (trackerOf t s e) i sh q st .log)) d in
     rw (m, slot-pending (flagsOf t) (getD t maskAt 0) sh (fromUse sh (some q) st) i (trackerSlot t s e i), w) at k
 
 -- ---- What one texture asks for
@@ -87,7 +106,12 @@ module _ {t : List ℕ} {i : ℕ} {sh : Extent} {q : Selector} {st : ℕ} (z : U
   pub single-use : {all : Bool} → all ≡ isFull sh q → TakenUse t sh all q (flagsOf t) st
   single-use {all} e =
       let a = use-passed t i sh (Part q) st (z .is) in
-      record { flags = refl; selector = selector-passed sh q (a .1 .0); whole = λ y. full-is sh q (sym e ∙ y); state = state-passed (flagsOf t) st (a .1 .1) }
+      record {
+        flags = refl;
+        selector = selector-passed sh q (a .1 .0);
+        whole = λ y. full-is sh q (sym e ∙ y);
+        state = state-passed (flagsOf t) st (a .1 .1);
+      }
 
 pub as-use : (sh : Extent) (q : Selector) (st : ℕ) (all : Bool) → all ≡ isFull sh q → fromUse sh (some q) st ≡ useOf all q st
 as-use sh q st all e = rw e refl

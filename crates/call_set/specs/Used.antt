@@ -10,4 +10,5 @@ abbrev pub usedEntries : List ℕ → List ℕ → List ℕ → ℕ → Extent �
 usedEntries t s e i sh g = entriesAt i (slotEntries (flagsOf t) (getD t maskAt 0) sh g (trackerSlot t s e i))
 
 abbrev pub usedTracker : List ℕ → List ℕ → List ℕ → ℕ → Extent → Given → Tracker Held
-usedTracker t s e i sh g = withTracker (trackerOf t s e) (set (trackerOf t s e .set .slots) i (setSlot ranged (flagsOf t) sh g g (trackerSlot t s e i)))
+usedTracker t s e i sh g =
+    withTracker (trackerOf t s e) (set (trackerOf t s e .set .slots) i (setSlot ranged (flagsOf t) sh g g (trackerSlot t s e i)))

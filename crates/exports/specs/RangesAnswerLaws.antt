@@ -1,8 +1,7 @@
 -- Nothing is lost in the numbers of the calls on ranges either.
 use Rattle.model.specs.Prelude.{_≡_, refl, ap}
-use Rattle.model.specs.declared.Refusal.{Refusal}
-use Rattle.range_calls.specs.{declared.IsolateAnswer.IsolateAnswer, declared.CoalesceAnswer.CoalesceAnswer}
-use Rattle.range_calls.specs.declared.FilterAnswer.{FilterAnswer}
+use Rattle.model.specs.declared.{Refusal.Refusal}
+use Rattle.range_calls.specs.declared.{IsolateAnswer.IsolateAnswer, CoalesceAnswer.CoalesceAnswer, FilterAnswer.FilterAnswer}
 use Rattle.exports.specs.{AnswerLaws.refusal-told, RangesAnswers.{isolateAs, coalesceAs, filterAs, isolateIn, coalesceIn, filterIn}}
 use Rattle.range_calls.specs.declared.IsolateAnswer.the-variants as isolate
 use Rattle.range_calls.specs.declared.CoalesceAnswer.the-variants as coalesce

@@ -1,8 +1,7 @@
 -- An answer of the calls on ranges in plain numbers: which numbers tell each answer, and which answer the numbers tell.
 use Rattle.model.specs.Prelude.{ℕ, eqb}
 use Rattle.model.specs.{declared.Outcome.Outcome, declared.Outcome.the-variants.{Done, Refused}, Base.if_then_else_}
-use Rattle.range_calls.specs.{declared.IsolateAnswer.IsolateAnswer, declared.CoalesceAnswer.CoalesceAnswer}
-use Rattle.range_calls.specs.declared.FilterAnswer.{FilterAnswer}
+use Rattle.range_calls.specs.declared.{IsolateAnswer.IsolateAnswer, CoalesceAnswer.CoalesceAnswer, FilterAnswer.FilterAnswer}
 use Rattle.exports.specs.{declared.RangesAnswer.RangesAnswer, SetAnswers.{answerOf, refusalFrom}}
 use Rattle.range_calls.specs.declared.IsolateAnswer.the-variants as isolate
 use Rattle.range_calls.specs.declared.CoalesceAnswer.the-variants as coalesce
@@ -34,7 +33,9 @@ isolateIn a =
     else isolate.Refused (refusalFrom (a .answer .number) (a .answer .place))
 
 abbrev pub coalesceIn : RangesAnswer → CoalesceAnswer
-coalesceIn a = if eqb (a .answer .kind) 0 then coalesce.Coalesced (a .told) else coalesce.Refused (refusalFrom (a .answer .number) (a .answer .place))
+coalesceIn a = if eqb (a .answer .kind) 0 then coalesce.Coalesced (a .told) else coalesce.Refused
+    (refusalFrom (a .answer .number) (a .answer .place))
 
 abbrev pub filterIn : RangesAnswer → FilterAnswer
-filterIn a = if eqb (a .answer .kind) 0 then filter.Filtered (a .count) else filter.Refused (refusalFrom (a .answer .number) (a .answer .place))
+filterIn a = if eqb (a .answer .kind) 0 then filter.Filtered (a .count) else filter.Refused
+    (refusalFrom (a .answer .number) (a .answer .place))

@@ -1,6 +1,6 @@
 -- An answer in plain numbers: which numbers tell each outcome of a call, and which outcome the numbers tell.
 use Rattle.model.specs.Prelude.{ℕ, _-_, [], _∷_, eqb, getD}
-use Rattle.model.specs.{declared.Conflict.{Conflict as Conflicting}, declared.Outcome.the-variants.{Done, Refused, Conflict}}
+use Rattle.model.specs.{declared.Conflict.Conflict as Conflicting, declared.Outcome.the-variants.{Done, Refused, Conflict}}
 use Rattle.model.specs.declared.Refusal.the-variants.{NumbersOutOfLimits, FlagsBreakRule, ShortRoom, NotWellFormed, LogTooShort}
 use Rattle.model.specs.declared.Refusal.the-variants.{FlagsDiffer, NoSuchIndex, ExtentOutOfLimits, ExtentDiffers, SelectorEmpty}
 use Rattle.model.specs.declared.Refusal.the-variants.{SelectorPastExtent, StateReserved, StateIncompatible, RangesOutOfOrder, NoFreeEntry}
@@ -8,12 +8,23 @@ use Rattle.model.specs.declared.Selection.the-variants.{Full, Part}
 use Rattle.model.specs.declared.{LogHead.LogHead, Outcome.Outcome, Refusal.Refusal, Selection.Selection, Selector.Selector}
 use Rattle.model.specs.{declared.{UsageFlags.UsageFlags, Answered.Answered}, Base.if_then_else_, Refusals.{numberOf, placeOf, trackerIndex}}
 use Rattle.model.specs.Representation.{select, mipStart, mipEnd, layerStart, layerEnd}
-use Rattle.exports.specs.{declared.Answer.Answer, declared.LoggedAnswer.LoggedAnswer}
+use Rattle.exports.specs.declared.{Answer.Answer, LoggedAnswer.LoggedAnswer}
 
 -- ---- The numbers of an outcome
 -- "The answer is the number and a place": what is not told is 0
 abbrev pub refusedAs : ℕ → ℕ → Answer
-refusedAs n i = record { kind = 1; number = n; place = i; index = 0; «mip_start» = 0; «mip_end» = 0; «layer_start» = 0; «layer_end» = 0; «old_state» = 0; «new_state» = 0 }
+refusedAs n i = record {
+  kind = 1;
+  number = n;
+  place = i;
+  index = 0;
+  «mip_start» = 0;
+  «mip_end» = 0;
+  «layer_start» = 0;
+  «layer_end» = 0;
+  «old_state» = 0;
+  «new_state» = 0;
+}
 
 -- a conflict (01: a clash): its texture, its place, and both states
 abbrev pub conflictAs : Conflicting → Answer
@@ -32,7 +43,18 @@ conflictAs c = record {
 
 -- each outcome
 abbrev pub answerOf : Outcome → Answer
-answerOf Done = record { kind = 0; number = 0; place = 0; index = 0; «mip_start» = 0; «mip_end» = 0; «layer_start» = 0; «layer_end» = 0; «old_state» = 0; «new_state» = 0 }
+answerOf Done = record {
+  kind = 0;
+  number = 0;
+  place = 0;
+  index = 0;
+  «mip_start» = 0;
+  «mip_end» = 0;
+  «layer_start» = 0;
+  «layer_end» = 0;
+  «old_state» = 0;
+  «new_state» = 0;
+}
 answerOf (Refused r) = refusedAs (numberOf r) (placeOf r)
 answerOf (Conflict c) = conflictAs c
 
@@ -55,12 +77,17 @@ refusalFrom n i =
 abbrev pub conflictOf : Answer → Conflicting
 conflictOf a = record {
   index = trackerIndex (a .index);
-  found = record { selector = select (a .«mip_start») (a .«mip_end») (a .«layer_start») (a .«layer_end»); old = a .«old_state»; new = a .«new_state» };
+  found = record {
+    selector = select (a .«mip_start») (a .«mip_end») (a .«layer_start») (a .«layer_end»);
+    old = a .«old_state»;
+    new = a .«new_state»;
+  };
 }
 
 -- each kind
 abbrev pub outcomeOf : Answer → Outcome
-outcomeOf a = if eqb (a .kind) 0 then Done else if eqb (a .kind) 1 then Refused (refusalFrom (a .number) (a .place)) else Conflict (conflictOf a)
+outcomeOf a = if eqb (a .kind) 0 then Done else if eqb (a .kind) 1 then Refused (refusalFrom (a .number) (a .place)) else Conflict
+    (conflictOf a)
 
 -- and with the head of the log
 abbrev pub answeredOf : LoggedAnswer → Answered
@@ -68,7 +95,8 @@ answeredOf a = record { outcome = outcomeOf (a .answer); head = record { written
 
 -- ---- What the exported calls are given in plain numbers
 abbrev pub flagsOf : ℕ → ℕ → ℕ → ℕ → UsageFlags
-flagsOf exclusive uninitialized complex unknown = record { exclusive = exclusive; uninitialized = uninitialized; complex = complex; unknown = unknown }
+flagsOf exclusive uninitialized complex unknown =
+    record { exclusive = exclusive; uninitialized = uninitialized; complex = complex; unknown = unknown }
 
 -- a use of all of a texture, or of what a selector names
 abbrev pub selectionOf : ℕ → Selector → Selection

@@ -1,6 +1,6 @@
 -- The head of a log against what was lent, as `head_fits` compares them.
 use Rattle.model.specs.Prelude.{ℕ, _+_, _-_, _≤_, _<_, arith, _≡_, true, false, lt-ltb, le-ltb}
-use Rattle.model.specs.declared.LogHead.{LogHead}
+use Rattle.model.specs.declared.{LogHead.LogHead}
 use Rattle.log_head.specs.Log.{headWithin}
 
 pub written-past : (lent : ℕ) (h : LogHead) → lent < h .written → false ≡ headWithin lent h

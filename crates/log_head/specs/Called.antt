@@ -9,8 +9,10 @@ use Rattle.log_head.specs.Log.{logOf, Logs, headWithin, refusedWith, mov
 use Rattle.log_head.specs.Log.{own-refusal, too-few, logged-on, log-stays, log-moves}
 use Rattle.model.specs.Calls as calls
 
--- `fits` says whether every set that was handed in is well formed, m is the model's call, and `same` says that every number of the sets stays
-pub record Called {X : Type 0} (before after : X) (same : Type 0) (fits : Bool) (m : CallResult InvalidUse (List Entry) X) (h : LogHead) (l : List ℕ)
+-- `fits` says whether every set that was handed in is well formed, m is the model's call, and `same` says that every number of the sets
+-- stays
+pub record Called {X : Type 0} (before after : X) (same : Type 0) (fits : Bool) (m : CallResult InvalidUse (List Entry) X) (h : LogHead)
+    (l : List ℕ)
     (x : Answered) (l′ : List ℕ) : Type 0 where
   pub log : Logs (logging fits (logOf l h) before m) l x l′
   pub view : after ≡ logging fits (logOf l h) before m .after
@@ -18,13 +20,15 @@ pub record Called {X : Type 0} (before after : X) (same : Type 0) (fits : Bool) 
   pub kept : isRefused (x .outcome) ≡ true → same × (l′ ≡ l)
 
 -- what it does once its checks passed: `new` is what it adds to the log, and `become` the sets that it leaves
-pub record Changed {X : Type 0} (before after : X) (same : Type 0) (new : List PendingTransition) (become : X) (h : LogHead) (l : List ℕ) (x : Answered)
+pub record Changed {X : Type 0} (before after : X) (same : Type 0) (new : List PendingTransition) (become : X) (h : LogHead) (l : List ℕ)
+    (x : Answered)
     (l′ : List ℕ) : Type 0 where
   pub few : h .free < length new → (x ≡ refusedWith NoFreeEntry h) × ((after ≡ before) × (same × (l′ ≡ l)))
   pub enough : length new ≤ h .free → (x ≡ movedOn h (length new)) × (Added l (h .written) new l′ × (after ≡ become))
 
 -- ---- Refused before any change
-module _ {X : Type 0} {was : X} {same : Type 0} {fits : Bool} {m : CallResult InvalidUse (List Entry) X} {h : LogHead} {l : List ℕ} (s : same) where
+module _ {X : Type 0} {was : X} {same : Type 0} {fits : Bool} {m : CallResult InvalidUse (List Entry) X} {h : LogHead} {l : List ℕ}
+    (s : same) where
   away : (r : Refusal) → logging fits (logOf l h) was m ≡ staying (logOf l h) was m r → Called was was same fits m h l (refusedWith r h) l
   away r z = record { log = log-stays was r z; view = ap (λ (y : Logged X). y .after) (sym z); kept = λ k. (s, refl) }
 
@@ -37,18 +41,22 @@ module _ {X : Type 0} {was : X} {same : Type 0} {fits : Bool} {m : CallResult In
   away-short f z = away LogTooShort (rw f (too-short (logOf l h) was m (lent-is l h z)))
 
   -- 6 to 13
-  pub away-own : (r : Refusal) → fits ≡ true → headWithin (length l / 7) h ≡ true → m .answer ≡ calls.refused r → Called was was same fits m h l (refusedWith r h) l
+  pub away-own : (r : Refusal) → fits ≡ true → headWithin (length l / 7) h ≡ true → m .answer ≡ calls.refused r
+      → Called was was same fits m h l (refusedWith r h) l
   away-own r f z a = away r (rw f (own-refusal (logOf l h) was m (lent-is l h z) r a))
 
 -- ---- 15, or done
-module _ {X : Type 0} {before after : X} {same : Type 0} {fits : Bool} {m : CallResult InvalidUse (List Entry) X} {h : LogHead} {l : List ℕ} {x : Answered} {l′ : List ℕ} where
-  pub changed : fits ≡ true → headWithin (length l / 7) h ≡ true → m .answer ≡ done → Changed before after same (pending (m .log)) (m .after) h l x l′
+module _ {X : Type 0} {before after : X} {same : Type 0} {fits : Bool} {m : CallResult InvalidUse (List Entry) X} {h : LogHead} {l : List ℕ}
+    {x : Answered} {l′ : List ℕ} where
+  pub changed : fits ≡ true → headWithin (length l / 7) h ≡ true → m .answer ≡ done
+      → Changed before after same (pending (m .log)) (m .after) h l x l′
       → Called before after same fits m h l x l′
   changed f z a c =
       by-lt (h .free) (length (pending (m .log)))
       (λ k.
       let w = c .few k in
-      let y : logging fits (logOf l h) before m ≡ staying (logOf l h) before m NoFreeEntry = rw f (too-few (logOf l h) before m (lent-is l h z) a k) in
+      let y : logging fits (logOf l h) before m ≡ staying (logOf l h) before m NoFreeEntry =
+      rw f (too-few (logOf l h) before m (lent-is l h z) a k) in
       record {
         log = rw (w .0, w .1 .1 .1) (log-stays before NoFreeEntry y);
         view = w .1 .0 ∙ ap (λ (q : Logged X). q .after) (sym y);

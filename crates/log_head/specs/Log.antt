@@ -1,5 +1,5 @@
--- The log that a call is lent, what the call answers, and what the model's `logging` gives check by check: refused by the test, by the log's head, by
--- its own checks or for want of entries; or done.
+-- The log that a call is lent, what the call answers, and what the model's `logging` gives check by check: refused by the test, by the
+-- log's head, by its own checks or for want of entries; or done.
 use Rattle.model.specs.Prelude.{ℕ, _+_, _-_, _/_, _≤_, _<_, _≡_, refl, sym, ap, _∙_, Bool, true, false, not, List, ltb, length, lt-ltb}
 use Rattle.model.specs.Prelude.{le-ltb, ltb-false, not-true, not-false}
 use Rattle.model.specs.declared.Refusal.the-variants.{NotWellFormed, LogTooShort, NoFreeEntry}
@@ -67,12 +67,14 @@ module _ {X : Type 0} (log : Log) (was : X) (m : CallResult InvalidUse (List Ent
     unfolding logging firstFailing
     too-few e l = rw (fits, e, lt-ltb (log .head .free) (length (pending (m .log))) l)
 
-    pub logged-on : m .answer ≡ done → length (pending (m .log)) ≤ log .head .free → logging true log was m ≡ record { answer = done; log = added (pending (m .log)) log; after = m .after }
+    pub logged-on : m .answer ≡ done → length (pending (m .log)) ≤ log .head .free
+        → logging true log was m ≡ record { answer = done; log = added (pending (m .log)) log; after = m .after }
     unfolding logging firstFailing
     logged-on e l = rw (fits, e, le-ltb (log .head .free) (length (pending (m .log))) l)
 
 -- ---- The contract on the log
-pub log-stays : {X : Type 0} {c : Logged X} {l : List ℕ} {h : LogHead} (was : X) (r : Refusal) → c ≡ record { answer = calls.refused r; log = logOf l h; after = was } → Logs c l (refusedWith r h) l
+pub log-stays : {X : Type 0} {c : Logged X} {l : List ℕ} {h : LogHead} (was : X) (r : Refusal)
+    → c ≡ record { answer = calls.refused r; log = logOf l h; after = was } → Logs c l (refusedWith r h) l
 log-stays {X} {c} {l} {h} was r e = record {
   answer = ap (λ (y : Logged X). outcomeOf (y .answer)) (sym e);
   head = ap (λ (y : Logged X). y .log .head) (sym e);
@@ -81,7 +83,9 @@ log-stays {X} {c} {l} {h} was r e = record {
   long = refl;
 }
 
-pub log-moves : {X : Type 0} {c : Logged X} {l : List ℕ} (h : LogHead) {l′ : List ℕ} {n : ℕ} (after : X) (new : List PendingTransition) → c ≡ record { answer = done; log = added new (logOf l h); after = after } → n ≡ length new → Added l (h .written) new l′ → Logs c l (movedOn h n) l′
+pub log-moves : {X : Type 0} {c : Logged X} {l : List ℕ} (h : LogHead) {l′ : List ℕ} {n : ℕ} (after : X) (new : List PendingTransition)
+    → c ≡ record { answer = done; log = added new (logOf l h); after = after } → n ≡ length new → Added l (h .written) new l′
+    → Logs c l (movedOn h n) l′
 log-moves {X} {c} {l} h {l′} {n} after new e z a = record {
   answer = ap (λ (y : Logged X). outcomeOf (y .answer)) (sym e);
   head = rw z (ap (λ (y : Logged X). y .log .head) (sym e));
@@ -104,7 +108,8 @@ module _ (l : List ℕ) (h : LogHead) where
 
   pub empty-done : headWithin (length l / 7) h ≡ true → Logs (emptying (logOf l h)) l (emptiedWith h) l
   unfolding emptying firstFailing
-  empty-done e = let z : ltb (length (entriesOf l)) (h .written + h .free) ≡ false = not-true _ (lent-is l h e) in rw z (record { answer = refl; head = refl; entries = refl; unused = refl; long = refl })
+  empty-done e = let z : ltb (length (entriesOf l)) (h .written + h .free) ≡ false = not-true _ (lent-is l h e) in
+      rw z (record { answer = refl; head = refl; entries = refl; unused = refl; long = refl })
 
 -- THE CONTRACT of emptying: the log is only read
 abbrev pub Emptying : LogHead → List ℕ → Answered → Type 0

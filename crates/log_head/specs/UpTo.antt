@@ -1,6 +1,6 @@
 -- What a loop over the textures of a call adds to the log: the entries of one index, or of one position of a list, after those before it.
 use Rattle.model.specs.Prelude.{ℕ, zero, suc, _+_, _-_, _<_, add-one, arith, _≡_, sym, _∙_, List, [], _++_, append-assoc, append-nil}
-use Rattle.model.specs.declared.PendingTransition.{PendingTransition}
+use Rattle.model.specs.declared.{PendingTransition.PendingTransition}
 use Rattle.texture_barrier.specs.Adds.{NextLeft, NoneLeft}
 
 -- more than the transitions of 64 textures come to, at most 2^20 each

@@ -141,11 +141,7 @@ module _ {M : Type 1} (𝓤 : URA M) (H : Heap 𝓤) (𝓜 : Model 𝓤 H) (𝓖
 
       moves-on : (E : Env 𝓤 H) → On x f (flat (Rs′ n Head.the-row κs ps) (vals-in n ps κs a)) E before during Post
       moves-on E hs p d i xs at′ os =
-          let κ = last-lft n κs in
-          let q = last-share n qs in
-          let b = x .ptr .0 in
-          let o = x .ptr .1 in
-          let h = x .now in
+          let κ = last-lft n κs in let q = last-share n qs in let b = x .ptr .0 in let o = x .ptr .1 in let h = x .now in
           let ref = Lent n Head.the-row κs .own x (ptr-vals x) in
           let others = raw (Others n Head.the-row κs 𝓤 H A ps a (vals n Head.the-row κs ps a)) in
           let hs₁ = with i (some (HeadOf .val h)) hs in
@@ -163,8 +159,7 @@ module _ {M : Type 1} (𝓤 : URA M) (H : Heap 𝓤) (𝓜 : Model 𝓤 H) (𝓖
           raw (c′ (fore-lfts n κs) (handed n Head.the-row κs ps a) .ensures (hands .ghost κs a g) y (atExit (Core n ps) (fore-lfts n κs) (handed n Head.the-row κs ps a) ws)))))) (id⊢ 𝓤 _) $ await ! tt $
           pick ! (λ y. split ! $ move ! (1 ∷ []) $ pick ! (λ ws. split ! $ move ! (2 ∷ []) $ split ! $ move ! (1 ∷ 4 ∷ []) $ takes-in ! AnswerOf y v (at′ .has .1 .0) (at′ .typed .0) (λ is.
           let parts = LL.owed Answer.the-type Answer′.the-laws y (AnswerOf .val y ∷ []) is in
-          let in-d = at-with d (some (AnswerOf .val y)) hs₁ in
-          let ws′ = left-behind n Head.the-row κs ps a ws (y .head) in
+          let in-d = at-with d (some (AnswerOf .val y)) hs₁ in let ws′ = left-behind n Head.the-row κs ps a ws (y .head) in
           -- [the locals; the others' tokens; what is said of their last values; what is ensured; the head's cell; the open borrow; obs; auth]
           assigns ! (of-opd ! (part ! (at′ .has .1 .0) {τs = parts-of} {d = head-at} {τ = Head′.mir} (at′ .answer) refl in-d)) (points ! (at′ .has .0) (at′ .after y)) (store-raw ! 4 refl (fits-in W HeadOf (y .head) (parts .1 .0) refl)) $
           lets ! (at′ .has .1 .1 .1) (of-opd ! (part ! (at′ .has .1 .0) {τs = parts-of} {d = zero} {τ = Out′.mir} (at′ .answer) refl in-d)) (fits-in W OutcomeOf (y .outcome) (parts .0) (at′ .typed .1 .1)) $

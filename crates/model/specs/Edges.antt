@@ -1,5 +1,6 @@
--- 01's table of refusals, every number at its edge with its place, and which of two applies first: one theorem a kind of call, by computation.
--- What the two representations share (the table, the calls' frame) is tested by nothing else but this page and the runs against the Rust.
+-- 01's table of refusals, every number at its edge with its place, and which of two applies first: one theorem a kind of call, by
+-- computation. What the two representations share (the table, the calls' frame) is tested by nothing else but this page and the runs
+-- against the Rust.
 use Rattle.model.specs.Prelude.{ℕ, _≡_, refl, true, Option, none, some, List, [], _∷_, map, getD, replicate, set}
 use Rattle.model.specs.declared.{Extent.Extent, Selector.Selector, InvalidUse.InvalidUse, PendingTransition.PendingTransition}
 use Rattle.model.specs.{declared.Refusal.Refusal, Flags.incompatible, Representation.{select, full}}
@@ -48,11 +49,14 @@ flagged e i c u = record {
 openings : map (λ o. ofRefusal (openingRefusal o)) (
     -- "N 64 opens, 65 is 1"
     sized 64 16 256 262144 ∷ sized 65 16 256 999999 ∷ sized 0 1 1 9 ∷ sized 1 17 1 99 ∷ sized 1 0 1 9 ∷ sized 1 1 257 999 ∷ sized 1 1 0 9
-    -- a bit outside sixteen, two bits, none, equal ones, COMPLEX or UNKNOWN inside EXCLUSIVE; UNINITIALIZED may lie inside, and EXCLUSIVE may be 0
-    ∷ flagged 20 1 4096 65536 ∷ flagged 65536 1 4096 8192 ∷ flagged 20 3 4096 8192 ∷ flagged 20 1 0 8192 ∷ flagged 20 1 4096 4096 ∷ flagged 20 1 1 8192 ∷ flagged 20 1 4096 1
+    -- a bit outside sixteen, two bits, none, equal ones, COMPLEX or UNKNOWN inside EXCLUSIVE; UNINITIALIZED may lie inside, and EXCLUSIVE
+    -- may be 0
+    ∷ flagged 20 1 4096 65536 ∷ flagged 65536 1 4096 8192 ∷ flagged 20 3 4096 8192 ∷ flagged 20 1 0 8192 ∷ flagged 20 1 4096 4096
+    ∷ flagged 20 1 1 8192 ∷ flagged 20 1 4096 1
     ∷ flagged 2 1 2 4 ∷ flagged 4 1 2 4 ∷ flagged 1 1 2 4 ∷ flagged 0 1 2 4
     -- the last range of room; 1 before 2 before 3
-    ∷ sized 4 2 4 32 ∷ sized 4 2 4 31 ∷ (let o = flagged 20 3 4096 8192 in record { numbers = record { textures = 0; mips = 1; layers = 1 }; flags = o .flags; mask = 0; room = 0 })
+    ∷ sized 4 2 4 32 ∷ sized 4 2 4 31 ∷ (let o = flagged 20 3 4096 8192 in
+    record { numbers = record { textures = 0; mips = 1; layers = 1 }; flags = o .flags; mask = 0; room = 0 })
     ∷ (let o = flagged 20 3 4096 8192 in record { numbers = o .numbers; flags = o .flags; mask = 0; room = 0 })
     ∷ []) ≡ (
     passes ∷ turned 1 0 ∷ turned 1 0 ∷ turned 1 0 ∷ turned 1 0 ∷ turned 1 0 ∷ turned 1 0
@@ -69,7 +73,12 @@ sets : Sets ranged
 unfolding sized newly
 sets =
     let o = sized 4 2 4 32 in
-    let other : Opening = record { numbers = o .numbers; flags = record { exclusive = 4; uninitialized = 1; complex = 4096; unknown = 8192 }; mask = 10; room = 32 } in
+    let other : Opening = record {
+      numbers = o .numbers;
+      flags = record { exclusive = 4; uninitialized = 1; complex = 4096; unknown = 8192 };
+      mask = 10;
+      room = 32;
+    } in
     newly ranged (o ∷ o ∷ other ∷ sized 5 2 4 40 ∷ []) (o ∷ o ∷ [])
 
 run : List Call → Sets ranged → Sets ranged
@@ -115,7 +124,8 @@ calls : (
     -- 12: zero, or with UNKNOWN or COMPLEX; 13: "state 24 is 13, state 16 passes"
     ∷ after [] (used 0 0 0) ∷ after [] (used 0 0 8200) ∷ after [] (used 0 0 4104) ∷ after [] (used 0 0 24) ∷ after [] (used 0 0 16)
     -- the first that fails is told: 7 before 8, 8 before 10, 10 before 11, 11 before 12, 12 before 13
-    ∷ after [] (callMergeSingle 0 (trackerIndex 4) (extent 3 4) (some (select 0 0 0 9)) 0) ∷ after [] (callMergeSingle 0 (trackerIndex 0) (extent 3 4) (some (select 0 0 0 9)) 0)
+    ∷ after [] (callMergeSingle 0 (trackerIndex 4) (extent 3 4) (some (select 0 0 0 9)) 0)
+    ∷ after [] (callMergeSingle 0 (trackerIndex 0) (extent 3 4) (some (select 0 0 0 9)) 0)
     ∷ after [] (part (select 0 0 0 9) 0) ∷ after [] (part (select 0 1 0 9) 0) ∷ after [] (used 0 0 4116)
     -- 6, before what the set owns is looked at
     ∷ after [] (callMergeUsageScope 0 2) ∷ after [] (callSetFromUsageScope 0 2) ∷ after [] (callSetAndRemoveSparse 0 2 (9 ∷ []))
@@ -151,7 +161,8 @@ calls = refl
 -- ---- 4, 5, 15: tracker 0 in state 4 at texture 0, and a log of `lent` entries
 tracker : Tracker Held
 unfolding sets run step sized extent
-tracker = getD (run (callSetSingle 0 (trackerIndex 0) (extent 2 4) (full (extent 2 4)) 4 ∷ []) sets .trackers) 0 (openTracker single (sized 4 2 4 32))
+tracker = getD (run (callSetSingle 0 (trackerIndex 0) (extent 2 4) (full (extent 2 4)) 4 ∷ []) sets .trackers) 0
+    (openTracker single (sized 4 2 4 32))
 
 blank : PendingTransition
 blank = record { index = trackerIndex 0; selector = select 0 0 0 0; old = 0; new = 0 }
@@ -169,7 +180,8 @@ setting startRoom endRoom t st l =
 -- the tracker with another start and end at texture 0; mip 0 in one state, and mip 1 in two ranges
 damaged : Held → Held → Tracker Held
 unfolding tracker extent
-damaged s e = withTracker tracker (set (tracker .set .slots) 0 (record { owned = true; extent = extent 2 4; held = record { start = s; end = e } }))
+damaged s e = withTracker tracker
+    (set (tracker .set .slots) 0 (record { owned = true; extent = extent 2 4; held = record { start = s; end = e } }))
 
 mips : ℕ → ℕ → ℕ → Held
 mips a b c = many ((range 0 4 a ∷ []) ∷ (range 0 1 b ∷ range 1 4 c ∷ []) ∷ [])
@@ -181,7 +193,8 @@ logs : (
     ∷ setting 32 32 tracker 8 (log 2 1 1) ∷ setting 32 32 tracker 8 (log 2 1 2) ∷ setting 32 32 tracker 8 (log 0 0 0)
     -- 4: the room of either half
     ∷ setting 31 32 tracker 8 (log 1 0 1) ∷ setting 32 31 tracker 8 (log 1 0 1)
-    -- 4: a state that is incompatible, UNKNOWN where Single, of more than 16 bits, with COMPLEX; no mips; a mip that ends early; start and end apart on UNKNOWN
+    -- 4: a state that is incompatible, UNKNOWN where Single, of more than 16 bits, with COMPLEX; no mips; a mip that ends early; start and
+    -- end apart on UNKNOWN
     ∷ setting 32 32 (damaged (single 16) (single 4)) 8 (log 1 0 1) ∷ setting 32 32 (damaged (single 24) (single 4)) 8 (log 1 0 1)
     ∷ setting 32 32 (damaged (single 8192) (single 4)) 8 (log 1 0 1) ∷ setting 32 32 (damaged (single 65536) (single 4)) 8 (log 1 0 1)
     ∷ setting 32 32 (damaged (single 4104) (single 4)) 8 (log 1 0 1) ∷ setting 32 32 (damaged (many []) (single 4)) 8 (log 1 0 1)
@@ -211,14 +224,17 @@ logs = refl
 -- ---- 10, 14, 15: the calls on range records
 rangeCalls : map ofRefusal (
     -- a run of 2..6 in a gap needs one record more
-    isolateRefusal 2 6 9 1 (range 0 2 5 ∷ range 0 0 0 ∷ []) ∷ isolateRefusal 2 6 9 1 (range 0 2 5 ∷ []) ∷ isolateRefusal 2 2 9 1 (range 0 2 5 ∷ [])
+    isolateRefusal 2 6 9 1 (range 0 2 5 ∷ range 0 0 0 ∷ []) ∷ isolateRefusal 2 6 9 1 (range 0 2 5 ∷ [])
+    ∷ isolateRefusal 2 2 9 1 (range 0 2 5 ∷ [])
     -- the told length, an empty range, out of order, overlapping, touching
-    ∷ coalesceRefusal 1 (range 0 2 5 ∷ []) ∷ coalesceRefusal 2 (range 0 2 5 ∷ []) ∷ coalesceRefusal 1 (range 2 2 5 ∷ []) ∷ coalesceRefusal 2 (range 4 6 5 ∷ range 0 2 5 ∷ [])
+    ∷ coalesceRefusal 1 (range 0 2 5 ∷ []) ∷ coalesceRefusal 2 (range 0 2 5 ∷ []) ∷ coalesceRefusal 1 (range 2 2 5 ∷ [])
+    ∷ coalesceRefusal 2 (range 4 6 5 ∷ range 0 2 5 ∷ [])
     ∷ coalesceRefusal 2 (range 0 3 5 ∷ range 2 4 5 ∷ []) ∷ coalesceRefusal 2 (range 0 2 5 ∷ range 2 4 5 ∷ [])
     -- no record past the told length is looked at
     ∷ coalesceRefusal 1 (range 0 2 5 ∷ range 9 1 0 ∷ [])
     -- the output's room; 10 before 14 before 15
-    ∷ filterRefusal 1 3 2 (range 0 2 5 ∷ range 2 4 6 ∷ []) (replicate 2 (range 0 0 0)) ∷ filterRefusal 1 3 2 (range 0 2 5 ∷ range 2 4 6 ∷ []) (replicate 1 (range 0 0 0))
+    ∷ filterRefusal 1 3 2 (range 0 2 5 ∷ range 2 4 6 ∷ []) (replicate 2 (range 0 0 0))
+    ∷ filterRefusal 1 3 2 (range 0 2 5 ∷ range 2 4 6 ∷ []) (replicate 1 (range 0 0 0))
     ∷ filterRefusal 3 3 2 (range 0 2 5 ∷ []) [] ∷ filterRefusal 1 3 2 (range 0 2 5 ∷ []) []
     ∷ []) ≡ (
     passes ∷ turned 15 0 ∷ turned 10 0
@@ -232,7 +248,8 @@ unfolding ofRefusal firstFailing isolate coalesce iterFilter
 rangeCalls = refl
 
 -- ---- What is written, and what stays
--- B13 in six records, of which the last is past both lengths; 0..3 5 and 3..4 5 joined, the freed record a zero; two overlaps into three records
+-- B13 in six records, of which the last is past both lengths; 0..3 5 and 3..4 5 joined, the freed record a zero; two overlaps into three
+-- records
 records : (isolated 3 7 100 2 (range 2 4 65 ∷ range 6 8 66 ∷ replicate 4 (range 9 9 9)) .records
     ∷ coalesced 2 (range 0 3 5 ∷ range 3 4 5 ∷ range 9 9 9 ∷ []) .records
     ∷ filtered 1 3 2 (range 0 2 5 ∷ range 2 4 6 ∷ []) (replicate 3 (range 9 9 9)) .output
@@ -254,7 +271,10 @@ written =
     ∷ []
 
 logContents : written ≡ (
-    record { entries = blank ∷ record { index = trackerIndex 0; selector = select 0 2 0 4; old = 4; new = 8 } ∷ blank ∷ []; head = record { written = 2; free = 1 } }
+    record {
+      entries = blank ∷ record { index = trackerIndex 0; selector = select 0 2 0 4; old = 4; new = 8 } ∷ blank ∷ [];
+      head = record { written = 2; free = 1 };
+    }
     ∷ log 3 3 0
     ∷ log 3 0 3
     ∷ [])

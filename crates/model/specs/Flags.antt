@@ -1,6 +1,6 @@
 -- Usage states: numbers of 16 bits, read by the usage flags (01, "Palette").
 use Rattle.model.specs.Prelude.{ℕ, Bool, _&&_, not, ltb, eqb, bitAnd}
-use Rattle.model.specs.declared.UsageFlags.{UsageFlags}
+use Rattle.model.specs.declared.{UsageFlags.UsageFlags}
 use lib.Count.{onesIn}
 
 -- exactly one of the sixteen bits is set
@@ -16,7 +16,8 @@ unfoldable pub incompatible : UsageFlags → ℕ → Bool
 unfolding onesIn
 incompatible p s = meets s (p .exclusive) && not (oneBit s)
 
--- ---- The rule of the flags: "EXCLUSIVE (a mask), UNINITIALIZED, COMPLEX and UNKNOWN (one bit each, all different, COMPLEX and UNKNOWN outside EXCLUSIVE)"
+-- ---- The rule of the flags: "EXCLUSIVE (a mask), UNINITIALIZED, COMPLEX and UNKNOWN (one bit each, all different, COMPLEX and UNKNOWN
+-- outside EXCLUSIVE)"
 
 -- a state of sixteen bits with one of them set
 abbrev pub isBit : ℕ → Bool
@@ -37,4 +38,5 @@ flagsFit p = isBit (p .unknown) && apart p
 -- "two sets: their palettes differ"
 abbrev pub sameFlags : UsageFlags → UsageFlags → Bool
 sameFlags p q =
-    eqb (p .exclusive) (q .exclusive) && eqb (p .uninitialized) (q .uninitialized) && eqb (p .complex) (q .complex) && eqb (p .unknown) (q .unknown)
+    eqb (p .exclusive) (q .exclusive) && eqb (p .uninitialized) (q .uninitialized) && eqb (p .complex) (q .complex)
+    && eqb (p .unknown) (q .unknown)

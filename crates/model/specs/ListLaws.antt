@@ -38,16 +38,19 @@ pub all-both : {A : Type 0} (P Q : A → Type 0) (s : List A) → All P s → Al
 all-both P Q [] x y = tt
 all-both P Q (a ∷ s) x y = ((x .0, y .0), all-both P Q s (x .1) (y .1))
 
-pub all-map : {A B : Type 0} (P : A → Type 0) (Q : B → Type 0) (f : A → B) → ((a : A) → P a → Q (f a)) → (s : List A) → All P s → All Q (map f s)
+pub all-map : {A B : Type 0} (P : A → Type 0) (Q : B → Type 0) (f : A → B) → ((a : A) → P a → Q (f a)) → (s : List A) → All P s
+    → All Q (map f s)
 all-map P Q f h [] t = tt
 all-map P Q f h (x ∷ s) t = (h x (t .0), all-map P Q f h s (t .1))
 
-pub all-each : {A B : Type 0} (P : A → Type 0) (Q : B → Type 0) (f : A → List B) → ((a : A) → P a → All Q (f a)) → (s : List A) → All P s → All Q (each f s)
+pub all-each : {A B : Type 0} (P : A → Type 0) (Q : B → Type 0) (f : A → List B) → ((a : A) → P a → All Q (f a)) → (s : List A) → All P s
+    → All Q (each f s)
 all-each P Q f h [] t = tt
 all-each P Q f h (x ∷ s) t = all-join Q (f x) _ (h x (t .0)) (all-each P Q f h s (t .1))
 
 -- the elements have positions below n
-pub all-eachAt : {A B : Type 0} (P : A → Type 0) (Q : B → Type 0) (n : ℕ) (f : ℕ → A → List B) → ((k : ℕ) (a : A) → k < n → P a → All Q (f k a))
+pub all-eachAt : {A B : Type 0} (P : A → Type 0) (Q : B → Type 0) (n : ℕ) (f : ℕ → A → List B)
+    → ((k : ℕ) (a : A) → k < n → P a → All Q (f k a))
     → (k : ℕ) (s : List A) → k + length s ≤ n → All P s → All Q (eachAt f k s)
 all-eachAt P Q n f h k [] e t = tt
 all-eachAt P Q n f h k (x ∷ s) e t = all-join Q (f k x) _ (h k x (omega arith) (t .0)) (all-eachAt P Q n f h (suc k) s (omega arith) (t .1))
@@ -66,7 +69,8 @@ all-elem P (x ∷ l) zero t = t .0
 all-elem P (x ∷ l) (suc n) t = all-elem P l n (t .1)
 
 -- the element at a position, or none
-pub elem-of : {A : Type 0} (P : A → Type 0) (l : List A) (n : ℕ) (R : Option A → Type 0) → All P l → R none → ((x : A) → P x → R (some x)) → R (getElem? l n)
+pub elem-of : {A : Type 0} (P : A → Type 0) (l : List A) (n : ℕ) (R : Option A → Type 0) → All P l → R none → ((x : A) → P x → R (some x))
+    → R (getElem? l n)
 elem-of P [] n R t a b = a
 elem-of P (x ∷ l) zero R t a b = b x (t .0)
 elem-of P (x ∷ l) (suc n) R t a b = elem-of P l n R (t .1) a b
@@ -98,7 +102,8 @@ map-replicate f (suc n) x = rw (map-replicate f n x)
 pub unlike-lists : {A : Type 0} (x : A) (s : List A) → [] ≡ x ∷ s → ⊥
 unlike-lists x s e = let h : _≡_ {A = ℕ} 0 1 = cc in omega arith
 
-pub zip-append : {A B D : Type 0} (f : A → B → D) (x y : List A) (n m : List B) → length x ≡ length n → zip₂ f (x ++ y) (n ++ m) ≡ zip₂ f x n ++ zip₂ f y m
+pub zip-append : {A B D : Type 0} (f : A → B → D) (x y : List A) (n m : List B) → length x ≡ length n
+    → zip₂ f (x ++ y) (n ++ m) ≡ zip₂ f x n ++ zip₂ f y m
 zip-append f [] y [] m h = refl
 zip-append f [] y (b ∷ n) m h = absurd (omega arith)
 zip-append f (a ∷ x) y [] m h = absurd (omega arith)
@@ -122,6 +127,7 @@ pub each-ext : {A B : Type 0} (f g : A → List B) → ((a : A) → f a ≡ g a)
 each-ext f g e [] = refl
 each-ext f g e (a ∷ s) = rw (e a, each-ext f g e s)
 
-pub at-ext : {A B : Type 0} (F F′ : ℕ → A → List B) → ((k : ℕ) (a : A) → F k a ≡ F′ k a) → (k : ℕ) (s : List A) → eachAt F k s ≡ eachAt F′ k s
+pub at-ext : {A B : Type 0} (F F′ : ℕ → A → List B) → ((k : ℕ) (a : A) → F k a ≡ F′ k a) → (k : ℕ) (s : List A)
+    → eachAt F k s ≡ eachAt F′ k s
 at-ext F F′ e k [] = refl
 at-ext F F′ e k (a ∷ s) = rw (e k a, at-ext F F′ e (suc k) s)

@@ -34,7 +34,8 @@ pub record Log : Type 0 where
 -- what a call adds for one index, as the Rust's `PendingTransition`
 abbrev pub pendingOf : Indexed (List Entry) → List PendingTransition
 pendingOf x =
-    map (λ (e : Entry). record { index = trackerIndex (x .index); selector = e .selector; old = e .move .old; new = e .move .new }) (x .what)
+    map (λ (e : Entry). record { index = trackerIndex (x .index); selector = e .selector; old = e .move .old; new = e .move .new })
+    (x .what)
 
 -- all that a call adds, in its order
 abbrev pub pending : List (Indexed (List Entry)) → List PendingTransition
@@ -95,7 +96,8 @@ unfoldable pub logging : {X : Type 0} → Bool → Log → X → CallResult Inva
 unfolding firstFailing
 logging fits log was r =
     let new = pending (r .log) in
-    unlessLogged (orNext (firstFailing (setsCheck fits ∷ headCheck log ∷ [])) (refusalOf (r .answer) (freeCheck (length new) log ∷ []))) log was
+    unlessLogged (orNext (firstFailing (setsCheck fits ∷ headCheck log ∷ [])) (refusalOf (r .answer) (freeCheck (length new) log ∷ [])))
+    log was
     (record { answer = r .answer; log = added new log; after = r .after })
 
 -- ---- Emptying

@@ -1,4 +1,5 @@
--- Ranges that tile: `coalesce`, `isolate` and `paint` keep the layers tiled, the first two keep the state of each layer, and no list has more ranges than layers.
+-- Ranges that tile: `coalesce`, `isolate` and `paint` keep the layers tiled, the first two keep the state of each layer, and no list has
+-- more ranges than layers.
 use Rattle.model.specs.Prelude.{max, ℕ, _-_, _+_, _≤_, _<_, arith, _≡_, refl, sym, ap, _∙_, true, and-eq-true-iff, List, [], _∷_}
 use Rattle.model.specs.Prelude.{_++_, map, append-assoc, leb, ltb, eqb, length, length-append, length-replicate, replicate}
 use Rattle.model.specs.Prelude.{replicate-append-replicate, eqb-true, eqb-false, leb-true, leb-false, ltb-true, ltb-false}
@@ -48,7 +49,8 @@ states-append (r ∷ x) y = rw (states-append x y, append-assoc)
 abbrev pub Same : ℕ → ℕ → List Range → List Range → Type 0
 Same a e x y = Tiles a x e × (layerStates x ≡ layerStates y)
 
-joined-states : (a b e st : ℕ) (s : List Range) → a < b → b < e → layerStates (range a e st ∷ s) ≡ layerStates (range a b st ∷ range b e st ∷ s)
+joined-states : (a b e st : ℕ) (s : List Range) → a < b → b < e
+    → layerStates (range a e st ∷ s) ≡ layerStates (range a b st ∷ range b e st ∷ s)
 unfolding layerStates
 joined-states a b e st s h k =
     let n : e - a ≡ (b - a) + (e - b) = omega arith in
@@ -70,7 +72,8 @@ coalesce-from (n ∷ s) cur a e t =
     let h = joins-hi cur n j in
     let ih = coalesce-from s (range (cur .start) (n .end) (cur .state)) a e (t .0, omega arith, t .2 .2) in
     (ih .0, ih .1 ∙ joined-states (cur .start) (cur .end) (n .end) (cur .state) s (omega arith) (omega arith) ∙ cc (h, joins-st cur n j)))
-    (λ j. let ih = coalesce-from s n (cur .end) e (t .2) in ((t .0, t .1, ih .0), ap (λ (l : List ℕ). replicate (cur .end - cur .start) (cur .state) ++ l) (ih .1)))
+    (λ j. let ih = coalesce-from s n (cur .end) e (t .2) in
+    ((t .0, t .1, ih .0), ap (λ (l : List ℕ). replicate (cur .end - cur .start) (cur .state) ++ l) (ih .1)))
 
 pub coalesce-same : (s : List Range) (a e : ℕ) → Tiles a s e → Same a e (coalesce s) s
 unfolding coalesce
@@ -94,7 +97,11 @@ cut-from (r ∷ s) p e d w h k t =
     by-test (λ (g : List Range). P (withRun g inner)) (ltb p (r .start)) (λ b. absurd (omega (arith, ltb-true p (r .start) b))) λ b.
     by-test P (ltb e (r .end))
     (λ b. let l = ltb-true e (r .end) b in let m : max p (r .start) ≡ r .start = omega arith in
-    rw m record { run = (t .0, h, refl); after = (refl, l, t .2); same = rw append-assoc (sym (joined-states (r .start) e (r .end) (r .state) s (omega arith) l)) }) λ b.
+    rw m record {
+      run = (t .0, h, refl);
+      after = (refl, l, t .2);
+      same = rw append-assoc (sym (joined-states (r .start) e (r .end) (r .state) s (omega arith) l));
+    }) λ b.
     by-test P (eqb e (r .end))
     (λ q. let l = eqb-true e (r .end) q in record { run = (t .0, t .1, sym l); after = rw l (t .2); same = rw append-assoc })
     (λ q. let l = ltb-false e (r .end) b in

@@ -161,7 +161,8 @@ setRefusal into given = firstFailing (flagsCheck into given ∷ eachAt (ownedChe
 -- ---- The sparse call
 -- "an index not below the scope's N is 7; one the scope does not own is passed over; an owned one is checked against the tracker"
 abbrev pub sparseChecks : Head → Head → ℕ → List Check
-sparseChecks into given i = check (not (ltb i (given .numbers .textures))) (NoSuchIndex (trackerIndex i)) ∷ ownedChecks into i (getD (given .extents) i none)
+sparseChecks into given i = check (not (ltb i (given .numbers .textures))) (NoSuchIndex (trackerIndex i))
+    ∷ ownedChecks into i (getD (given .extents) i none)
 
 -- 6, and then the listed indices "in list order, also before any change"
 abbrev pub sparseRefusal : Head → Head → List ℕ → Option Refusal

@@ -60,7 +60,8 @@ outcome (inScope cs) =
     let o = run cs opened in scope (o .answer) (slotAt (single 0) (getD (o .after .scopes) 0 (openSet single opening)) 0 .held)
 outcome (inTracker cs) =
     let o = run cs opened in
-    tracker (each (λ (i : Indexed (List Entry)). i .what) (o .log)) (slotAt (noEnds ranged) (getD (o .after .trackers) 0 (openTracker single opening) .set) 0 .held)
+    tracker (each (λ (i : Indexed (List Entry)). i .what) (o .log))
+    (slotAt (noEnds ranged) (getD (o .after .trackers) 0 (openTracker single opening) .set) 0 .held)
 outcome (isolating a e d s) = let c = isolate a e d s in ranges (length (c .before)) (length (c .run)) (listOf c)
 
 -- ---- Short names for the rows
@@ -101,20 +102,26 @@ rows =
     -- B7 whole 8, merged with a scope holding 2 at mip 0 layers 1..3 only: 0..1 8200, 1..3 10, 3..4 8200; mip 1 8200.
     ∷ row (inScope (merged 0 none 8 ∷ merged 1 (some part) 2 ∷ callMergeUsageScope 0 1 ∷ [])) (scope done (three 8200 10 8200 8200))
     -- B8 the same onto whole 4: clash at mip 0 layers 0..1, 4 and 8192.
-    ∷ row (inScope (merged 0 none 4 ∷ merged 1 (some part) 2 ∷ callMergeUsageScope 0 1 ∷ [])) (scope (conflict (select 0 1 0 1) 4 8192) (single 4))
+    ∷ row (inScope (merged 0 none 4 ∷ merged 1 (some part) 2 ∷ callMergeUsageScope 0 1 ∷ [])) (scope (conflict (select 0 1 0 1) 4 8192)
+    (single 4))
     -- B9 tracker whole 4, set mip 0 layers 1..3 to 8: transition there 4 to 8; end 0..1 4, 1..3 8, 3..4 4, mip 1 4; start whole 4.
-    ∷ row (inTracker (given 0 (full extent) 4 ∷ given 0 part 8 ∷ [])) (tracker (move part 4 8 ∷ []) (record { start = single 4; end = three 4 8 4 4 }))
+    ∷ row (inTracker (given 0 (full extent) 4 ∷ given 0 part 8 ∷ [])) (tracker (move part 4 8 ∷ [])
+    (record { start = single 4; end = three 4 8 4 4 }))
     -- B10 tracker whole 4 set to whole 4: transition 4 to 4.
-    ∷ row (inTracker (given 0 (full extent) 4 ∷ given 0 (full extent) 4 ∷ [])) (tracker (move (full extent) 4 4 ∷ []) (record { start = single 4; end = single 4 }))
+    ∷ row (inTracker (given 0 (full extent) 4 ∷ given 0 (full extent) 4 ∷ [])) (tracker (move (full extent) 4 4 ∷ [])
+    (record { start = single 4; end = single 4 }))
     -- B10 Whole 8 to 8: none.
     ∷ row (inTracker (given 0 (full extent) 8 ∷ given 0 (full extent) 8 ∷ [])) (tracker [] (record { start = single 8; end = single 8 }))
     -- B11 tracker first given B4's use, then whole 4: only 1..3 of mip 0, 8 to 4; start 0..1 4, 1..3 8, 3..4 4, mip 1 4.
-    ∷ row (inTracker (given 0 part 8 ∷ given 0 (full extent) 4 ∷ [])) (tracker (move part 8 4 ∷ []) (record { start = three 4 8 4 4; end = single 4 }))
-    -- B12 tracker given B4's use, joined with one of start whole 2, end whole 8: transition 1..3 of mip 0, 8 to 2; start is 8 in one range a mip; end whole 8.
+    ∷ row (inTracker (given 0 part 8 ∷ given 0 (full extent) 4 ∷ [])) (tracker (move part 8 4 ∷ [])
+    (record { start = three 4 8 4 4; end = single 4 }))
+    -- B12 tracker given B4's use, joined with one of start whole 2, end whole 8: transition 1..3 of mip 0, 8 to 2; start is 8 in one range
+    -- a mip; end whole 8.
     ∷ row (inTracker (given 0 part 8 ∷ given 1 (full extent) 2 ∷ given 1 (full extent) 8 ∷ callSetFromTracker 0 1 ∷ []))
     (tracker (move part 8 2 ∷ []) (record { start = many ((range 0 4 8 ∷ []) ∷ (range 0 4 8 ∷ []) ∷ []); end = single 8 }))
     -- B13 `isolate` 3..7, default D, on 2..4 A, 6..8 B: 2..3 A, 3..4 A, 4..6 D, 6..7 B, 7..8 B; the run is at position 1, three ranges.
-    ∷ row (isolating 3 7 100 (range 2 4 65 ∷ range 6 8 66 ∷ [])) (ranges 1 3 (range 2 3 65 ∷ range 3 4 65 ∷ range 4 6 100 ∷ range 6 7 66 ∷ range 7 8 66 ∷ []))
+    ∷ row (isolating 3 7 100 (range 2 4 65 ∷ range 6 8 66 ∷ [])) (ranges 1 3 (range 2 3 65 ∷ range 3 4 65 ∷ range 4 6 100 ∷ range 6 7 66
+    ∷ range 7 8 66 ∷ []))
     -- B14 `isolate` 5..7 on 0..2 A: 5..7 D is added, position 1, one range.
     ∷ row (isolating 5 7 100 (range 0 2 65 ∷ [])) (ranges 1 1 (range 0 2 65 ∷ range 5 7 100 ∷ []))
     ∷ []
@@ -131,7 +138,8 @@ misread =
     row (inTracker (merged 0 (some (select 0 1 0 4)) 8 ∷ merged 0 (some part) 4 ∷ callSetFromUsageScope 0 0 ∷ []))
     (tracker [] (record { start = three 8 8 8 unknown; end = three 8 8 8 unknown }))
     -- a state with UNKNOWN and another bit is not UNKNOWN: B7's scope given to a tracker, then whole 4
-    ∷ row (inTracker (merged 0 none 8 ∷ merged 1 (some part) 2 ∷ callMergeUsageScope 0 1 ∷ callSetFromUsageScope 0 0 ∷ given 0 (full extent) 4 ∷ []))
+    ∷ row (inTracker (merged 0 none 8 ∷ merged 1 (some part) 2 ∷ callMergeUsageScope 0 1 ∷ callSetFromUsageScope 0 0
+    ∷ given 0 (full extent) 4 ∷ []))
     (tracker (move (select 0 1 0 1) 8200 4 ∷ move part 10 4 ∷ move (select 0 1 3 4) 8200 4 ∷ move (select 1 2 0 4) 8200 4 ∷ [])
     (record { start = three 8200 10 8200 8200; end = single 4 }))
     ∷ []

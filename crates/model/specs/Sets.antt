@@ -78,7 +78,11 @@ capacity n = n .textures * n .mips * n .layers
 
 -- "Opened, no index is owned and each state is UNINITIALIZED."
 abbrev pub openSet : {H : Type 0} → (ℕ → H) → Opening → Set H
-openSet h o = record { numbers = o .numbers; flags = o .flags; slots = replicate (o .numbers .textures) (emptySlot (h (o .flags .uninitialized))) }
+openSet h o = record {
+  numbers = o .numbers;
+  flags = o .flags;
+  slots = replicate (o .numbers .textures) (emptySlot (h (o .flags .uninitialized)));
+}
 
 -- the same of a tracker, its start and its end
 abbrev pub openTracker : {H : Type 0} → (ℕ → H) → Opening → Tracker H

@@ -1,4 +1,5 @@
--- The Rust's rules for one state: mod.rs, and the lines of texture.rs that make a new state from an old and a given one. `none` is a conflict.
+-- The Rust's rules for one state: mod.rs, and the lines of texture.rs that make a new state from an old and a given one. `none` is a
+-- conflict.
 use Rattle.model.specs.Prelude.{ℕ, _-_, Bool, _&&_, _||_, not, Option, none, some, eqb, bitAnd, bitOr}
 use Rattle.model.specs.{declared.UsageFlags.UsageFlags, Base.if_then_else_}
 use lib.Count.{onesIn}

@@ -70,7 +70,8 @@ unfoldable pub spreadPiece : UsageFlags → ℕ → Piece → List (List Range) 
 unfolding unite paint coalesce
 spreadPiece p cur q ss =
     ruled ss (invalidUse (q .selector) cur (q .state))
-    (Option·map (λ u. onMips (q .selector) (λ s. coalesce (paint (p .unknown) (layerStart (q .selector)) (layerEnd (q .selector)) u s)) 0 ss) (unite p cur (q .state)))
+    (Option·map (λ u. onMips (q .selector) (λ s. coalesce (paint (p .unknown) (layerStart (q .selector)) (layerEnd (q .selector)) u s))
+    0 ss) (unite p cur (q .state)))
 
 -- Many with either: a range of mip k; the conflict tells that range
 abbrev pub mergeRange : UsageFlags → ℕ → ℕ → Range → Stop InvalidUse Range
@@ -134,7 +135,8 @@ barrier p mask sh (single cur) (givenMany qs) = each (λ (q : Piece). entry (q .
 barrier p mask sh (many ss) (givenSingle new) = eachAt (mipEntries (λ cur. moveOf (p .unknown) mask cur new)) 0 ss
 barrier p mask sh (many ss) (givenMany qs) =
     each (λ (q : Piece). eachAt (λ k s. if inMips (q .selector) k
-    then mipEntries (λ cur. moveOf (p .unknown) mask cur (q .state)) k (iterFilter (layerStart (q .selector)) (layerEnd (q .selector)) s) else []) 0 ss) qs
+    then mipEntries (λ cur. moveOf (p .unknown) mask cur (q .state)) k
+    (iterFilter (layerStart (q .selector)) (layerEnd (q .selector)) s) else []) 0 ss) qs
 
 -- ---- `update`
 -- a Single end, broken up by the pieces; one that is UNKNOWN isolates and changes nothing else
@@ -142,7 +144,8 @@ unfoldable pub spreadEnd : ℕ → ℕ → List Piece → List (List Range) → 
 unfolding paint coalesce
 spreadEnd u cur [] ss = ss
 spreadEnd u cur (q ∷ qs) ss =
-    spreadEnd u cur qs (onMips (q .selector) (λ s. coalesce (paint u (layerStart (q .selector)) (layerEnd (q .selector)) (endAfter u cur (q .state)) s)) 0 ss)
+    spreadEnd u cur qs (onMips (q .selector)
+    (λ s. coalesce (paint u (layerStart (q .selector)) (layerEnd (q .selector)) (endAfter u cur (q .state)) s)) 0 ss)
 
 -- a mip of the start takes a state where ranges of the end are UNKNOWN
 unfoldable pub learn : ℕ → ℕ → List Range → List Range → List Range
@@ -172,7 +175,8 @@ unfolding paint coalesce isolate learn
 updateAll u [] ss start = record { start = start; end = many ss }
 updateAll u (q ∷ qs) ss start =
     if eqb (q .state) u then updateAll u qs ss start
-    else updateAll u qs (onMips (q .selector) (λ s. coalesce (paint u (layerStart (q .selector)) (layerEnd (q .selector)) (q .state) s)) 0 ss)
+    else updateAll u qs (onMips (q .selector) (λ s. coalesce (paint u (layerStart (q .selector)) (layerEnd (q .selector)) (q .state) s)) 0
+    ss)
     (learnHeld (metBy u q) u (q .state) ss start)
 
 -- the start and the end after a given end, with a clause for each arm of its `match`

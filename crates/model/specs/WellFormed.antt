@@ -70,4 +70,5 @@ wellFormedScope room s = scopeFits s && leb (capacity (s .numbers)) room
 
 -- a tracker has room for the start's ranges and for the end's
 abbrev pub wellFormedTracker : ℕ → ℕ → Tracker Held → Bool
-wellFormedTracker startRoom endRoom t = trackerFits t && leb (capacity (t .set .numbers)) startRoom && leb (capacity (t .set .numbers)) endRoom
+wellFormedTracker startRoom endRoom t = trackerFits t && leb (capacity (t .set .numbers)) startRoom
+    && leb (capacity (t .set .numbers)) endRoom

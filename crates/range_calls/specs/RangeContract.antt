@@ -3,8 +3,8 @@ use Rattle.model.specs.Prelude.{ℕ, _≡_, Option, none, some, List, length}
 use Rattle.model.specs.declared.{Range.Range, Refusal.Refusal}
 use Rattle.model.specs.RangeCalls.{isolateRefusal, isolated, coalesceRefusal, coalesced, filterRefusal, filtered}
 use Rattle.range_states.specs.View.{view, spare}
-use Rattle.range_calls.specs.{declared.Isolation.Isolation, declared.IsolateAnswer.IsolateAnswer}
-use Rattle.range_calls.specs.{declared.CoalesceAnswer.CoalesceAnswer, declared.FilterAnswer.FilterAnswer}
+use Rattle.range_calls.specs.declared.{Isolation.Isolation, IsolateAnswer.IsolateAnswer, CoalesceAnswer.CoalesceAnswer}
+use Rattle.range_calls.specs.declared.{FilterAnswer.FilterAnswer}
 use Rattle.range_calls.specs.declared.IsolateAnswer.the-variants as isolate
 use Rattle.range_calls.specs.declared.CoalesceAnswer.the-variants as coalesce
 use Rattle.range_calls.specs.declared.FilterAnswer.the-variants as filter
@@ -30,7 +30,8 @@ filterTold (some r) n = filter.Refused r
 -- ---- On a list of records: `isolate` "tells the run's position and count", and "the strip's new length"
 unfoldable pub isolateAnswer : ℕ → ℕ → ℕ → ℕ → List Range → IsolateAnswer
 isolateAnswer a e d told rs =
-    let i = isolated a e d told rs in isolateTold (isolateRefusal a e d told rs) (record { position = i .position; count = i .count; told = i .told })
+    let i = isolated a e d told rs in
+    isolateTold (isolateRefusal a e d told rs) (record { position = i .position; count = i .count; told = i .told })
 
 unfoldable pub isolateRecords : ℕ → ℕ → ℕ → ℕ → List Range → List Range
 isolateRecords a e d told rs = unless (isolateRefusal a e d told rs) (isolated a e d told rs .records) rs

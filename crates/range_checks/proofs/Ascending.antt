@@ -12,7 +12,8 @@ pub record Testing (l : List ℕ) (len k from : ℕ) : Type 0 where
 pub start-of : (l : List ℕ) (len : ℕ) → Testing l len 0 0
 start-of l len = record { high = omega arith; left = refl }
 
-module _ {l : List ℕ} {len k from : ℕ} {x : Range} (room : 3 * len ≤ length l) (j : Testing l len k from) (t : k < len) (g : x ≡ getD (view l) k blank) where
+module _ {l : List ℕ} {len k from : ℕ} {x : Range} (room : 3 * len ≤ length l) (j : Testing l len k from) (t : k < len)
+    (g : x ≡ getD (view l) k blank) where
   here : ascends from (x ∷ drop (k + 1) (decode len l)) ≡ ascends 0 (decode len l)
   here = rw (next-is l len k x room t g) at (j .left)
 
@@ -27,6 +28,5 @@ module _ {l : List ℕ} {len k from : ℕ} {x : Range} (room : 3 * len ≤ lengt
 
 pub finish : {l : List ℕ} {len k from : ℕ} → Testing l len k from → len ≤ k → true ≡ ascends 0 (decode len l)
 finish {l} {len} {k} {from} j h =
-    let e : k ≡ len = omega (arith, j .high) in
-    let z : drop k (decode len l) ≡ [] = rw e (slice-empty len (view l)) in
+    let e : k ≡ len = omega (arith, j .high) in let z : drop k (decode len l) ≡ [] = rw e (slice-empty len (view l)) in
     rw z at (j .left)

@@ -3,8 +3,8 @@ use Rattle.model.specs.Prelude.{ℕ, _-_, _*_, _≤_, arith, _≡_, sym, Bool, 
 use Rattle.model.specs.Prelude.{ltb-false}
 use Rattle.model.specs.{BoolLaws.neither, CheckLaws.first-passed, RangedStates.{listOf, isolate, iterFilter}}
 use Rattle.model.specs.RangeCalls.{ascends, isolateRefusal, isolated, coalesceRefusal, coalesced, filterRefusal}
-use Rattle.range_isolate.specs.{declared.isolation.Isolated.{Isolated as Told}, Isolation.{IsolateRoom, Isolating}}
-use Rattle.range_states.specs.{View.{view, decode, view-count}, Coalescing.{Coalesced as Coalescing}}
+use Rattle.range_isolate.specs.{declared.isolation.Isolated.Isolated as Told, Isolation.{IsolateRoom, Isolating}}
+use Rattle.range_states.specs.{View.{view, decode, view-count}, Coalescing.Coalesced as Coalescing}
 
 -- ---- what is accepted has the room
 pub told-fits : (l : List ℕ) (told : ℕ) (b : Bool) → (ltb (length (view l)) told || b) ≡ false → 3 * told ≤ length l
@@ -16,10 +16,11 @@ record-fits l n e = let h = ltb-false (length (view l)) n e in omega (arith, vie
 
 pub isolate-accepted : (l : List ℕ) (told a e d : ℕ) → isolateRefusal a e d told (view l) ≡ none → IsolateRoom l told a e d
 isolate-accepted l told a e d h =
-    let one = first-passed _ _ h in
-    let two = first-passed _ _ (one .1) in
-    let three = first-passed _ _ (two .1) in
-    record { fits = told-fits l told (not (ascends 0 (take told (view l)))) (two .0); grown = record-fits l (length (listOf (isolate a e d (take told (view l))))) (three .0) }
+    let one = first-passed _ _ h in let two = first-passed _ _ (one .1) in let three = first-passed _ _ (two .1) in
+    record {
+      fits = told-fits l told (not (ascends 0 (take told (view l)))) (two .0);
+      grown = record-fits l (length (listOf (isolate a e d (take told (view l))))) (three .0);
+    }
 
 pub coalesce-accepted : (l : List ℕ) (told : ℕ) → coalesceRefusal told (view l) ≡ none → 3 * told ≤ length l
 coalesce-accepted l told h =
@@ -32,10 +33,11 @@ pub record FilterRoom (l : List ℕ) (told a e : ℕ) (m : List ℕ) : Type 0 wh
 
 pub filter-accepted : (l : List ℕ) (told a e : ℕ) (m : List ℕ) → filterRefusal a e told (view l) (view m) ≡ none → FilterRoom l told a e m
 filter-accepted l told a e m h =
-    let one = first-passed _ _ h in
-    let two = first-passed _ _ (one .1) in
-    let three = first-passed _ _ (two .1) in
-    record { fits = told-fits l told (not (ascends 0 (take told (view l)))) (two .0); room = record-fits m (length (iterFilter a e (take told (view l)))) (three .0) }
+    let one = first-passed _ _ h in let two = first-passed _ _ (one .1) in let three = first-passed _ _ (two .1) in
+    record {
+      fits = told-fits l told (not (ascends 0 (take told (view l)))) (two .0);
+      room = record-fits m (length (iterFilter a e (take told (view l)))) (three .0);
+    }
 
 -- ---- what is left is what the model's calls leave; that the told length is the model's is the contracts' own `size` and `count`
 pub record TellsIsolated (l : List ℕ) (len a e d : ℕ) (r : Told) (l′ : List ℕ) : Type 0 where

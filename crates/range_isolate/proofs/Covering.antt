@@ -23,7 +23,8 @@ module _ (p e d : ℕ) (x : Range) (s : List Range) where
   unfolding isolateFrom
   from-before h = rw (le-leb e (x .start) h)
 
-  pub from-last : x .start < e → e ≤ x .end → isolateFrom p e d (x ∷ s) ≡ withRun (gapBefore d p (x .start)) (lastOf (max p (x .start)) e x s)
+  pub from-last : x .start < e → e ≤ x .end
+      → isolateFrom p e d (x ∷ s) ≡ withRun (gapBefore d p (x .start)) (lastOf (max p (x .start)) e x s)
   unfolding isolateFrom
   from-last h k = rw (lt-leb e (x .start) h) (ap (withRun (gapBefore d p (x .start))) (go (ltb e (x .end)) refl))
     where
@@ -34,7 +35,8 @@ module _ (p e d : ℕ) (x : Range) (s : List Range) where
       go true q = refl
       go false q = rw (eq-eqb e (x .end) (omega (arith, ltb-false e (x .end) q)))
 
-  pub from-more : x .start < e → x .end < e → isolateFrom p e d (x ∷ s) ≡ withRun (gapBefore d p (x .start)) (withRun (x ∷ []) (isolateFrom (x .end) e d s))
+  pub from-more : x .start < e → x .end < e
+      → isolateFrom p e d (x ∷ s) ≡ withRun (gapBefore d p (x .start)) (withRun (x ∷ []) (isolateFrom (x .end) e d s))
   unfolding isolateFrom
   from-more h k = rw (lt-leb e (x .start) h, le-ltb e (x .end) (le-of-lt k), ne-eqb e (x .end) (λ q. omega arith))
 
@@ -52,7 +54,9 @@ all-long g c = rw (append-assoc, length-append)
 last-long : (a e : ℕ) (x : Range) (s : List Range) → length (allOf (lastOf a e x s)) ≡ suc (length s) + cutCount e x
 last-long a e x s = go (ltb e (x .end))
   where
-    go : (t : Bool) → length (allOf (if t then rest (range a e (x .state) ∷ []) (range e (x .end) (x .state) ∷ s) else rest (x ∷ []) s)) ≡ suc (length s) + (if t then 1 else 0)
+    go : (t : Bool)
+        → length (allOf (if t then rest (range a e (x .state) ∷ []) (range e (x .end) (x .state) ∷ s) else rest (x ∷ []) s))
+        ≡ suc (length s) + (if t then 1 else 0)
     go true = omega arith
     go false = omega arith
 
@@ -60,10 +64,12 @@ module _ (e d p : ℕ) (x : Range) (s : List Range) where
   pub long-before : e ≤ x .start → length (allOf (isolateFrom p e d (x ∷ s))) ≡ suc (suc (length s))
   long-before h = rw (from-before p e d x s h)
 
-  pub long-last : x .start < e → e ≤ x .end → length (allOf (isolateFrom p e d (x ∷ s))) ≡ gapCount p (x .start) + (suc (length s) + cutCount e x)
+  pub long-last : x .start < e → e ≤ x .end
+      → length (allOf (isolateFrom p e d (x ∷ s))) ≡ gapCount p (x .start) + (suc (length s) + cutCount e x)
   long-last h k = rw (from-last p e d x s h k, all-long, gap-long, last-long)
 
-  pub long-more : x .start < e → x .end < e → length (allOf (isolateFrom p e d (x ∷ s))) ≡ gapCount p (x .start) + suc (length (allOf (isolateFrom (x .end) e d s)))
+  pub long-more : x .start < e → x .end < e
+      → length (allOf (isolateFrom p e d (x ∷ s))) ≡ gapCount p (x .start) + suc (length (allOf (isolateFrom (x .end) e d s)))
   long-more h k = rw (from-more p e d x s h k, all-long, gap-long)
 
 pub from-long : (e d p : ℕ) (s : List Range) → length s ≤ length (allOf (isolateFrom p e d s))
@@ -73,36 +79,53 @@ from-long e d p (x ∷ s) =
     by-order e (x .end) (λ k. omega (arith, long-last e d p x s h k)) λ k.
     omega (arith, long-more e d p x s h k, from-long e d (x .end) s)
 
-gap-fits : (e d p : ℕ) (x : Range) (s : List Range) → x .start < e → suc (length s) + gapCount p (x .start) ≤ length (allOf (isolateFrom p e d (x ∷ s)))
+gap-fits : (e d p : ℕ) (x : Range) (s : List Range) → x .start < e
+    → suc (length s) + gapCount p (x .start) ≤ length (allOf (isolateFrom p e d (x ∷ s)))
 gap-fits e d p x s h =
     by-order e (x .end) (λ k. omega (arith, long-last e d p x s h k)) λ k.
     omega (arith, long-more e d p x s h k, from-long e d (x .end) s)
 
 -- ---- `fill_gap`
-pub gapped-yes : {l : List ℕ} {len pos at start d : ℕ} {l′ : List ℕ} → 3 * (len + gapCount at start) ≤ length l → pos ≤ len → at < start → Becomes l (len + 1) (insertAt pos (range at start d) (decode len l)) l′ → Gapped l len pos at start d 1 l′
+pub gapped-yes : {l : List ℕ} {len pos at start d : ℕ} {l′ : List ℕ} → 3 * (len + gapCount at start) ≤ length l → pos ≤ len → at < start
+    → Becomes l (len + 1) (insertAt pos (range at start d) (decode len l)) l′ → Gapped l len pos at start d 1 l′
 gapped-yes {l} {len} {pos} {at} {start} {d} room h t b =
-    record { few = omega arith; added = rw (lt-ltb at start t); into = rw (lt-ltb at start t, ← insert-is l len pos (omega arith) h (range at start d)) b }
+    record {
+      few = omega arith;
+      added = rw (lt-ltb at start t);
+      into = rw (lt-ltb at start t, ← insert-is l len pos (omega arith) h (range at start d)) b;
+    }
 
-pub gapped-no : {l : List ℕ} {len pos at start d : ℕ} → 3 * (len + gapCount at start) ≤ length l → pos ≤ len → start ≤ at → Gapped l len pos at start d 0 l
+pub gapped-no : {l : List ℕ} {len pos at start d : ℕ} → 3 * (len + gapCount at start) ≤ length l → pos ≤ len → start ≤ at
+    → Gapped l len pos at start d 0 l
 gapped-no {l} {len} {pos} {at} {start} {d} room h t =
-    record { few = omega arith; added = rw (le-ltb at start t); into = rw (le-ltb at start t, joined-is l len pos (omega arith) h, add-zero) (becomes-none l len (omega arith)) }
+    record {
+      few = omega arith;
+      added = rw (le-ltb at start t);
+      into = rw (le-ltb at start t, joined-is l len pos (omega arith) h, add-zero)
+          (becomes-none l len (omega arith));
+    }
 
 -- ---- `cut_end`
-pub uncut : {l : List ℕ} {len pos at e : ℕ} {x : Range} → 3 * (len + cutCount e (getD (view l) pos blank)) ≤ length l → pos < len → x ≡ getD (view l) pos blank → x .end ≤ e → EndCut l len pos at e 0 l
+pub uncut : {l : List ℕ} {len pos at e : ℕ} {x : Range} → 3 * (len + cutCount e (getD (view l) pos blank)) ≤ length l → pos < len
+    → x ≡ getD (view l) pos blank → x .end ≤ e → EndCut l len pos at e 0 l
 uncut {l} {len} {pos} {at} {e} {x} room h g t =
     let n : drop pos (decode len l) ≡ x ∷ drop (pos + 1) (decode len l) = next-is l len pos x (omega arith) h g in
     let w : decode pos l ++ (x ∷ drop (pos + 1) (decode len l)) ≡ decode len l = rw n at (joined-is l len pos (omega arith) (le-of-lt h)) in
     record { few = omega arith; fits = omega arith; into = rw (n, le-ltb e (x .end) t, w, add-zero) (becomes-none l len (omega arith)) }
 
-pub cut-room : (l : List ℕ) (len pos e : ℕ) (x : Range) → 3 * (len + cutCount e (getD (view l) pos blank)) ≤ length l → x ≡ getD (view l) pos blank → e < x .end → 3 * (len + 1) ≤ length l
+pub cut-room : (l : List ℕ) (len pos e : ℕ) (x : Range) → 3 * (len + cutCount e (getD (view l) pos blank)) ≤ length l
+    → x ≡ getD (view l) pos blank → e < x .end → 3 * (len + 1) ≤ length l
 cut-room l len pos e x room g t = rw (← g, lt-ltb e (x .end) t) at room
 
-pub cut : {l : List ℕ} {len pos at e : ℕ} {x : Range} {l₁ l₂ : List ℕ} → 3 * (len + cutCount e (getD (view l) pos blank)) ≤ length l → pos < len → x ≡ getD (view l) pos blank → e < x .end → Put l pos (range e (x .end) (x .state)) l₁ → Becomes l₁ (len + 1) (insertAt pos (range at e (x .state)) (decode len l₁)) l₂ → EndCut l len pos at e 1 l₂
+pub cut : {l : List ℕ} {len pos at e : ℕ} {x : Range} {l₁ l₂ : List ℕ} → 3 * (len + cutCount e (getD (view l) pos blank)) ≤ length l
+    → pos < len → x ≡ getD (view l) pos blank → e < x .end → Put l pos (range e (x .end) (x .state)) l₁
+    → Becomes l₁ (len + 1) (insertAt pos (range at e (x .state)) (decode len l₁)) l₂ → EndCut l len pos at e 1 l₂
 cut {l} {len} {pos} {at} {e} {x} room h g t p b =
     record {
       few = omega arith;
       fits = cut-room l len pos e x room g t;
-      into = rw (next-is l len pos x (omega arith) h g, lt-ltb e (x .end) t) (put-insert (range at e (x .state)) (cut-room l len pos e x room g t) h p b);
+      into = rw (next-is l len pos x (omega arith) h g, lt-ltb e (x .end) t)
+          (put-insert (range at e (x .state)) (cut-room l len pos e x room g t) h p b);
     }
 
 -- ---- the room at each step of `cover`
@@ -135,31 +158,54 @@ module _ {l : List ℕ} {len pos at e d : ℕ} (room : CoverRoom l len pos at e 
     room-cut : x .start < e → e ≤ x .end → 3 * (len + gapCount at (x .start) + cutCount e x) ≤ length l
     room-cut t k = omega (arith, grown-here, rest-long, long-last e d at x (drop (pos + 1) (decode len l)) t k)
 
-    room-more : x .start < e → x .end < e → 3 * (pos + gapCount at (x .start) + 1 + length (allOf (isolateFrom (x .end) e d (drop (pos + 1) (decode len l))))) ≤ length l
+    room-more : x .start < e → x .end < e
+        → 3 * (pos + gapCount at (x .start) + 1 + length (allOf (isolateFrom (x .end) e d (drop (pos + 1) (decode len l))))) ≤ length l
     room-more t k = omega (arith, grown-here, long-more e d at x (drop (pos + 1) (decode len l)) t k)
 
 -- ---- each way out of `cover`
-pub cover-end : {l : List ℕ} {len pos at e d : ℕ} {l′ : List ℕ} → CoverRoom l len pos at e d → pos ≡ len → Becomes l (len + 1) (insertAt pos (range at e d) (decode len l)) l′ → Covered l len pos at e d (record { len = len + 1; end = pos + 1 }) l′
+pub cover-end : {l : List ℕ} {len pos at e d : ℕ} {l′ : List ℕ} → CoverRoom l len pos at e d → pos ≡ len
+    → Becomes l (len + 1) (insertAt pos (range at e d) (decode len l)) l′
+    → Covered l len pos at e d (record { len = len + 1; end = pos + 1 }) l′
 unfolding isolateFrom
 cover-end {l} {len} {pos} {at} {e} {d} room h b =
     let z : drop pos (decode len l) ≡ [] = rw h (slice-empty len (view l)) in
-    let i : insertAt pos (range at e d) (decode len l) ≡ decode pos l ++ (range at e d ∷ drop pos (decode len l)) = insert-is l len pos (omega arith) (omega arith) (range at e d) in
-    record { low = omega arith; fits = room-end room (omega arith) h; some = omega arith; in-all = omega arith; end = rw z; into = rw z (rw (i, z) at b) }
+    let i : insertAt pos (range at e d) (decode len l) ≡ decode pos l ++ (range at e d ∷ drop pos (decode len l)) =
+    insert-is l len pos (omega arith) (omega arith) (range at e d) in
+    record {
+      low = omega arith;
+      fits = room-end room (omega arith) h;
+      some = omega arith;
+      in-all = omega arith;
+      end = rw z;
+      into = rw z (rw (i, z) at b);
+    }
 
-pub cover-before : {l : List ℕ} {len pos at e d : ℕ} {x : Range} {l′ : List ℕ} → CoverRoom l len pos at e d → pos < len → x ≡ getD (view l) pos blank → e ≤ x .start → Becomes l (len + 1) (insertAt pos (range at e d) (decode len l)) l′ → Covered l len pos at e d (record { len = len + 1; end = pos + 1 }) l′
+pub cover-before : {l : List ℕ} {len pos at e d : ℕ} {x : Range} {l′ : List ℕ} → CoverRoom l len pos at e d → pos < len
+    → x ≡ getD (view l) pos blank → e ≤ x .start → Becomes l (len + 1) (insertAt pos (range at e d) (decode len l)) l′
+    → Covered l len pos at e d (record { len = len + 1; end = pos + 1 }) l′
 cover-before {l} {len} {pos} {at} {e} {d} {x} room h g t b =
     let n : drop pos (decode len l) ≡ x ∷ drop (pos + 1) (decode len l) = next-is l len pos x (room .fits) h g in
     let f = from-before at e d x (drop (pos + 1) (decode len l)) t in
-    let i : insertAt pos (range at e d) (decode len l) ≡ decode pos l ++ (range at e d ∷ drop pos (decode len l)) = insert-is l len pos (room .fits) (le-of-lt h) (range at e d) in
-    record { low = omega arith; fits = room-before room (le-of-lt h) h g t; some = omega arith; in-all = omega arith; end = rw (n, f); into = rw (n, f) (rw (i, n) at b) }
+    let i : insertAt pos (range at e d) (decode len l) ≡ decode pos l ++ (range at e d ∷ drop pos (decode len l)) =
+    insert-is l len pos (room .fits) (le-of-lt h) (range at e d) in
+    record {
+      low = omega arith;
+      fits = room-before room (le-of-lt h) h g t;
+      some = omega arith;
+      in-all = omega arith;
+      end = rw (n, f);
+      into = rw (n, f) (rw (i, n) at b);
+    }
 
 -- after the gap is filled: the front with the gap's record, and the back
-module _ (l : List ℕ) (len pos at d : ℕ) (x : Range) (g : ℕ) (l₁ : List ℕ) (room : 3 * (len + gapCount at (x .start)) ≤ length l) (h : pos < len) (q : Gapped l len pos at (x .start) d g l₁) where
+module _ (l : List ℕ) (len pos at d : ℕ) (x : Range) (g : ℕ) (l₁ : List ℕ) (room : 3 * (len + gapCount at (x .start)) ≤ length l)
+    (h : pos < len) (q : Gapped l len pos at (x .start) d g l₁) where
   abbrev front : List Range
   front = decode pos l ++ gapBefore d at (x .start)
 
   front-size : length front ≡ pos + g
-  front-size = length-append (decode pos l) (gapBefore d at (x .start)) ∙ rw (front-long l len pos (omega arith) (le-of-lt h), gap-long d at (x .start), q .added)
+  front-size = length-append (decode pos l) (gapBefore d at (x .start))
+      ∙ rw (front-long l len pos (omega arith) (le-of-lt h), gap-long d at (x .start), q .added)
 
   filled-all : decode (len + g) l₁ ≡ front ++ drop pos (decode len l)
   filled-all = becomes-live (q .into) ∙ sym (append-assoc (decode pos l) (gapBefore d at (x .start)) (drop pos (decode len l)))
@@ -212,23 +258,29 @@ module _ (l : List ℕ) (len pos at d : ℕ) (x : Range) (g : ℕ) (l₁ : List 
     cut-fits rm k = rw cut-at (omega (arith, room-cut rm (le-of-lt h) h o t k, q .added, q .into .long))
 
     -- what is made here: the gap, and then the rest
-    here-is : (c : Rest) → isolateFrom at e d (x ∷ behind) ≡ withRun (gapBefore d at (x .start)) c → decode pos l ++ allOf (isolateFrom at e d (drop pos (decode len l))) ≡ front ++ allOf c
+    here-is : (c : Rest) → isolateFrom at e d (x ∷ behind) ≡ withRun (gapBefore d at (x .start)) c
+        → decode pos l ++ allOf (isolateFrom at e d (drop pos (decode len l))) ≡ front ++ allOf c
     here-is c u = rw (this, u) (simp append-assoc)
 
-    here-runs : (c : Rest) → isolateFrom at e d (x ∷ behind) ≡ withRun (gapBefore d at (x .start)) c → length ((isolateFrom at e d (drop pos (decode len l))) .run) ≡ g + length (c .run)
+    here-runs : (c : Rest) → isolateFrom at e d (x ∷ behind) ≡ withRun (gapBefore d at (x .start)) c
+        → length ((isolateFrom at e d (drop pos (decode len l))) .run) ≡ g + length (c .run)
     here-runs c u = rw (this, u, length-append, gap-long d at (x .start), ← q .added)
 
     last-runs : (a : ℕ) → length ((lastOf a e x behind) .run) ≡ 1
     last-runs a = go (ltb e (x .end))
       where
-        go : (b : Bool) → length ((if b then rest (range a e (x .state) ∷ []) (range e (x .end) (x .state) ∷ behind) else rest (x ∷ []) behind) .run) ≡ 1
+        go : (b : Bool)
+            → length ((if b then rest (range a e (x .state) ∷ []) (range e (x .end) (x .state) ∷ behind) else rest (x ∷ []) behind) .run)
+            ≡ 1
         go true = refl
         go false = refl
 
-    pub cover-cut : (from hh : ℕ) (l₂ : List ℕ) → 3 * (len + g + hh) ≤ length l → e ≤ x .end → from ≡ max at (x .start) → EndCut l₁ (len + g) (pos + g) from e hh l₂ → Covered l len pos at e d (record { len = len + g + hh; end = pos + g + 1 }) l₂
+    pub cover-cut : (from hh : ℕ) (l₂ : List ℕ) → 3 * (len + g + hh) ≤ length l → e ≤ x .end → from ≡ max at (x .start)
+        → EndCut l₁ (len + g) (pos + g) from e hh l₂ → Covered l len pos at e d (record { len = len + g + hh; end = pos + g + 1 }) l₂
     cover-cut from hh l₂ ft k f c =
         let i = from-last at e d x behind t k in
-        let u : decode pos l ++ allOf (isolateFrom at e d (drop pos (decode len l))) ≡ front ++ allOf (lastOf from e x behind) = rw f (here-is (lastOf (max at (x .start)) e x behind) i) in
+        let u : decode pos l ++ allOf (isolateFrom at e d (drop pos (decode len l))) ≡ front ++ allOf (lastOf from e x behind) =
+        rw f (here-is (lastOf (max at (x .start)) e x behind) i) in
         let b : Becomes l₁ (len + g + hh) (front ++ allOf (lastOf from e x behind)) l₂ = rw (filled-take, filled-drop, this) at (c .into) in
         let v = here-runs (lastOf (max at (x .start)) e x behind) i in
         record {
@@ -240,13 +292,15 @@ module _ (l : List ℕ) (len pos at d : ℕ) (x : Range) (g : ℕ) (l₁ : List 
           into = rw u (becomes-then (q .into) (omega arith) b);
         }
 
-    pub cover-more : (r : Placed) (l₂ : List ℕ) → x .end < e → Covered l₁ (len + g) (pos + g + 1) (x .end) e d r l₂ → Covered l len pos at e d r l₂
+    pub cover-more : (r : Placed) (l₂ : List ℕ) → x .end < e → Covered l₁ (len + g) (pos + g + 1) (x .end) e d r l₂
+        → Covered l len pos at e d r l₂
     cover-more r l₂ k c =
-        let i = from-more at e d x behind t k in
-        let more : Rest = withRun (x ∷ []) (isolateFrom (x .end) e d behind) in
+        let i = from-more at e d x behind t k in let more : Rest = withRun (x ∷ []) (isolateFrom (x .end) e d behind) in
         let u : decode pos l ++ allOf (isolateFrom at e d (drop pos (decode len l))) ≡ front ++ allOf more = here-is more i in
-        let b : Becomes l₁ (r .len) ((front ++ (x ∷ [])) ++ allOf (isolateFrom (x .end) e d behind)) l₂ = rw (past-take, past-drop) at (c .into) in
-        let b′ : Becomes l₁ (r .len) (front ++ allOf more) l₂ = rw (append-assoc front (x ∷ []) (allOf (isolateFrom (x .end) e d behind))) at b in
+        let b : Becomes l₁ (r .len) ((front ++ (x ∷ [])) ++ allOf (isolateFrom (x .end) e d behind)) l₂ =
+        rw (past-take, past-drop) at (c .into) in
+        let b′ : Becomes l₁ (r .len) (front ++ allOf more) l₂ =
+        rw (append-assoc front (x ∷ []) (allOf (isolateFrom (x .end) e d behind))) at b in
         let v = here-runs more i in
         let w : r .end ≡ pos + g + 1 + length ((isolateFrom (x .end) e d behind) .run) = rw past-drop at (c .end) in
         record {

@@ -17,7 +17,8 @@ module _ {A : Type 0} where
   shifted-none zero (x ∷ l) = refl
   shifted-none (suc n) (x ∷ l) = ap (λ (t : List A). x ∷ t) (shifted-none n l)
 
-  shifted-suc : (k n : ℕ) (l : List A) (d : A) → k < n → n < length l → set (shifted (suc k) n l) (suc k) (getD (shifted (suc k) n l) k d) ≡ shifted k n l
+  shifted-suc : (k n : ℕ) (l : List A) (d : A) → k < n → n < length l
+      → set (shifted (suc k) n l) (suc k) (getD (shifted (suc k) n l) k d) ≡ shifted k n l
   unfolding shifted
   shifted-suc k n [] d h g = absurd (not-suc-le-zero g)
   shifted-suc k zero (x ∷ l) d h g = absurd (not-suc-le-zero h)
@@ -26,18 +27,22 @@ module _ {A : Type 0} where
   shifted-suc (suc k) (suc n) (x ∷ l) d h g = ap (λ (t : List A). x ∷ t) (shifted-suc k n l d (le-of-suc-le-suc h) (le-of-suc-le-suc g))
 
   -- a turn, at the numbers that the code writes
-  pub shifted-more : (k n : ℕ) (l : List A) (d : A) → 0 < k → k ≤ n → n < length l → set (shifted k n l) k (getD (shifted k n l) (k - 1) d) ≡ shifted (k - 1) n l
+  pub shifted-more : (k n : ℕ) (l : List A) (d : A) → 0 < k → k ≤ n → n < length l
+      → set (shifted k n l) k (getD (shifted k n l) (k - 1) d) ≡ shifted (k - 1) n l
   shifted-more zero n l d p h g = absurd (not-suc-le-zero p)
   shifted-more (suc k) n l d p h g =
       let e : suc k - 1 ≡ k = omega arith in
       rw e (shifted-suc k n l d h g)
 
-  shifted-put-suc : (at n : ℕ) (l : List A) (r : A) → at ≤ n → n < length l → set (shifted at n l) at r ≡ insertAt at r (take n l) ++ drop (suc n) l
+  shifted-put-suc : (at n : ℕ) (l : List A) (r : A) → at ≤ n → n < length l
+      → set (shifted at n l) at r ≡ insertAt at r (take n l) ++ drop (suc n) l
   unfolding shifted insertAt
   shifted-put-suc at n [] r h g = absurd (not-suc-le-zero g)
   shifted-put-suc zero n (x ∷ l) r h g = refl
   shifted-put-suc (suc at) zero (x ∷ l) r h g = absurd (not-suc-le-zero h)
-  shifted-put-suc (suc at) (suc n) (x ∷ l) r h g = ap (λ (t : List A). x ∷ t) (shifted-put-suc at n l r (le-of-suc-le-suc h) (le-of-suc-le-suc g))
+  shifted-put-suc (suc at) (suc n) (x ∷ l) r h g =
+      ap (λ (t : List A). x ∷ t) (shifted-put-suc at n l r (le-of-suc-le-suc h) (le-of-suc-le-suc g))
 
-  pub shifted-put : (at n : ℕ) (l : List A) (r : A) → at ≤ n → n < length l → set (shifted at n l) at r ≡ insertAt at r (take n l) ++ drop (n + 1) l
+  pub shifted-put : (at n : ℕ) (l : List A) (r : A) → at ≤ n → n < length l
+      → set (shifted at n l) at r ≡ insertAt at r (take n l) ++ drop (n + 1) l
   shifted-put at n l r h g = rw add-one (shifted-put-suc at n l r h g)

@@ -1,6 +1,6 @@
 -- A range record as the element of a run, and the structs of `decisions` by value.
 use Rattle.model.specs.Prelude.{_<_, _^_, [], _∷_}
-use Rattle.model.specs.declared.Range.{Range}
+use Rattle.model.specs.declared.{Range.Range}
 use Rattle.range_states.specs.View.{blank}
 use Rattle.walk.specs.{Values.{Data, struct}, Slices.{Element, spell, IsE}}
 use denote.Struct.Laws.{owed}

@@ -3,7 +3,7 @@ use Rattle.model.specs.Prelude.{ℕ, zero, suc, _+_, _-_, _≤_, min, max, Bool
 use Rattle.model.specs.declared.Refusal.the-variants.{SelectorEmpty, RangesOutOfOrder, NoFreeEntry}
 use Rattle.model.specs.{declared.{Range.Range, Refusal.Refusal, Verdict.Verdict}, Base.if_then_else_, RangedStates.{range, joins}}
 use Rattle.range_states.specs.{View.blank, Filtering.{overlaps, clip}}
-use Rattle.range_calls.specs.{declared.CoalesceAnswer.CoalesceAnswer, declared.FilterAnswer.FilterAnswer}
+use Rattle.range_calls.specs.declared.{CoalesceAnswer.CoalesceAnswer, FilterAnswer.FilterAnswer}
 use Rattle.range_records.specs.{declared.decisions.Scan.Scan, declared.decisions.Plan.Plan, declared.decisions.Piece.Piece}
 use Rattle.range_records.specs.declared.decisions.Next.{Next}
 use Rattle.model.specs.declared.Verdict.the-variants as verdict
@@ -120,10 +120,7 @@ leftOf i b r = if eqb b (r .start) then i - 1 else i
 -- what lies below g, the record r at i - 1 the last of i that are left to read: a gap after r, or the upper part of r
 unfoldable pub cutPiece : ℕ → Range → ℕ → ℕ → ℕ → ℕ → Piece
 cutPiece i r g a e d =
-    let low = max (endOf i r) a in
-    let high = min g e in
-    let top = min (r .end) g in
-    let bottom = lowerOf (r .start) top a e in
+    let low = max (endOf i r) a in let high = min g e in let top = min (r .end) g in let bottom = lowerOf (r .start) top a e in
     if ltb low high then record { range = range low high d; left = i }
     else record { range = range bottom top (r .state); left = leftOf i bottom r }
 

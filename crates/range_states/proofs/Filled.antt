@@ -39,4 +39,5 @@ module _ {A : Type 0} (v : A) where
   filled-is zero k l h g = rw sub-zero (filled-zero k l g)
   filled-is (suc f) zero l h g = absurd (not-suc-le-zero h)
   filled-is (suc f) (suc k) [] h g = absurd (not-suc-le-zero g)
-  filled-is (suc f) (suc k) (x ∷ l) h g = rw suc-sub-suc (ap (λ (t : List A). x ∷ t) (filled-is f k l (le-of-suc-le-suc h) (le-of-suc-le-suc g)))
+  filled-is (suc f) (suc k) (x ∷ l) h g =
+      rw suc-sub-suc (ap (λ (t : List A). x ∷ t) (filled-is f k l (le-of-suc-le-suc h) (le-of-suc-le-suc g)))

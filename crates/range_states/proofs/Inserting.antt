@@ -1,7 +1,7 @@
 -- The records in use cut at a position, and what a store and an insertion there make of them.
 use Rattle.model.specs.Prelude.{ℕ, _+_, _*_, _≤_, _<_, le-of-lt, add-one, arith, _≡_, _∙_, List, _∷_, _++_, length, getD, take, drop, set}
 use Rattle.model.specs.Prelude.{take-append-drop, take-take, slice-cons, length-take-le, set-split}
-use Rattle.model.specs.declared.Range.{Range}
+use Rattle.model.specs.declared.{Range.Range}
 use Rattle.range_states.specs.View.{view, decode, blank, Put, Becomes, view-long, becomes-none, becomes-live, becomes-then}
 use Rattle.range_states.specs.{View.becomes-put, Insert.{insertAt, insertAt-is, insertAt-at}}
 
@@ -23,11 +23,13 @@ module _ (l : List ℕ) (len pos : ℕ) (room : 3 * len ≤ length l) (h : pos �
   joined-is = rw (← front-is) (take-append-drop pos (decode len l))
 
 -- the record at pos, and what is behind it
-pub next-is : (l : List ℕ) (len pos : ℕ) (x : Range) → 3 * len ≤ length l → pos < len → x ≡ getD (view l) pos blank → drop pos (decode len l) ≡ x ∷ drop (pos + 1) (decode len l)
+pub next-is : (l : List ℕ) (len pos : ℕ) (x : Range) → 3 * len ≤ length l → pos < len → x ≡ getD (view l) pos blank
+    → drop pos (decode len l) ≡ x ∷ drop (pos + 1) (decode len l)
 next-is l len pos x room h e = rw (add-one, e) (slice-cons pos len (view l) blank h (view-long l len room))
 
 -- a store at pos and then an insertion there: two records where one was
-module _ {l : List ℕ} {len pos : ℕ} (q : Range) {r : Range} {l₁ l₂ : List ℕ} (room : 3 * (len + 1) ≤ length l) (h : pos < len) (p : Put l pos r l₁) (b : Becomes l₁ (len + 1) (insertAt pos q (decode len l₁)) l₂) where
+module _ {l : List ℕ} {len pos : ℕ} (q : Range) {r : Range} {l₁ l₂ : List ℕ} (room : 3 * (len + 1) ≤ length l) (h : pos < len)
+    (p : Put l pos r l₁) (b : Becomes l₁ (len + 1) (insertAt pos q (decode len l₁)) l₂) where
   pub put-insert : Becomes l (len + 1) (decode pos l ++ (q ∷ r ∷ drop (pos + 1) (decode len l))) l₂
   put-insert =
       let k : Becomes l len (set (decode len l) pos r) l₁ = becomes-put (becomes-none l len (omega arith)) h p in

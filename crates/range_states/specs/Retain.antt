@@ -30,7 +30,8 @@ retained-from cur [] h s = rw (ne-eqb (cur .start) (cur .end) (λ e. omega arith
 retained-from cur (next ∷ l) h s =
     go (joins cur next) refl (retained-from (range (cur .start) (next .end) (cur .state)) l) (retained-from next l (s .0) (s .1))
   where
-    go : (t : Bool) {longer : List Range} → joins cur next ≡ t → (cur .start < next .end → Nonempty l → retained longer ≡ longer) → retained (coalesceFrom next l) ≡ coalesceFrom next l
+    go : (t : Bool) {longer : List Range} → joins cur next ≡ t → (cur .start < next .end → Nonempty l → retained longer ≡ longer)
+        → retained (coalesceFrom next l) ≡ coalesceFrom next l
         → retained (if t then longer else cur ∷ coalesceFrom next l) ≡ (if t then longer else cur ∷ coalesceFrom next l)
     go true e i j = i (omega (arith, join-end cur next e, s .0)) (s .1)
     go false e i j = rw (ne-eqb (cur .start) (cur .end) (λ e. omega arith), j)

@@ -49,7 +49,8 @@ unfolding tri
 tri-is zero = refl
 tri-is (suc k) = let h : tri k ≡ 3 * k = tri-is k in omega arith
 
-view-at-tri : (l : List ℕ) (k : ℕ) → suc (suc (tri k)) < length l → range (getD l (tri k) 0) (getD l (suc (tri k)) 0) (getD l (suc (suc (tri k))) 0) ≡ getD (view l) k blank
+view-at-tri : (l : List ℕ) (k : ℕ) → suc (suc (tri k)) < length l
+    → range (getD l (tri k) 0) (getD l (suc (tri k)) 0) (getD l (suc (suc (tri k))) 0) ≡ getD (view l) k blank
 unfolding tri view
 view-at-tri [] k h = absurd (not-suc-le-zero h)
 view-at-tri (a ∷ []) k h = absurd (not-suc-le-zero (le-of-suc-le-suc h))
@@ -57,10 +58,10 @@ view-at-tri (a ∷ b ∷ []) k h = absurd (not-suc-le-zero (le-of-suc-le-suc (le
 view-at-tri (a ∷ b ∷ c ∷ l) zero h = refl
 view-at-tri (a ∷ b ∷ c ∷ l) (suc k) h = view-at-tri l k (le-of-suc-le-suc (le-of-suc-le-suc (le-of-suc-le-suc h)))
 
-pub view-at : (l : List ℕ) (k : ℕ) → 3 * k + 3 ≤ length l → range (getD l (3 * k) 0) (getD l (3 * k + 1) 0) (getD l (3 * k + 2) 0) ≡ getD (view l) k blank
+pub view-at : (l : List ℕ) (k : ℕ) → 3 * k + 3 ≤ length l
+    → range (getD l (3 * k) 0) (getD l (3 * k + 1) 0) (getD l (3 * k + 2) 0) ≡ getD (view l) k blank
 view-at l k h =
-    let e : 3 * k ≡ tri k = sym (tri-is k) in
-    let e₁ : 3 * k + 1 ≡ suc (tri k) = omega arith in
+    let e : 3 * k ≡ tri k = sym (tri-is k) in let e₁ : 3 * k + 1 ≡ suc (tri k) = omega arith in
     let e₂ : 3 * k + 2 ≡ suc (suc (tri k)) = omega arith in
     rw (e₁, e₂, e) (view-at-tri l k (omega arith))
 
@@ -77,7 +78,8 @@ view-set-tri (a ∷ b ∷ []) (suc k) r = refl
 view-set-tri (a ∷ b ∷ c ∷ l) zero r = refl
 view-set-tri (a ∷ b ∷ c ∷ l) (suc k) r = ap (λ (t : List Range). range a b c ∷ t) (view-set-tri l k r)
 
-spare-set-tri : (l : List ℕ) (k : ℕ) (r : Range) → suc (suc (tri k)) < length l → spare (set3 l (tri k) (suc (tri k)) (suc (suc (tri k))) r) ≡ spare l
+spare-set-tri : (l : List ℕ) (k : ℕ) (r : Range) → suc (suc (tri k)) < length l
+    → spare (set3 l (tri k) (suc (tri k)) (suc (suc (tri k))) r) ≡ spare l
 unfolding tri spare set3
 spare-set-tri [] k r h = refl
 spare-set-tri (a ∷ []) k r h = absurd (not-suc-le-zero (le-of-suc-le-suc h))
@@ -86,11 +88,11 @@ spare-set-tri (a ∷ b ∷ c ∷ l) zero r h = refl
 spare-set-tri (a ∷ b ∷ c ∷ l) (suc k) r h = spare-set-tri l k r (le-of-suc-le-suc (le-of-suc-le-suc (le-of-suc-le-suc h)))
 
 -- three stores, at the numbers that the code writes, are a `Put`
-pub puts : (l : List ℕ) (k : ℕ) (r : Range) → 3 * k + 3 ≤ length l → Put l k r (set (set (set l (3 * k) (r .start)) (3 * k + 1) (r .end)) (3 * k + 2) (r .state))
+pub puts : (l : List ℕ) (k : ℕ) (r : Range) → 3 * k + 3 ≤ length l
+    → Put l k r (set (set (set l (3 * k) (r .start)) (3 * k + 1) (r .end)) (3 * k + 2) (r .state))
 unfolding set3
 puts l k r h =
-    let e : 3 * k ≡ tri k = sym (tri-is k) in
-    let e₁ : 3 * k + 1 ≡ suc (tri k) = omega arith in
+    let e : 3 * k ≡ tri k = sym (tri-is k) in let e₁ : 3 * k + 1 ≡ suc (tri k) = omega arith in
     let e₂ : 3 * k + 2 ≡ suc (suc (tri k)) = omega arith in
     rw (e₁, e₂, e) record { seen = view-set-tri l k r; rest = spare-set-tri l k r (omega arith); long = simp length-set }
 
@@ -117,7 +119,8 @@ view-count (a ∷ b ∷ c ∷ l) = let h = view-count l in omega arith
 
 -- ---- the laws of `Becomes`
 pub becomes-none : (l : List ℕ) (m : ℕ) → 3 * m ≤ length l → Becomes l m (decode m l) l
-becomes-none l m h = record { size = length-take-le m (view l) (view-long l m h); seen = sym (take-append-drop m (view l)); rest = refl; long = refl }
+becomes-none l m h = record
+    { size = length-take-le m (view l) (view-long l m h); seen = sym (take-append-drop m (view l)); rest = refl; long = refl }
 
 module _ {l : List ℕ} {m : ℕ} {xs : List Range} {l′ : List ℕ} (b : Becomes l m xs l′) where
   -- what the records in use are now
@@ -133,7 +136,12 @@ module _ {l : List ℕ} {m : ℕ} {xs : List Range} {l′ : List ℕ} (b : Becom
   -- two changes, the second of at least as many records
   pub becomes-then : {n : ℕ} {ys : List Range} {l″ : List ℕ} → m ≤ n → Becomes l′ n ys l″ → Becomes l n ys l″
   becomes-then {n} {ys} {l″} h d =
-      record { size = d .size; seen = d .seen ∙ ap (λ (t : List Range). ys ++ t) (becomes-past n h); rest = d .rest ∙ b .rest; long = d .long ∙ b .long }
+      record {
+        size = d .size;
+        seen = d .seen ∙ ap (λ (t : List Range). ys ++ t) (becomes-past n h);
+        rest = d .rest ∙ b .rest;
+        long = d .long ∙ b .long;
+      }
 
   -- a change, and then a store among its records
   pub becomes-put : {k : ℕ} {r : Range} {l″ : List ℕ} → k < m → Put l′ k r l″ → Becomes l m (set xs k r) l″

@@ -38,7 +38,8 @@ all-left f n q e = let z : n - 0 ≡ n = omega arith in record { within = omega 
 -- ---- the flags, which stand first
 module _ (t g : List ℕ) where
   -- a set's are the same
-  pub set-begins : sameFlags (flagsOf t) (flagsOf g) ≡ true → Left (ownedRefusal t g) (getD g texturesAt 0) (setRefusal (headIn t) (headIn g)) 0
+  pub set-begins : sameFlags (flagsOf t) (flagsOf g) ≡ true
+      → Left (ownedRefusal t g) (getD g texturesAt 0) (setRefusal (headIn t) (headIn g)) 0
   set-begins e = all-left (ownedRefusal t g) (getD g texturesAt 0) (setRefusal (headIn t) (headIn g)) (set-splits t g ∙ rw e)
 
   -- they differ
@@ -46,8 +47,10 @@ module _ (t g : List ℕ) where
   set-differs e = record { is = rw (set-splits t g, e) }
 
   -- a scope's are the same
-  pub sparse-begins : (list : List ℕ) → sameFlags (flagsOf t) (flagsOf g) ≡ true → Left (listedAt t g list) (length list) (sparseRefusal (headIn t) (headIn g) list) 0
-  sparse-begins list e = all-left (listedAt t g list) (length list) (sparseRefusal (headIn t) (headIn g) list) (sparse-splits t g list ∙ rw e)
+  pub sparse-begins : (list : List ℕ) → sameFlags (flagsOf t) (flagsOf g) ≡ true
+      → Left (listedAt t g list) (length list) (sparseRefusal (headIn t) (headIn g) list) 0
+  sparse-begins list e = all-left (listedAt t g list) (length list) (sparseRefusal (headIn t) (headIn g) list) (sparse-splits t g list
+      ∙ rw e)
 
   -- they differ
   pub sparse-differs : (list : List ℕ) → sameFlags (flagsOf t) (flagsOf g) ≡ false → SparseTold t g list (Refused FlagsDiffer)

@@ -9,7 +9,8 @@ use Rattle.set_checks.specs.Sets.{ownedRefusal, listed-in, listed-past, 
 
 -- ---- the parts of a use's checks
 module _ {t : List ℕ} {i : ℕ} {sh : Extent} {s : Selection} {st : ℕ} where
-  pub state-tells : {x : Verdict} → TextureTold t i sh Accepted → SelectorTold sh s Accepted → StateTold (flagsOf t) st x → UseTold t i sh s st x
+  pub state-tells : {x : Verdict} → TextureTold t i sh Accepted → SelectorTold sh s Accepted → StateTold (flagsOf t) st x
+      → UseTold t i sh s st x
   state-tells a b c = record { is = rw (use-splits t i sh s st, a .is, b .is) (c .is) }
 
   pub selector-tells : {r : Refusal} → TextureTold t i sh Accepted → SelectorTold sh s (Refused r) → UseTold t i sh s st (Refused r)
@@ -19,14 +20,25 @@ module _ {t : List ℕ} {i : ℕ} {sh : Extent} {s : Selection} {st : ℕ} where
   texture-tells a = record { is = rw (use-splits t i sh s st, a .is) }
 
 -- ---- the last of a texture's checks
-pub extent-tells : (t : List ℕ) (i : ℕ) (sh : Extent) → i < getD t texturesAt 0 → (sh .mips ≡ 0 → ⊥) → sh .mips ≤ getD t mipLimitAt 0 → (sh .layers ≡ 0 → ⊥) → sh .layers ≤ getD t layerLimitAt 0 → (b : Bool) → otherExtent (ownedExtent t i) sh ≡ b
+pub extent-tells : (t : List ℕ) (i : ℕ) (sh : Extent) → i < getD t texturesAt 0 → (sh .mips ≡ 0 → ⊥) → sh .mips ≤ getD t mipLimitAt 0
+    → (sh .layers ≡ 0 → ⊥) → sh .layers ≤ getD t layerLimitAt 0 → (b : Bool) → otherExtent (ownedExtent t i) sh ≡ b
     → TextureTold t i sh (if b then Refused (ExtentDiffers (trackerIndex i)) else Accepted)
 unfolding textureRefusal firstFailing
 extent-tells t i sh a m n l w b e = record {
-  is = rw (lt-ltb i (getD t texturesAt 0) a, ne-eqb (sh .mips) 0 m, le-ltb (getD t mipLimitAt 0) (sh .mips) n, ne-eqb (sh .layers) 0 l, le-ltb (getD t layerLimitAt 0) (sh .layers) w, extent-at t i a, e) (go b);
+  is = rw (
+    lt-ltb i (getD t texturesAt 0) a,
+    ne-eqb (sh .mips) 0 m,
+    le-ltb (getD t mipLimitAt 0) (sh .mips) n,
+    ne-eqb (sh .layers) 0 l,
+    le-ltb (getD t layerLimitAt 0) (sh .layers) w,
+    extent-at t i a,
+    e,
+  ) (go b);
 }
   where
-    go : (b : Bool) → (if b then some (ExtentDiffers (trackerIndex i)) else none) ≡ refusedFor (if b then Refused (ExtentDiffers (trackerIndex i)) else Accepted)
+    go : (b : Bool)
+        → (if b then some (ExtentDiffers (trackerIndex i)) else none)
+        ≡ refusedFor (if b then Refused (ExtentDiffers (trackerIndex i)) else Accepted)
     go true = refl
     go false = refl
 

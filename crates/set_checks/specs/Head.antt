@@ -47,7 +47,8 @@ pub record UseTold (t : List ℕ) (i : ℕ) (sh : Extent) (s : Selection) (st : 
   pub is : useRefusal t i sh s st ≡ refusedFor x
 
 -- ---- it is the head of a scope's view and of a tracker's
-extents-are : {H : Type 0} (held : ℕ → H) (t : List ℕ) (k n : ℕ) → map ownExtent (listFrom (slotWith held t) k n) ≡ listFrom (ownedExtent t) k n
+extents-are : {H : Type 0} (held : ℕ → H) (t : List ℕ) (k n : ℕ)
+    → map ownExtent (listFrom (slotWith held t) k n) ≡ listFrom (ownedExtent t) k n
 unfolding listFrom
 extents-are held t k zero = refl
 extents-are held t k (suc n) = rw (extents-are held t (suc k) n)
@@ -74,7 +75,8 @@ checks-append [] ys = refl
 checks-append (c ∷ xs) ys = go (c .fails) (checks-append xs ys)
   where
     go : (b : Bool) → firstFailing (xs ++ ys) ≡ orNext (firstFailing xs) (firstFailing ys)
-        → (if b then some (c .answer) else firstFailing (xs ++ ys)) ≡ orNext (if b then some (c .answer) else firstFailing xs) (firstFailing ys)
+        → (if b then some (c .answer) else firstFailing (xs ++ ys))
+        ≡ orNext (if b then some (c .answer) else firstFailing xs) (firstFailing ys)
     go true e = refl
     go false e = e
 
@@ -83,8 +85,10 @@ pub none-both : (p q : Option Refusal) → orNext p q ≡ none → (p ≡ none) 
 none-both none q e = (refl, e)
 none-both (some r) q e = absurd (let z : _≡_ {A = ℕ} 0 1 = cc in omega arith)
 
-pub use-splits : (t : List ℕ) (i : ℕ) (sh : Extent) (s : Selection) (st : ℕ) → useRefusal t i sh s st ≡ orNext (orNext (textureRefusal t i sh) (selectorRefusal sh s)) (stateRefusal (flagsOf t) st)
+pub use-splits : (t : List ℕ) (i : ℕ) (sh : Extent) (s : Selection) (st : ℕ)
+    → useRefusal t i sh s st ≡ orNext (orNext (textureRefusal t i sh) (selectorRefusal sh s)) (stateRefusal (flagsOf t) st)
 unfolding useRefusal textureRefusal selectorRefusal stateRefusal
 use-splits t i sh s st =
     checks-append (textureChecks (headIn t) i sh ++ selectorChecks sh (selectorOf s)) (stateChecks (flagsOf t) st)
-    ∙ ap (λ (o : Option Refusal). orNext o (firstFailing (stateChecks (flagsOf t) st))) (checks-append (textureChecks (headIn t) i sh) (selectorChecks sh (selectorOf s)))
+    ∙ ap (λ (o : Option Refusal). orNext o (firstFailing (stateChecks (flagsOf t) st))) (checks-append (textureChecks (headIn t) i sh)
+    (selectorChecks sh (selectorOf s)))

@@ -88,7 +88,8 @@ state-passed p st e =
 pub use-passed : (t : List ℕ) (i : ℕ) (sh : Extent) (s : Selection) (st : ℕ) → useRefusal t i sh s st ≡ none
     → (textureRefusal t i sh ≡ none) × ((selectorRefusal sh s ≡ none) × (stateRefusal (flagsOf t) st ≡ none))
 use-passed t i sh s st e =
-    let a = none-both (orNext (textureRefusal t i sh) (selectorRefusal sh s)) (stateRefusal (flagsOf t) st) (rw (use-splits t i sh s st) at e) in
+    let a = none-both (orNext (textureRefusal t i sh) (selectorRefusal sh s)) (stateRefusal (flagsOf t) st)
+    (rw (use-splits t i sh s st) at e) in
     let b = none-both (textureRefusal t i sh) (selectorRefusal sh s) (a .0) in (b .0, (b .1, a .1))
 
 -- ---- 6 to 9: a set's, and a list's
@@ -98,10 +99,12 @@ owned-passed t g i e o = texture-passed t i (extentOf g i) (rw o at e)
 
 listed-passed : (t g : List ℕ) (i : ℕ) → listedRefusal t g i ≡ none → (i < getD g texturesAt 0) × (ownedRefusal t g i ≡ none)
 listed-passed t g i e =
-    by-lt i (getD g texturesAt 0) (λ h. (h, rw (listed-in t g i h) at e)) (λ h. absurd (let q = listed-past t g i h in let z : _≡_ {A = ℕ} 0 1 = cc in omega arith))
+    by-lt i (getD g texturesAt 0) (λ h. (h, rw (listed-in t g i h) at e))
+    (λ h. absurd (let q = listed-past t g i h in let z : _≡_ {A = ℕ} 0 1 = cc in omega arith))
 
 -- the flags are the same, and of the rest none fails
-flags-passed : (t g : List ℕ) (q : Option Refusal) → (if sameFlags (flagsOf t) (flagsOf g) then q else some FlagsDiffer) ≡ none → (flagsOf g ≡ flagsOf t) × (q ≡ none)
+flags-passed : (t g : List ℕ) (q : Option Refusal) → (if sameFlags (flagsOf t) (flagsOf g) then q else some FlagsDiffer) ≡ none
+    → (flagsOf g ≡ flagsOf t) × (q ≡ none)
 flags-passed t g q e = let s = go (sameFlags (flagsOf t) (flagsOf g)) e in (sym (same-flags (flagsOf t) (flagsOf g) (s .0)), s .1)
   where
     go : (b : Bool) → (if b then q else some FlagsDiffer) ≡ none → (b ≡ true) × (q ≡ none)
@@ -111,7 +114,10 @@ flags-passed t g q e = let s = go (sameFlags (flagsOf t) (flagsOf g)) e in (sym 
 pub set-passed : (t g : List ℕ) → setRefusal (headIn t) (headIn g) ≡ none → SetPassed t g
 set-passed t g e =
     let s = flags-passed t g _ (rw (set-splits t g) at e) in
-    record { flags = s .0; each = λ i h o. owned-passed t g i (first-none (ownedRefusal t g) 0 (getD g texturesAt 0) (s .1) i (omega arith) (omega arith)) o }
+    record {
+      flags = s .0;
+      each = λ i h o. owned-passed t g i (first-none (ownedRefusal t g) 0 (getD g texturesAt 0) (s .1) i (omega arith) (omega arith)) o;
+    }
 
 pub sparse-passed : (t g list : List ℕ) → sparseRefusal (headIn t) (headIn g) list ≡ none → SparsePassed t g list
 sparse-passed t g list e =
@@ -122,5 +128,6 @@ sparse-passed t g list e =
       each = λ k h o. owned-passed t g (getD list k 0) (at (s .1) k h .1) o;
     }
   where
-    at : firstOf (listedAt t g list) 0 (length list) ≡ none → (k : ℕ) → k < length list → (getD list k 0 < getD g texturesAt 0) × (ownedRefusal t g (getD list k 0) ≡ none)
+    at : firstOf (listedAt t g list) 0 (length list) ≡ none → (k : ℕ) → k < length list
+        → (getD list k 0 < getD g texturesAt 0) × (ownedRefusal t g (getD list k 0) ≡ none)
     at n k h = listed-passed t g (getD list k 0) (first-none (listedAt t g list) 0 (length list) n k (omega arith) (omega arith))

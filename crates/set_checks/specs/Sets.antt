@@ -27,7 +27,8 @@ listedAt t g list k = listedRefusal t g (getD list k 0)
 
 -- 8 and 9 pass at index i, if the given set g owns it
 abbrev pub ownedPasses : List ℕ → List ℕ → ℕ → Bool
-ownedPasses t g i = eqb (getD g (ownedAt i) 0) 0 || not (extentOutside (numbersOf t) (extentOf g i) || otherExtent (ownedExtent t i) (extentOf g i))
+ownedPasses t g i = eqb (getD g (ownedAt i) 0) 0
+    || not (extentOutside (numbersOf t) (extentOf g i) || otherExtent (ownedExtent t i) (extentOf g i))
 
 pub record AllPass (t g : List ℕ) (n : ℕ) : Type 0 where
   pub each : (i : ℕ) → i < n → ownedPasses t g i ≡ true
@@ -76,7 +77,9 @@ module _ (t g : List ℕ) (i : ℕ) where
 -- ---- the flags, then a set's indices or a list's
 module _ (t g : List ℕ) where
   -- 6 stands first
-  flags-first : (cs : List Check) → firstFailing (flagsCheck (headIn t) (headIn g) ∷ cs) ≡ (if sameFlags (flagsOf t) (flagsOf g) then firstFailing cs else some FlagsDiffer)
+  flags-first : (cs : List Check)
+      → firstFailing (flagsCheck (headIn t) (headIn g) ∷ cs)
+      ≡ (if sameFlags (flagsOf t) (flagsOf g) then firstFailing cs else some FlagsDiffer)
   unfolding firstFailing
   flags-first cs = go (sameFlags (flagsOf t) (flagsOf g))
     where
@@ -89,11 +92,13 @@ module _ (t g : List ℕ) where
   unfolding firstFailing listFrom firstOf ownedRefusal
   owned-first k zero = refl
   owned-first k (suc n) =
-      checks-append (ownedChecks (headIn t) k (ownedExtent g k)) (eachAt (ownedChecks (headIn t)) (suc k) (listFrom (ownedExtent g) (suc k) n))
+      checks-append (ownedChecks (headIn t) k (ownedExtent g k))
+      (eachAt (ownedChecks (headIn t)) (suc k) (listFrom (ownedExtent g) (suc k) n))
       ∙ ap (orNext (ownedRefusal t g k)) (owned-first (suc k) n)
 
   -- and a list's
-  listed-first : (list : List ℕ) → firstFailing (each (sparseChecks (headIn t) (headIn g)) list) ≡ firstOf (listedAt t g list) 0 (length list)
+  listed-first : (list : List ℕ)
+      → firstFailing (each (sparseChecks (headIn t) (headIn g)) list) ≡ firstOf (listedAt t g list) 0 (length list)
   unfolding firstFailing firstOf listedRefusal
   listed-first [] = refl
   listed-first (i ∷ list) =
@@ -101,9 +106,12 @@ module _ (t g : List ℕ) where
       ∙ ap (orNext (listedRefusal t g i)) (listed-first list ∙ first-shift (listedAt t g (i ∷ list)) 0 (length list))
 
   -- 6, then the owned indices, ascending
-  pub set-splits : setRefusal (headIn t) (headIn g) ≡ (if sameFlags (flagsOf t) (flagsOf g) then firstOf (ownedRefusal t g) 0 (getD g texturesAt 0) else some FlagsDiffer)
+  pub set-splits : setRefusal (headIn t) (headIn g) ≡ (if sameFlags (flagsOf t) (flagsOf g) then firstOf (ownedRefusal t g) 0
+      (getD g texturesAt 0) else some FlagsDiffer)
   set-splits = flags-first (eachAt (ownedChecks (headIn t)) 0 (headIn g .extents)) ∙ rw (owned-first 0 (getD g texturesAt 0))
 
   -- 6, then the listed indices, in list order
-  pub sparse-splits : (list : List ℕ) → sparseRefusal (headIn t) (headIn g) list ≡ (if sameFlags (flagsOf t) (flagsOf g) then firstOf (listedAt t g list) 0 (length list) else some FlagsDiffer)
+  pub sparse-splits : (list : List ℕ)
+      → sparseRefusal (headIn t) (headIn g) list
+      ≡ (if sameFlags (flagsOf t) (flagsOf g) then firstOf (listedAt t g list) 0 (length list) else some FlagsDiffer)
   sparse-splits list = flags-first (each (sparseChecks (headIn t) (headIn g)) list) ∙ rw (listed-first list)

@@ -30,7 +30,10 @@ pub full-is : (sh : Extent) (q : Selector) → isFull sh q ≡ true → q ≡ fu
 full-is sh q e =
     let a = and-eq-true-iff _ _ .0 e in let b = and-eq-true-iff _ _ .0 (a .0) in let c = and-eq-true-iff _ _ .0 (b .0) in
     let z₀ = eqb-true _ _ (c .0) in let z₁ = eqb-true _ _ (c .1) in let z₂ = eqb-true _ _ (b .1) in let z₃ = eqb-true _ _ (a .1) in
-    λ i. record { mips = record { start = record { 0 = z₀ i }; end = record { 0 = z₁ i } }; layers = record { start = record { 0 = z₂ i }; end = record { 0 = z₃ i } } }
+    λ i. record {
+      mips = record { start = record { 0 = z₀ i }; end = record { 0 = z₁ i } };
+      layers = record { start = record { 0 = z₂ i }; end = record { 0 = z₃ i } };
+    }
 
 pub record TakenUse (t : List ℕ) (sh : Extent) (all : Bool) (q : Selector) (p : UsageFlags) (new : ℕ) : Type 0 where
   pub flags : p ≡ flagsOf t
@@ -69,11 +72,21 @@ selector-within s = record { order = s .order; in-mips = s .in-mips; span = s .s
 
 module _ {t : List ℕ} {sh : Extent} {all : Bool} {q : Selector} {p : UsageFlags} {new : ℕ} (u : TakenUse t sh all q p new) where
   -- in a table with the same flags
-  pub use-ready : {d : Numbers} {h i : ℕ} {t′ r : List ℕ} → TextureReady d h t′ r i sh → flagsOf t′ ≡ flagsOf t → UseReady d h t′ r i sh all q p new
-  use-ready x e = record { texture = x; selector = selector-within (u .selector); flags = u .flags ∙ sym e; whole = u .whole; plain = state-plain (u .state) }
+  pub use-ready : {d : Numbers} {h i : ℕ} {t′ r : List ℕ} → TextureReady d h t′ r i sh → flagsOf t′ ≡ flagsOf t
+      → UseReady d h t′ r i sh all q p new
+  use-ready x e = record {
+    texture = x;
+    selector = selector-within (u .selector);
+    flags = u .flags ∙ sym e;
+    whole = u .whole;
+    plain = state-plain (u .state);
+  }
 
   pub held-ready : {h i : ℕ} {r : List ℕ} → TextureHeld (numbersOf t) h t r i sh → HeldReady h t r i sh new
-  held-ready {h} {i} x = record { tiled = x .tiled; plain = λ z. state-union (u .state) (getD t (h + i) 0) (z ∙ sym (ap (λ (f : UsageFlags). f .complex) (u .flags))) }
+  held-ready {h} {i} x = record {
+    tiled = x .tiled;
+    plain = λ z. state-union (u .state) (getD t (h + i) 0) (z ∙ sym (ap (λ (f : UsageFlags). f .complex) (u .flags)));
+  }
 
   -- of a tracker's, owned
   pub update-ready : {i : ℕ} {s e : List ℕ} → TextureHeld (numbersOf t) startHalf t s i sh → TextureHeld (numbersOf t) endHalf t e i sh

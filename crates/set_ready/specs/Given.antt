@@ -26,8 +26,7 @@ pub record HalfGiven (t : List ℕ) (i : ℕ) (sh : Extent) (h : ℕ) (g r : Lis
 pub owned-given : {t g r : List ℕ} {i : ℕ} → ScopeTested g r → flagsOf g ≡ flagsOf t → i < getD g texturesAt 0 → ownedOf g i ≡ true
     → HalfGiven t i (extentOf g i) startHalf g r
 owned-given {g = g} {r} {i} k e n o =
-    let f = k .slots i n in
-    let h = half-fits startHalf g r i (f .extent o .mips) (f .held o) in
+    let f = k .slots i n in let h = half-fits startHalf g r i (f .extent o .mips) (f .held o) in
     record { measured = k .measured; texture = n; flags = e; extent = refl; fits = f .extent o; held = h }
 
 -- ---- What follows

@@ -17,7 +17,8 @@ pub record HalfReady (h : ℕ) (t r : List ℕ) (i : ℕ) (sh : Extent) : Type 0
   pub held : ownedOf t i ≡ true → HalfFits h t r i
 
 -- an owned one, as the half holds it
-pub half-held : {h : ℕ} {t r : List ℕ} {i : ℕ} {sh : Extent} → HalfReady h t r i sh → (getD t (ownedAt i) 0 ≡ 0 → ⊥) → TextureHeld (numbersOf t) h t r i sh
+pub half-held : {h : ℕ} {t r : List ℕ} {i : ℕ} {sh : Extent} → HalfReady h t r i sh → (getD t (ownedAt i) 0 ≡ 0 → ⊥)
+    → TextureHeld (numbersOf t) h t r i sh
 half-held {h} {t} {r} {i} s own = let o = word-owned t i own in texture-held (s .measured) (s .texture) (s .texture .own o) (s .held o)
 
 -- both halves of a tracker's texture
@@ -42,7 +43,12 @@ module _ {t t₁ : List ℕ} (q : HeadStays t t₁) where
   numbers-stay = rw (q .words texturesAt (omega arith), q .words mipLimitAt (omega arith), q .words layerLimitAt (omega arith))
 
   pub flags-stay : flagsOf t₁ ≡ flagsOf t
-  flags-stay = rw (q .words exclusiveAt (omega arith), q .words uninitializedAt (omega arith), q .words complexAt (omega arith), q .words unknownAt (omega arith))
+  flags-stay = rw (
+    q .words exclusiveAt (omega arith),
+    q .words uninitializedAt (omega arith),
+    q .words complexAt (omega arith),
+    q .words unknownAt (omega arith),
+  )
 
   -- what is measured, by N, M and W as they were and as they are
   module _ {h : ℕ} {r r₁ : List ℕ} (long : length r₁ ≡ length r) (m : Measured (numbersOf t) h t r) where
@@ -73,10 +79,12 @@ module _ {t t₁ : List ℕ} (q : HeadStays t t₁) where
       own = λ o. ap (λ (y : Slot H). y .extent) slot ∙ x .own (sym (ap (λ (y : Slot H). y .owned) slot) ∙ o);
     }
 
-    fits-stays : (P : UsageFlags → Extent → H → Type 0) → SlotFits P (numbersOf t) (flagsOf t) (slotWith held t i) → SlotFits P (numbersOf t₁) (flagsOf t₁) (slotWith held₁ t₁ i)
+    fits-stays : (P : UsageFlags → Extent → H → Type 0) → SlotFits P (numbersOf t) (flagsOf t) (slotWith held t i)
+        → SlotFits P (numbersOf t₁) (flagsOf t₁) (slotWith held₁ t₁ i)
     fits-stays P f =
         subst (λ (n : Numbers). SlotFits P n (flagsOf t₁) (slotWith held₁ t₁ i)) (sym numbers-stay)
-        (subst (λ (p : UsageFlags). SlotFits P (numbersOf t) p (slotWith held₁ t₁ i)) (sym flags-stay) (subst (SlotFits P (numbersOf t) (flagsOf t)) (sym slot) f))
+        (subst (λ (p : UsageFlags). SlotFits P (numbersOf t) p (slotWith held₁ t₁ i)) (sym flags-stay)
+        (subst (SlotFits P (numbersOf t) (flagsOf t)) (sym slot) f))
 
 -- so it is ready still: of a scope
 pub scope-still : {named : ℕ → Type 0} {d : Numbers} {t r t₁ r₁ : List ℕ} {i : ℕ} {sh : Extent} → ScopeTested t r → TexturePassed t i sh
@@ -96,15 +104,21 @@ pub tracker-still : {named : ℕ → Type 0} {d : Numbers} {t s e t₁ s₁ e₁
     → TexturePassed t i sh → TrackerFrame named d t s e t₁ s₁ e₁ → slotWith (endsOf (numbersOf t) t₁ s₁ e₁) t₁ i ≡ trackerSlot t s e i
     → BothReady t₁ s₁ e₁ i sh
 tracker-still {t = t} {s} {e} {t₁} {s₁} {e₁} {i} k x frame slot =
-    let q = tracker-keeps frame in
-    let held = endsOf (numbersOf t) t s e in let held₁ = endsOf (numbersOf t₁) t₁ s₁ e₁ in
+    let q = tracker-keeps frame in let held = endsOf (numbersOf t) t s e in let held₁ = endsOf (numbersOf t₁) t₁ s₁ e₁ in
     let now : trackerSlot t₁ s₁ e₁ i ≡ trackerSlot t s e i =
     subst (λ (n : Numbers). slotWith (endsOf n t₁ s₁ e₁) t₁ i ≡ trackerSlot t s e i) (sym (numbers-stay q)) slot in
-    let f = fits-stays q held held₁ i now EndsFit (k .slots i (x .texture)) in
-    let y = passed-stays q held held₁ i now x in
+    let f = fits-stays q held held₁ i now EndsFit (k .slots i (x .texture)) in let y = passed-stays q held held₁ i now x in
     record {
-      start = record { measured = measured-stays q (frame .starts .long) (k .starts); texture = y; held = λ o. half-fits startHalf t₁ s₁ i (f .extent o .mips) (f .held o .start) };
-      end = record { measured = measured-stays q (frame .ends .long) (k .ends); texture = y; held = λ o. half-fits endHalf t₁ e₁ i (f .extent o .mips) (f .held o .end) };
+      start = record {
+        measured = measured-stays q (frame .starts .long) (k .starts);
+        texture = y;
+        held = λ o. half-fits startHalf t₁ s₁ i (f .extent o .mips) (f .held o .start);
+      };
+      end = record {
+        measured = measured-stays q (frame .ends .long) (k .ends);
+        texture = y;
+        held = λ o. half-fits endHalf t₁ e₁ i (f .extent o .mips) (f .held o .end);
+      };
     }
 
 -- ---- A set that passed the test, as it is

@@ -10,7 +10,8 @@ abbrev pub within : List ℕ → (ℕ → Type 0) → ℕ → Type 0
 within t named j = (j < getD t texturesAt 0) × named j
 
 -- "More room is ignored": every number from 3 × N × M × W on stays, those after the last whole range among them
-pub room-stays : {named : ℕ → Type 0} (t : List ℕ) {r r′ : List ℕ} → Stays (OffRanges (numbersOf t)) (within t named) r r′ → (x : ℕ) → rangesAt (numbersOf t) (getD t texturesAt 0) ≤ x → getD r′ x 0 ≡ getD r x 0
+pub room-stays : {named : ℕ → Type 0} (t : List ℕ) {r r′ : List ℕ} → Stays (OffRanges (numbersOf t)) (within t named) r r′ → (x : ℕ)
+    → rangesAt (numbersOf t) (getD t texturesAt 0) ≤ x → getD r′ x 0 ≡ getD r x 0
 room-stays {named} t f x q = f .same x (λ i _ n. past-ranges (numbersOf t) i x (n .0) q)
 
 -- every word of index j stays that is lent for it
@@ -24,7 +25,8 @@ pub record WordsStay (j : ℕ) (t t′ : List ℕ) : Type 0 where
   pub start-counts : (k : ℕ) → k < 16 → getD t′ (countAt startHalf j k) 0 ≡ getD t (countAt startHalf j k) 0
   pub end-counts : (k : ℕ) → k < 16 → getD t′ (countAt endHalf j k) 0 ≡ getD t (countAt endHalf j k) 0
 
-words-of : {t t′ : List ℕ} (j : ℕ) → j < tableIndices → ((x : ℕ) → ((i : ℕ) → i < tableIndices → (j ≡ i → ⊥) → OffTracker i x) → getD t′ x 0 ≡ getD t x 0) → WordsStay j t t′
+words-of : {t t′ : List ℕ} (j : ℕ) → j < tableIndices
+    → ((x : ℕ) → ((i : ℕ) → i < tableIndices → (j ≡ i → ⊥) → OffTracker i x) → getD t′ x 0 ≡ getD t x 0) → WordsStay j t t′
 words-of j h f = record {
   owned = f (ownedAt j) (λ i a n. owned-off i j a h n);
   mips = f (mipsAt j) (λ i a n. mips-off i j a h n);

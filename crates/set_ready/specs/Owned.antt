@@ -75,7 +75,14 @@ set-stays {H} {i} {held} {held′} {t} {t′} s h f =
     list-ext slot (slotWith held′ t′) 0 n (λ x a b. f .others x (omega arith) (λ w. omega arith))
     ∙ sym (set-out (listFrom slot 0 n) i s (rw (list-long slot 0 n) h)) in
     rw (f .head texturesAt (omega arith), f .head mipLimitAt (omega arith), f .head layerLimitAt (omega arith))
-    (rw (f .head exclusiveAt (omega arith), f .head uninitializedAt (omega arith), f .head complexAt (omega arith), f .head unknownAt (omega arith), q))
+    (rw (
+      f .head exclusiveAt (omega arith),
+      f .head uninitializedAt (omega arith),
+      f .head complexAt (omega arith),
+      f .head unknownAt
+          (omega arith),
+      q,
+    ))
 
 module _ {H : Type 0} (was is : Numbers → ℕ → H) {t t′ : List ℕ} {i : ℕ}
     (f : SlotFrame (getD t texturesAt 0) i (was (numbersOf t)) (is (numbersOf t)) t t′) where

@@ -12,13 +12,16 @@ use Rattle.agreement.specs.{Fits.{SingleFits, MipFits, HeldFits, EndsFit, SlotF
 
 -- ---- What an owned texture holds in the half h: ranges that tile its layers where its word tells COMPLEX, otherwise a state that fits
 pub record HalfFits (h : ℕ) (t r : List ℕ) (i : ℕ) : Type 0 where
-  pub tiled : getD t (h + i) 0 ≡ getD t complexAt 0 → (k : ℕ) → k < getD t (mipsAt i) 0 → Tiles 0 (mipOf (numbersOf t) h t r i k) (getD t (layersAt i) 0)
+  pub tiled : getD t (h + i) 0 ≡ getD t complexAt 0 → (k : ℕ) → k < getD t (mipsAt i) 0
+      → Tiles 0 (mipOf (numbersOf t) h t r i k) (getD t (layersAt i) 0)
   pub state : (getD t (h + i) 0 ≡ getD t complexAt 0 → ⊥) → SingleFits (flagsOf t) (getD t (h + i) 0)
 
-pub half-fits : (h : ℕ) (t r : List ℕ) (i : ℕ) → getD t (mipsAt i) 0 ≤ getD t mipLimitAt 0 → HeldFits (flagsOf t) (extentOf t i) (heldOf (numbersOf t) h t r i) → HalfFits h t r i
+pub half-fits : (h : ℕ) (t r : List ℕ) (i : ℕ) → getD t (mipsAt i) 0 ≤ getD t mipLimitAt 0
+    → HeldFits (flagsOf t) (extentOf t i) (heldOf (numbersOf t) h t r i) → HalfFits h t r i
 half-fits h t r i top f = record {
   tiled = λ c k l.
-      let g : HeldFits (flagsOf t) (extentOf t i) (many (mipsOf (numbersOf t) h t r i)) = subst (HeldFits (flagsOf t) (extentOf t i)) (held-many (numbersOf t) h t r i (mipsOf (numbersOf t) h t r i) c refl) f in
+      let g : HeldFits (flagsOf t) (extentOf t i) (many (mipsOf (numbersOf t) h t r i)) = subst (HeldFits (flagsOf t) (extentOf t i))
+      (held-many (numbersOf t) h t r i (mipsOf (numbersOf t) h t r i) c refl) f in
       let n : k < length (mipsOf (numbersOf t) h t r i) = rw (g .0) l in
       let m : k < mipsIn (numbersOf t) t i = rw (mips-long (numbersOf t) h t r i) at n in
       subst (λ (s : List Range). Tiles 0 s (getD t (layersAt i) 0)) (mip-at (numbersOf t) h t r i k [] m)
@@ -34,7 +37,8 @@ not-bit s c n e z = n (sym (and-self s) ∙ ap (bitAnd s) z ∙ e)
 -- nor is any union with it
 pub union-not-bit : (x s c : ℕ) → (s ≡ 0 → ⊥) → bitAnd s c ≡ 0 → bitOr x s ≡ c → ⊥
 union-not-bit x s c n e z =
-    let a : bitOr (bitAnd x s) s ≡ 0 = ap (bitOr (bitAnd x s)) (sym (and-self s)) ∙ sym (and-or x s s) ∙ ap (λ (y : ℕ). bitAnd y s) z ∙ and-comm c s ∙ e in
+    let a : bitOr (bitAnd x s) s ≡ 0 = ap (bitOr (bitAnd x s)) (sym (and-self s)) ∙ sym (and-or x s s) ∙ ap (λ (y : ℕ). bitAnd y s) z
+    ∙ and-comm c s ∙ e in
     n (or-zero (bitAnd x s) s a .1)
 
 -- ---- A set that passed the test
@@ -54,7 +58,11 @@ pub scope-tested : (t r : List ℕ) → length t ≡ tableLength → wellFormedS
 unfolding scopeOf
 scope-tested t r size e =
     let a = and-eq-true-iff _ _ .0 e in let f = scope-to (scopeOf t r) (a .0) in
-    record { measured = measured-of startHalf t r (omega arith, omega arith) size (f .numbers) (a .1); flags = f .flags; slots = slot-of HeldFits (heldOf (numbersOf t) startHalf t r) t f }
+    record {
+      measured = measured-of startHalf t r (omega arith, omega arith) size (f .numbers) (a .1);
+      flags = f .flags;
+      slots = slot-of HeldFits (heldOf (numbersOf t) startHalf t r) t f;
+    }
 
 pub record TrackerTested (t s e : List ℕ) : Type 0 where
   pub starts : Measured (numbersOf t) startHalf t s
@@ -62,7 +70,8 @@ pub record TrackerTested (t s e : List ℕ) : Type 0 where
   pub flags : flagsFit (flagsOf t) ≡ true
   pub slots : (i : ℕ) → i < getD t texturesAt 0 → SlotFits EndsFit (numbersOf t) (flagsOf t) (trackerSlot t s e i)
 
-pub tracker-tested : (t s e : List ℕ) → length t ≡ tableLength → wellFormedTracker (length s / 3) (length e / 3) (trackerOf t s e) ≡ true → TrackerTested t s e
+pub tracker-tested : (t s e : List ℕ) → length t ≡ tableLength → wellFormedTracker (length s / 3) (length e / 3) (trackerOf t s e) ≡ true
+    → TrackerTested t s e
 unfolding trackerOf
 tracker-tested t s e size w =
     let a = and-eq-true-iff _ _ .0 w in let b = and-eq-true-iff _ _ .0 (a .0) in let f = tracker-to (trackerOf t s e) (b .0) in

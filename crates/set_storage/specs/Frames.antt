@@ -26,8 +26,8 @@ pub measured-of : (h : ℕ) (t r : List ℕ) → (startHalf ≤ h) × (h ≤ end
     → leb (capacity (numbersOf t)) (length r / 3) ≡ true → Measured (numbersOf t) h t r
 measured-of h t r half size e room =
     let a = and-both _ _ e in let b = and-both _ _ (a .0) in
-    let n = inside (getD t texturesAt 0) 64 (not-true _ (b .0)) in let m = inside (getD t mipLimitAt 0) 16 (not-true _ (b .1)) in let w = inside (getD t layerLimitAt 0) 256 (not-true _ (a .1)) in
-    let c = leb-true (capacity (numbersOf t)) (length r / 3) room in
+    let n = inside (getD t texturesAt 0) 64 (not-true _ (b .0)) in let m = inside (getD t mipLimitAt 0) 16 (not-true _ (b .1)) in
+    let w = inside (getD t layerLimitAt 0) 256 (not-true _ (a .1)) in let c = leb-true (capacity (numbersOf t)) (length r / 3) room in
     record { dims = refl; textures = n .1; mips = m .1; some = w .0; layers = w .1; fits = omega arith; half = half; table = size }
 
 -- ---- Only the counts and the ranges of texture i in the half h may differ: the words below its counts, and past them
@@ -58,23 +58,33 @@ pub mips-same : (d : Numbers) (t t′ : List ℕ) (i : ℕ) → getD t′ (mipsA
 unfolding mipsIn
 mips-same d t t′ i e = rw e
 
-pub mip-at : (d : Numbers) (h : ℕ) (t r : List ℕ) (i m : ℕ) (z : List Range) → m < mipsIn d t i → getD (mipsOf d h t r i) m z ≡ mipOf d h t r i m
+pub mip-at : (d : Numbers) (h : ℕ) (t r : List ℕ) (i m : ℕ) (z : List Range) → m < mipsIn d t i
+    → getD (mipsOf d h t r i) m z ≡ mipOf d h t r i m
 mip-at d h t r i m z q = list-at (mipOf d h t r i) (mipsIn d t i) m z q
 
 pub mips-long : (d : Numbers) (h : ℕ) (t r : List ℕ) (i : ℕ) → length (mipsOf d h t r i) ≡ mipsIn d t i
 mips-long d h t r i = list-long (mipOf d h t r i) 0 (mipsIn d t i)
 
 -- a count that is not past the room reads its ranges
-pub mip-is : (d : Numbers) (h : ℕ) (t r : List ℕ) (i k : ℕ) → getD t (countAt h i k) 0 ≤ d .layers → mipOf d h t r i k ≡ decode (getD t (countAt h i k) 0) (mipPart d r i k)
+pub mip-is : (d : Numbers) (h : ℕ) (t r : List ℕ) (i k : ℕ) → getD t (countAt h i k) 0 ≤ d .layers
+    → mipOf d h t r i k ≡ decode (getD t (countAt h i k) 0) (mipPart d r i k)
 unfolding mipOf
 mip-is d h t r i k few = rw (le-leb (getD t (countAt h i k) 0) (d .layers) few)
 
-pub room-of : {d : Numbers} {h : ℕ} {t r : List ℕ} → Measured d h t r → (j k : ℕ) → j < d .textures → k < d .mips → baseOf j k (d .mips) (d .layers) + 3 * d .layers ≤ length r
+pub room-of : {d : Numbers} {h : ℕ} {t r : List ℕ} → Measured d h t r → (j k : ℕ) → j < d .textures → k < d .mips
+    → baseOf j k (d .mips) (d .layers) + 3 * d .layers ≤ length r
 unfolding baseOf
 room-of {d} {h} {t} {r} s j k a b = places-fit j k (d .textures) (d .mips) (d .layers) (length r) a b (s .some) (s .fits) .end
 
 pub within : {d : Numbers} {h i m : ℕ} {t r : List ℕ} → MipReady d h t r i m → Within i m (d .mips) (d .layers) (length r)
-within {d} {h} {i} {m} {t} {r} q = record { count = d .textures; texture = q .texture; mip = omega (arith, q .mip, q .top); some = q .measured .some; fits = q .measured .fits }
+within {d} {h} {i} {m} {t} {r} q =
+    record {
+      count = d .textures;
+      texture = q .texture;
+      mip = omega (arith, q .mip, q .top);
+      some = q .measured .some;
+      fits = q .measured .fits;
+    }
 
 -- ---- A mip's part is put back, and its count written
 module _ {d : Numbers} {h i m : ℕ} {t r : List ℕ} (q : MipReady d h t r i m) (p : List ℕ) (size : length p ≡ 3 * d .layers) (n : ℕ) where
@@ -121,24 +131,30 @@ module _ {d : Numbers} {h i m : ℕ} {t r : List ℕ} (q : MipReady d h t r i m)
   put-there k b c =
       rw (
         getD-set-other t (countAt h i m) (countAt h i k) n 0 (λ z. c (omega arith)),
-        put-apart r base (3 * d .layers) p room size (baseOf i k (d .mips) (d .layers)) (room-of (q .measured) i k (q .texture) b) (mips-apart i m k (d .mips) (d .layers) c),
+        put-apart r base (3 * d .layers) p room size (baseOf i k (d .mips) (d .layers)) (room-of (q .measured) i k (q .texture) b)
+            (mips-apart i m k (d .mips) (d .layers) c),
       )
 
   pub put-mips : n ≤ d .layers → MipsBecome d h i (set (mipsOf d h t r i) m (decode n p)) t r t′ r′
   put-mips few =
-      let e : mipsIn d t′ i ≡ mipsIn d t i = mips-same d t t′ i (frame-below put-frame (mipsAt i) (omega (arith, q .measured .half .0, q .measured .textures, q .texture))) in
+      let e : mipsIn d t′ i ≡ mipsIn d t i =
+      mips-same d t t′ i (frame-below put-frame (mipsAt i) (omega (arith, q .measured .half .0, q .measured .textures, q .texture))) in
       let z : 0 + m ≡ m = omega arith in
       record {
-        mips = rw e (list-set (mipOf d h t r i) (mipOf d h t′ r′ i) 0 (mipsIn d t i) m (decode n p) (q .mip) (ap (λ (x : ℕ). mipOf d h t′ r′ i x) z ∙ put-here few)
+        mips = rw e (list-set (mipOf d h t r i) (mipOf d h t′ r′ i) 0 (mipsIn d t i) m (decode n p) (q .mip)
+            (ap (λ (x : ℕ). mipOf d h t′ r′ i x) z ∙ put-here few)
             (λ x a b c. put-there x (omega (arith, q .top)) (λ w. c (omega arith))));
         frame = put-frame;
       }
 
 -- as the code puts it: the part of (i, m) becomes xs, n of them
-pub mip-put : {d : Numbers} {h i m : ℕ} {t r : List ℕ} → MipReady d h t r i m → (b k n : ℕ) (p : List ℕ) (xs : List Range) → b ≡ baseOf i m (d .mips) (d .layers) → k ≡ 3 * d .layers → length p ≡ length (take k (drop b r)) → 3 * n ≤ k → decode n p ≡ xs → MipsBecome d h i (set (mipsOf d h t r i) m xs) t r (set t (countAt h i m) n) (take b r ++ (p ++ drop k (drop b r)))
+pub mip-put : {d : Numbers} {h i m : ℕ} {t r : List ℕ} → MipReady d h t r i m → (b k n : ℕ) (p : List ℕ) (xs : List Range)
+    → b ≡ baseOf i m (d .mips) (d .layers) → k ≡ 3 * d .layers → length p ≡ length (take k (drop b r)) → 3 * n ≤ k → decode n p ≡ xs
+    → MipsBecome d h i (set (mipsOf d h t r i) m xs) t r (set t (countAt h i m) n) (take b r ++ (p ++ drop k (drop b r)))
 unfolding partOf putPart
 mip-put {d} {h} {i} {m} {t} {r} q b k n p xs eb ek long fits seen =
-    let pl = part-length r (baseOf i m (d .mips) (d .layers)) (3 * d .layers) (room-of (q .measured) i m (q .texture) (omega (arith, q .mip, q .top))) in
+    let pl = part-length r (baseOf i m (d .mips) (d .layers)) (3 * d .layers)
+    (room-of (q .measured) i m (q .texture) (omega (arith, q .mip, q .top))) in
     let long′ : length p ≡ length (partOf r (baseOf i m (d .mips) (d .layers)) (3 * d .layers)) = rw (eb, ek) at long in
     let x = put-mips q p (long′ ∙ pl) n (omega arith) in
     rw (eb, ek) record { mips = x .mips ∙ ap (λ (ys : List Range). set (mipsOf d h t r i) m ys) seen; frame = x .frame }

@@ -1,4 +1,5 @@
--- What is lent for a set, the set that it holds, and whether that is well formed. Nothing is asked of the numbers, nor of how many they are.
+-- What is lent for a set, the set that it holds, and whether that is well formed. Nothing is asked of the numbers, nor of how many they
+-- are.
 use Rattle.model.specs.Prelude.{ℕ, _/_, Bool, List, length}
 use Rattle.model.specs.{Sets.{Set, Tracker}, Texture.Held, WellFormed.{wellFormedScope, wellFormedTracker}}
 use Rattle.set_storage.specs.Storage.{scopeOf, trackerOf}

@@ -9,7 +9,8 @@ module _ {A : Type 0} (f g : ℕ → A) where
   list-ext k (suc n) e = rw (e k (omega arith) (omega arith), list-ext (suc k) n (λ x a b. e x (omega arith) (omega arith)))
 
   -- one element differs
-  pub list-set : (k n m : ℕ) (v : A) → m < n → g (k + m) ≡ v → ((x : ℕ) → k ≤ x → x < k + n → (x ≡ k + m → ⊥) → g x ≡ f x) → listFrom g k n ≡ set (listFrom f k n) m v
+  pub list-set : (k n m : ℕ) (v : A) → m < n → g (k + m) ≡ v → ((x : ℕ) → k ≤ x → x < k + n → (x ≡ k + m → ⊥) → g x ≡ f x)
+      → listFrom g k n ≡ set (listFrom f k n) m v
   unfolding listFrom
   list-set k zero m v q e o = absurd (omega arith)
   list-set k (suc n) zero v q e o =

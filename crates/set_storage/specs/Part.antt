@@ -31,8 +31,7 @@ pub record Places (i m M W all : ℕ) : Type 0 where
 
 pub places-fit : (i m N M W all : ℕ) → i < N → m < M → 0 < W → N * M * W * 3 ≤ all → Places i m M W all
 places-fit i m N M W all hi hm hw h =
-    let s : i * M + m < N * M = digits-lt hi hm in
-    let b : (i * M + m) * W + W ≤ N * M * W = block-le (i * M + m) (N * M) W s in
+    let s : i * M + m < N * M = digits-lt hi hm in let b : (i * M + m) * W + W ≤ N * M * W = block-le (i * M + m) (N * M) W s in
     let p : i * M + m ≤ (i * M + m) * W = le-mul-of-pos-right (i * M + m) hw in
     record { row = omega arith; at = omega arith; records = omega arith; end = omega arith }
 
@@ -51,10 +50,8 @@ module _ (l : List ℕ) (b k : ℕ) (p : List ℕ) (room : b + k ≤ length l) (
   pub put-after : (j d : ℕ) → b + k ≤ j → getD (putPart l b k p) j d ≡ getD l j d
   unfolding putPart
   put-after j d h =
-      let e : length (take b l) ≡ b = length-take-le b l (omega arith) in
-      let n : ℕ = j - (b + k) in
-      let s : j ≡ length (take b l) + (length p + n) = omega arith in
-      let t : b + (k + n) ≡ j = omega arith in
+      let e : length (take b l) ≡ b = length-take-le b l (omega arith) in let n : ℕ = j - (b + k) in
+      let s : j ≡ length (take b l) + (length p + n) = omega arith in let t : b + (k + n) ≡ j = omega arith in
       ap (λ (x : ℕ). getD (take b l ++ (p ++ drop k (drop b l))) x d) s
       ∙ getD-append-add (take b l) (p ++ drop k (drop b l)) (length p + n) d
       ∙ getD-append-add p (drop k (drop b l)) n d ∙ getD-drop k (drop b l) n d ∙ getD-drop b l (k + n) d ∙ ap (λ (x : ℕ). getD l x d) t
@@ -66,16 +63,19 @@ module _ (l : List ℕ) (b k : ℕ) (p : List ℕ) (room : b + k ≤ length l) (
       ap (take k) (drop-at (take b l) (p ++ drop k (drop b l)) b e) ∙ take-at p (drop k (drop b l)) k size
 
 -- two lists with the same numbers from b on, k of them, have the same part there
-pub part-same : (l l′ : List ℕ) (b k : ℕ) → length l ≡ length l′ → b + k ≤ length l → ((j : ℕ) → j < k → getD l (b + j) 0 ≡ getD l′ (b + j) 0) → partOf l b k ≡ partOf l′ b k
+pub part-same : (l l′ : List ℕ) (b k : ℕ) → length l ≡ length l′ → b + k ≤ length l
+    → ((j : ℕ) → j < k → getD l (b + j) 0 ≡ getD l′ (b + j) 0) → partOf l b k ≡ partOf l′ b k
 unfolding partOf
 part-same l l′ b k e h f =
     let n : length (take k (drop b l)) ≡ k = simp (length-take, length-drop) (omega arith) in
     let n′ : length (take k (drop b l′)) ≡ k = simp (length-take, length-drop) (omega arith) in
     ext-getD 0 (take k (drop b l)) (take k (drop b l′)) (n ∙ sym n′)
-    (λ i hi. let h′ : i < k = omega arith in getD-take k (drop b l) i 0 h′ ∙ getD-drop b l i 0 ∙ f i h′ ∙ sym (getD-drop b l′ i 0) ∙ sym (getD-take k (drop b l′) i 0 h′))
+    (λ i hi. let h′ : i < k = omega arith in getD-take k (drop b l) i 0 h′ ∙ getD-drop b l i 0 ∙ f i h′ ∙ sym (getD-drop b l′ i 0)
+    ∙ sym (getD-take k (drop b l′) i 0 h′))
 
 -- the same where the lists may end before
-pub part-alike : (l l′ : List ℕ) (b k : ℕ) → length l ≡ length l′ → ((j : ℕ) → j < k → getD l (b + j) 0 ≡ getD l′ (b + j) 0) → partOf l b k ≡ partOf l′ b k
+pub part-alike : (l l′ : List ℕ) (b k : ℕ) → length l ≡ length l′ → ((j : ℕ) → j < k → getD l (b + j) 0 ≡ getD l′ (b + j) 0)
+    → partOf l b k ≡ partOf l′ b k
 unfolding partOf
 part-alike l l′ b k e f =
     let n : length (take k (drop b l)) ≡ length (take k (drop b l′)) = simp (length-take, length-drop) (rw e) in
@@ -93,7 +93,8 @@ unfolding partOf
 part-length l b k h = length-take-le k (drop b l) (rw length-drop (omega arith))
 
 -- a part that does not meet the one put
-pub put-apart : (l : List ℕ) (b k : ℕ) (p : List ℕ) → b + k ≤ length l → length p ≡ k → (c : ℕ) → c + k ≤ length l → (c + k ≤ b) ⊎ (b + k ≤ c) → partOf (putPart l b k p) c k ≡ partOf l c k
+pub put-apart : (l : List ℕ) (b k : ℕ) (p : List ℕ) → b + k ≤ length l → length p ≡ k → (c : ℕ) → c + k ≤ length l
+    → (c + k ≤ b) ⊎ (b + k ≤ c) → partOf (putPart l b k p) c k ≡ partOf l c k
 put-apart l b k p room size c h (inl q) =
     part-same (putPart l b k p) l c k (put-length l b k p room size) (rw (put-length l b k p room size) h)
     (λ j t. put-before l b k p room size (c + j) 0 (omega arith))

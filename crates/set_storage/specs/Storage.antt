@@ -76,7 +76,12 @@ abbrev pub numbersOf : List ℕ → Numbers
 numbersOf t = record { textures = getD t texturesAt 0; mips = getD t mipLimitAt 0; layers = getD t layerLimitAt 0 }
 
 abbrev pub flagsOf : List ℕ → UsageFlags
-flagsOf t = record { exclusive = getD t exclusiveAt 0; uninitialized = getD t uninitializedAt 0; complex = getD t complexAt 0; unknown = getD t unknownAt 0 }
+flagsOf t = record {
+  exclusive = getD t exclusiveAt 0;
+  uninitialized = getD t uninitializedAt 0;
+  complex = getD t complexAt 0;
+  unknown = getD t unknownAt 0;
+}
 
 -- ---- The words of an index
 abbrev pub extentOf : List ℕ → ℕ → Extent

@@ -34,7 +34,8 @@ pub record SelectorWithin (sh : Extent) (q : Selector) : Type 0 where
   pub in-layers : layerEnd q ≤ sh .layers
 
 -- ranges that tile the layers are no more than there is room for
-pub tiles-few : (d : Numbers) (h : ℕ) (t r : List ℕ) (i k w : ℕ) → 0 < w → Tiles 0 (mipOf d h t r i k) w → getD t (countAt h i k) 0 ≤ d .layers
+pub tiles-few : (d : Numbers) (h : ℕ) (t r : List ℕ) (i k w : ℕ) → 0 < w → Tiles 0 (mipOf d h t r i k) w
+    → getD t (countAt h i k) 0 ≤ d .layers
 unfolding mipOf
 tiles-few d h t r i k w some f =
     by-lt (d .layers) (getD t (countAt h i k) 0)
@@ -47,10 +48,17 @@ module _ (t₀ t : List ℕ) (low : (x : ℕ) → x < startHalf → getD t x 0 �
   numbers-low = rw (low texturesAt (omega arith), low mipLimitAt (omega arith), low layerLimitAt (omega arith))
 
   pub flags-low : flagsOf t ≡ flagsOf t₀
-  flags-low = rw (low exclusiveAt (omega arith), low uninitializedAt (omega arith), low complexAt (omega arith), low unknownAt (omega arith))
+  flags-low = rw (
+    low exclusiveAt (omega arith),
+    low uninitializedAt (omega arith),
+    low complexAt (omega arith),
+    low unknownAt
+        (omega arith),
+  )
 
 -- and what is measured, where the lengths stay too, and a texture
-module _ {h : ℕ} {t₀ r₀ t r : List ℕ} (low : (x : ℕ) → x < startHalf → getD t x 0 ≡ getD t₀ x 0) (long : length r ≡ length r₀) (table : length t ≡ length t₀) where
+module _ {h : ℕ} {t₀ r₀ t r : List ℕ} (low : (x : ℕ) → x < startHalf → getD t x 0 ≡ getD t₀ x 0) (long : length r ≡ length r₀)
+    (table : length t ≡ length t₀) where
   pub measured-low : {d : Numbers} → Measured d h t₀ r₀ → Measured d h t r
   measured-low s = record {
     dims = numbers-low t₀ t low ∙ s .dims;

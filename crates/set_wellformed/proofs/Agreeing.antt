@@ -77,8 +77,7 @@ module _ (u : ℕ) (x y : Range) (s t : List Range) (a e : ℕ) (l : TilesFrom a
 
   both-end : agrees u (x .state) (y .state) ≡ true → x .end ≡ y .end → both ≡ all₂ (agrees u) (statesFrom (x .end) s) (statesFrom (x .end) t)
   both-end q h =
-      let z : y .end - x .end ≡ 0 = omega arith in
-      let tt : Tiles (x .end) t e = rw (← h) at (r .1) in
+      let z : y .end - x .end ≡ 0 = omega arith in let tt : Tiles (x .end) t e = rw (← h) at (r .1) in
       left-ends q (omega arith) ∙ rw (z, states-from t (x .end) e tt)
 
 -- the lists of the code
@@ -114,9 +113,7 @@ module _ {a : List ℕ} {la : ℕ} {b : List ℕ} {lb u : ℕ} (same : SameLayer
 
       pub walk-turn : agrees u (x .state) (y .state) ≡ true → Walk u (decode la a) (decode lb b) (i + passed (x .end) (y .end)) (j + passed (y .end) (x .end))
       walk-turn q =
-          let s = drop (i + 1) (decode la a) in
-          let t = drop (j + 1) (decode lb b) in
-          let i₀ : i + 0 ≡ i = omega arith in
+          let s = drop (i + 1) (decode la a) in let t = drop (j + 1) (decode lb b) in let i₀ : i + 0 ≡ i = omega arith in
           let j₀ : j + 0 ≡ j = omega arith in
           by-lt (x .end) (y .end)
           (λ h. rw (le-leb (x .end) (y .end) (omega arith), lt-leb (y .end) (x .end) h, j₀) record {
@@ -145,8 +142,7 @@ module _ {a : List ℕ} {la : ℕ} {b : List ℕ} {lb u : ℕ} (same : SameLayer
   -- nothing is left of one list, and so nothing of the other
   pub walk-end : {i j : ℕ} → Walk u (decode la a) (decode lb b) i j → i ≤ la → la ≤ i → true ≡ layersAgree u (decode la a) (decode lb b)
   walk-end {i} {j} w h g =
-      let z : i ≡ la = omega arith in
-      let none : drop i (decode la a) ≡ [] = rw (z, slice-empty la (view a)) in
+      let z : i ≡ la = omega arith in let none : drop i (decode la a) ≡ [] = rw (z, slice-empty la (view a)) in
       go (drop j (decode lb b)) (rw none at (w .left)) (w .right) (rw none at (w .on))
     where
       go : (t : List Range) → w .at ≡ w .top → TilesFrom (w .at) t (w .top) → all₂ (agrees u) [] (statesFrom (w .at) t) ≡ layersAgree u (decode la a) (decode lb b) → true ≡ layersAgree u (decode la a) (decode lb b)

@@ -95,8 +95,7 @@ module _ {p : UsageFlags} {t s e : List ℕ} {i : ℕ} (q : EndsReady p t s e i)
   ends-single a b =
       let a′ : (getD t (stateAt startHalf i) 0 ≡ getD t complexAt 0 → ⊥) = λ z. a (z ∙ sym complex) in
       let b′ : (getD t (stateAt endHalf i) 0 ≡ getD t complexAt 0 → ⊥) = λ z. b (z ∙ sym complex) in
-      let x = state-known p startHalf t s i a′ (f .start) in
-      let y = state-known p endHalf t e i b′ (f .end) in
+      let x = state-known p startHalf t s i a′ (f .start) in let y = state-known p endHalf t e i b′ (f .end) in
       rw (held-single (numbersOf t) startHalf t s i a′, held-single (numbersOf t) endHalf t e i b′)
       (sym (all-same (all₂ (agrees u)) (replicate (getD t (layersAt i) 0) (getD t (stateAt startHalf i) 0)) (replicate (getD t (layersAt i) 0) (getD t (stateAt endHalf i) 0))
       (all-same (agrees u) (getD t (stateAt startHalf i) 0) (getD t (stateAt endHalf i) 0) (rw (x, y)) (getD t (layersAt i) 0)) (getD t (mipsAt i) 0)))

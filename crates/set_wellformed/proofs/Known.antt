@@ -4,7 +4,7 @@ use Rattle.model.specs.Prelude.{List, [], _∷_, _++_, map, ltb, eqb, bitAnd, a
 use Rattle.model.specs.Prelude.{replicate-append-replicate, slice-empty, eqb-true, eqb-false, ltb-true, eq-eqb, ne-eqb, not-true, not-false}
 use Rattle.model.specs.{declared.{Range.Range, UsageFlags.UsageFlags}, Base.every, Flags.{meets, incompatible}}
 use Rattle.model.specs.{RangedStates.{layerStates, Tiles}, WellFormed.{stateFits, singleFits, rangesFit, sameTest, all₂}}
-use Rattle.model.specs.{BoolLaws.{and-both as both}, RangeLaws.{tiles-le as tiles-below}}
+use Rattle.model.specs.{BoolLaws.and-both as both, RangeLaws.tiles-le as tiles-below}
 use Rattle.range_states.specs.View.{view, decode, blank}
 use Rattle.set_storage.specs.Storage.{listFrom}
 use Rattle.set_wellformed.specs.Unknowns.{agrees, layersAgree, isKnown, itself}
@@ -66,8 +66,7 @@ module _ (u a : ℕ) (known : eqb a u ≡ false) where
   unfolding layerStates
   layers-known [] x e t = let z : e - x ≡ 0 = omega arith in rw z
   layers-known (r ∷ s) x e t =
-      let b = tiles-below s (r .end) e (t .2) in
-      let n : e - x ≡ (r .end - x) + (e - r .end) = omega (arith, t .1) in
+      let b = tiles-below s (r .end) e (t .2) in let n : e - x ≡ (r .end - x) + (e - r .end) = omega (arith, t .1) in
       rw (n, ← replicate-append-replicate (r .end - x) (e - r .end) a, t .0)
       (one-run (r .end - x) (r .state) (replicate (e - r .end) a) (layerStates s) (omega (arith, t .1)) (every (isKnown u) s) (layers-known s (r .end) e (t .2)))
 
@@ -76,8 +75,7 @@ module _ (u a : ℕ) (known : eqb a u ≡ false) where
   mips-known p w [] (suc n) e f = absurd (omega arith)
   mips-known p w (s ∷ ss) zero e f = absurd (omega arith)
   mips-known p w (s ∷ ss) (suc n) e f =
-      let x = both (rangesFit p w 0 s) (every (rangesFit p w 0) ss) f in
-      let z : w - 0 ≡ w = omega arith in
+      let x = both (rangesFit p w 0 s) (every (rangesFit p w 0) ss) f in let z : w - 0 ≡ w = omega arith in
       let l : all₂ (agrees u) (replicate w a) (layerStates s) ≡ every (isKnown u) s = rw z at (layers-known s 0 w (fits-tiles p w 0 s (x .0))) in
       rw (l, mips-known p w ss n (omega arith) (x .1))
 
@@ -115,8 +113,7 @@ all-both g each [] (y ∷ s) t e f = absurd (false≢true e)
 all-both g each (x ∷ l) [] t e f = absurd (false≢true e)
 all-both g each (x ∷ l) (y ∷ s) [] e f = absurd (false≢true f)
 all-both g each (x ∷ l) (y ∷ s) (z ∷ t) e f =
-    let a = both (g x y) (all₂ g l s) e in
-    let b = both (g x z) (all₂ g l t) f in
+    let a = both (g x y) (all₂ g l s) e in let b = both (g x z) (all₂ g l t) f in
     rw (each x y z (a .0) (b .0), all-both g each l s t (a .1) (b .1))
 
 pub known-agree : (u top : ℕ) (s t : List Range) → Tiles 0 s top → Tiles 0 t top → every (isKnown u) s ≡ true → every (isKnown u) t ≡ true → layersAgree u s t ≡ true

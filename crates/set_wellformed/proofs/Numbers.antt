@@ -45,8 +45,7 @@ pub record Small (n m w : ℕ) : Type 0 where
 
 pub small : (n m w : ℕ) → (n ≤ 64) × ((m ≤ 16) × (w ≤ 256)) → Small n m w
 small n m w h =
-    let x : n * m ≤ 64 * m = mul-le-mul-right m (h .0) in
-    let y : n * m * w ≤ 1024 * w = mul-le-mul-right w (omega arith) in
+    let x : n * m ≤ 64 * m = mul-le-mul-right m (h .0) in let y : n * m * w ≤ 1024 * w = mul-le-mul-right w (omega arith) in
     record { two = omega arith; three = omega arith }
 
 -- THE HEAD: the numbers are within their limits, and each half can be indexed

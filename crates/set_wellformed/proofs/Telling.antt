@@ -114,8 +114,7 @@ module _ (t s e : List ℕ) (i : ℕ) where
     tracker-plain q r p =
         by-case (trackerSlotFits t s e i ≡ true) (absent t i) (λ o. rw o)
         (λ o. let m = both (not (isMany t startHalf i)) (not (isMany t endHalf i)) (rw o at p) in
-        let a = not-true (isMany t startHalf i) (m .0) in
-        let b = not-true (isMany t endHalf i) (m .1) in
+        let a = not-true (isMany t startHalf i) (m .0) in let b = not-true (isMany t endHalf i) (m .1) in
         let x = both (extent t i) (single t startHalf i && single t endHalf i) (rw (o, a, b) at f) in
         let y = both (single t startHalf i) (single t endHalf i) (x .1) in
         let h : HalvesFit (flagsOf t) t s e i = record { start = sym (held-is t startHalf s i a) ∙ y .0; end = sym (held-is t endHalf e i b) ∙ y .1 } in

@@ -1,7 +1,7 @@
 -- Tests of every position of a list, as loops make them, and what the code needs of storage to make them.
 use Rattle.model.specs.Prelude.{ℕ, zero, suc, _+_, _/_, _≤_, _<_, add-one, le-ind, arith, _≡_, refl, sym, _∙_, Bool, true, false, _&&_}
 use Rattle.model.specs.Prelude.{_||_, not, and-true, and-assoc, List, leb, not-true, not-false}
-use Rattle.model.specs.{BoolLaws.{and-both as both}, Base.every, Flags.flagsFit, Sets.{Numbers, outside, numbersFit, capacity}}
+use Rattle.model.specs.{BoolLaws.and-both as both, Base.every, Flags.flagsFit, Sets.{Numbers, outside, numbersFit, capacity}}
 use Rattle.model.specs.WellFormed.{heldFits, slotFits}
 use Rattle.set_storage.specs.{Storage.{scopeSlot, numbersOf, flagsOf, listFrom}, Frames.Measured}
 
@@ -59,7 +59,8 @@ module _ {A : Type 0} (g : A → Bool) (f : ℕ → A) where
   every-from j zero k a h = absurd (omega arith)
   every-from j (suc n) zero a h = let e : j + 0 ≡ j = omega arith in rw e (both (g (f j)) (every g (listFrom f (suc j) n)) a .0)
   every-from j (suc n) (suc k) a h =
-      let e : j + suc k ≡ suc j + k = omega arith in rw e (every-from (suc j) n k (both (g (f j)) (every g (listFrom f (suc j) n)) a .1) (omega arith))
+      let e : j + suc k ≡ suc j + k = omega arith in
+      rw e (every-from (suc j) n k (both (g (f j)) (every g (listFrom f (suc j) n)) a .1) (omega arith))
 
   pub every-at : (n k : ℕ) → every g (listFrom f 0 n) ≡ true → k < n → g (f k) ≡ true
   every-at n k a h = let e : 0 + k ≡ k = omega arith in rw e at (every-from 0 n k a h)
@@ -84,10 +85,10 @@ module _ {A : Type 0} {g : A → Bool} {f : ℕ → A} {n k : ℕ} (w : Testing 
   testing-end h = let z : k ≡ n = omega (arith, w .high) in rw (← z) (sym (w .passed))
 
 -- where each position that passes one test passes another, and all pass the first, all pass the other
-pub every-also : {A B : Type 0} (g : A → Bool) (f : ℕ → A) (h : B → Bool) (k : ℕ → B) (n : ℕ) → ((i : ℕ) → i < n → g (f i) ≡ true → h (k i) ≡ true) → every g (listFrom f 0 n) ≡ true → every h (listFrom k 0 n) ≡ true
+pub every-also : {A B : Type 0} (g : A → Bool) (f : ℕ → A) (h : B → Bool) (k : ℕ → B) (n : ℕ)
+    → ((i : ℕ) → i < n → g (f i) ≡ true → h (k i) ≡ true) → every g (listFrom f 0 n) ≡ true → every h (listFrom k 0 n) ≡ true
 every-also g f h k zero each a = every-none h k
 every-also g f h k (suc n) each a =
-    let z : 0 + n ≡ n = omega arith in
-    let x = both (every g (listFrom f 0 n)) (g (f (0 + n))) (rw (every-last g f 0 n) at a) in
+    let z : 0 + n ≡ n = omega arith in let x = both (every g (listFrom f 0 n)) (g (f (0 + n))) (rw (every-last g f 0 n) at a) in
     let y : g (f n) ≡ true = rw z at (x .1) in
     rw (every-last h k 0 n, z, every-also g f h k n (λ i l. each i (omega arith)) (x .0), each n (omega arith) y)

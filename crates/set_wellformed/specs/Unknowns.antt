@@ -69,7 +69,8 @@ mipsAgree u t s e i n = every (mipAgrees u t s e i) (listFrom itself 0 n)
 
 abbrev pub endsAgree : ℕ → List ℕ → List ℕ → List ℕ → ℕ → Bool
 endsAgree u t s e i =
-    sameUnknown u (subresources (extentOf t i) (heldOf (numbersOf t) startHalf t s i)) (subresources (extentOf t i) (heldOf (numbersOf t) endHalf t e i))
+    sameUnknown u (subresources (extentOf t i) (heldOf (numbersOf t) startHalf t s i))
+    (subresources (extentOf t i) (heldOf (numbersOf t) endHalf t e i))
 
 -- a tracker's index i, and its first n indices
 abbrev pub trackerSlotFits : List ℕ → List ℕ → List ℕ → ℕ → Bool

@@ -1,4 +1,5 @@
--- THE CONTRACTS of the test of a whole set: what it returns, and that its table is as long as a table is; and what follows where a call branches on it.
+-- THE CONTRACTS of the test of a whole set: what it returns, and that its table is as long as a table is; and what follows where a call
+-- branches on it.
 use Rattle.model.specs.Prelude.{ℕ, _≡_, sym, _∙_, Bool, true, false, not, _&&_, List, length, not-true, not-false}
 use Rattle.set_storage.specs.{Lent.{scopeTest, trackerTest}, Storage.tableLength}
 

@@ -15,7 +15,8 @@ abbrev pub scopeWordPlain : List ℕ → ℕ → Bool
 scopeWordPlain t i = plainWords (flagsOf t) (getD t (ownedAt i) 0) (getD t (startHalf + i) 0)
 
 abbrev pub scopeWordFits : List ℕ → ℕ → Bool
-scopeWordFits t i = wordsFit (flagsOf t) (getD t mipLimitAt 0) (getD t layerLimitAt 0) (getD t (ownedAt i) 0) (getD t (mipsAt i) 0) (getD t (layersAt i) 0) (getD t (startHalf + i) 0)
+scopeWordFits t i = wordsFit (flagsOf t) (getD t mipLimitAt 0) (getD t layerLimitAt 0) (getD t (ownedAt i) 0) (getD t (mipsAt i) 0)
+    (getD t (layersAt i) 0) (getD t (startHalf + i) 0)
 
 -- ---- a tracker's index: where a half is Many, nothing is said of either
 abbrev pub plainPair : UsageFlags → ℕ → ℕ → ℕ → Bool
@@ -23,13 +24,15 @@ plainPair p owned start end = eqb owned 0 || (not (eqb start (p .complex)) && no
 
 abbrev pub pairFits : UsageFlags → ℕ → ℕ → ℕ → ℕ → ℕ → ℕ → ℕ → Bool
 pairFits p m w owned mips layers start end =
-    eqb owned 0 || (extentFits m w mips layers && ((eqb start (p .complex) || eqb end (p .complex)) || (singleFits p start && singleFits p end)))
+    eqb owned 0 || (extentFits m w mips layers
+    && ((eqb start (p .complex) || eqb end (p .complex)) || (singleFits p start && singleFits p end)))
 
 abbrev pub trackerWordPlain : List ℕ → ℕ → Bool
 trackerWordPlain t i = plainPair (flagsOf t) (getD t (ownedAt i) 0) (getD t (startHalf + i) 0) (getD t (endHalf + i) 0)
 
 abbrev pub trackerWordFits : List ℕ → ℕ → Bool
-trackerWordFits t i = pairFits (flagsOf t) (getD t mipLimitAt 0) (getD t layerLimitAt 0) (getD t (ownedAt i) 0) (getD t (mipsAt i) 0) (getD t (layersAt i) 0) (getD t (startHalf + i) 0) (getD t (endHalf + i) 0)
+trackerWordFits t i = pairFits (flagsOf t) (getD t mipLimitAt 0) (getD t layerLimitAt 0) (getD t (ownedAt i) 0) (getD t (mipsAt i) 0)
+    (getD t (layersAt i) 0) (getD t (startHalf + i) 0) (getD t (endHalf + i) 0)
 
 -- ---- what the pass tells of the first n indices
 pub record WordsAre (fits single : ℕ → Bool) (n : ℕ) (x : Words) : Type 0 where

@@ -52,19 +52,22 @@ module _ {h : ℕ} {t r : List ℕ} {i : ℕ} {sh : Extent} (q : TextureHeld (nu
     -- ---- a given texture: g, u and v are its half, its table and its ranges
     module _ {g : ℕ} {u v : List ℕ} (w : TextureHeld (numbersOf u) g u v i sh) where
       pub given-single : (getD u (g + i) 0 ≡ getD u complexAt 0 → ⊥)
-          → barrier p mask sh (heldOf (numbersOf t) h t r i) (fromHeld (heldOf (numbersOf u) g u v i)) ≡ barrier p mask sh (heldOf (numbersOf t) h t r i) (givenSingle (getD u (g + i) 0))
+          → barrier p mask sh (heldOf (numbersOf t) h t r i) (fromHeld (heldOf (numbersOf u) g u v i))
+          ≡ barrier p mask sh (heldOf (numbersOf t) h t r i) (givenSingle (getD u (g + i) 0))
       given-single c = rw (held-single (numbersOf u) g u v i c)
 
       module _ (c : getD u (g + i) 0 ≡ getD u complexAt 0) where
         pub given-many : getD t (h + i) 0 ≡ getD t complexAt 0
-            → barrier p mask sh (heldOf (numbersOf t) h t r i) (fromHeld (heldOf (numbersOf u) g u v i)) ≡ pairEntries (p .unknown) mask h t r g u v i (sh .mips)
+            → barrier p mask sh (heldOf (numbersOf t) h t r i) (fromHeld (heldOf (numbersOf u) g u v i))
+            ≡ pairEntries (p .unknown) mask h t r g u v i (sh .mips)
         given-many e =
             let z : sh .mips - 0 ≡ sh .mips = omega arith in
             rw (is-many w c, is-many q e, z)
             (many-to-many p mask sh (mipOf (numbersOf t) h t r i) (sh .mips) (mipOf (numbersOf u) g u v i))
 
         pub given-from : (getD t (h + i) 0 ≡ getD t complexAt 0 → ⊥)
-            → barrier p mask sh (heldOf (numbersOf t) h t r i) (fromHeld (heldOf (numbersOf u) g u v i)) ≡ mipsEntries (stepEntries (p .unknown) mask (From (getD t (h + i) 0))) g u v i 0 (sh .mips)
+            → barrier p mask sh (heldOf (numbersOf t) h t r i) (fromHeld (heldOf (numbersOf u) g u v i))
+            ≡ mipsEntries (stepEntries (p .unknown) mask (From (getD t (h + i) 0))) g u v i 0 (sh .mips)
         given-from e =
             let z : sh .mips - 0 ≡ sh .mips = omega arith in
             rw (is-many w c, held-single (numbersOf t) h t r i e, z)

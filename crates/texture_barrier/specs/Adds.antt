@@ -141,6 +141,5 @@ module _ {got : ℕ} {write : Bool} {l₀ : List ℕ} {n : ℕ} {all : List Pend
   -- none is left
   pub adding-end : {top : ℕ} → got ≤ top → hi ≤ k → NoneLeft rest hi → Adds top write l₀ n all x l
   adding-end {top} t past e =
-      let z : k ≡ hi = omega (arith, j .high) in
-      let d : j .done ≡ all = sym (append-nil (j .done)) ∙ rw (z, e .is) at (j .left) in
+      let z : k ≡ hi = omega (arith, j .high) in let d : j .done ≡ all = sym (append-nil (j .done)) ∙ rw (z, e .is) at (j .left) in
       adds-within (subst (λ (y : List PendingTransition). Adds got write l₀ n y x l) d (j .into)) top t

@@ -8,7 +8,8 @@ use Rattle.texture_barrier.specs.Over.{over, over-long, over-past}
 
 -- ---- One entry: "seven numbers: index, mip start, mip end, layer start, layer end, old, new"
 abbrev pub sevenOf : PendingTransition → List ℕ
-sevenOf e = e .index .0 ∷ mipStart (e .selector) ∷ mipEnd (e .selector) ∷ layerStart (e .selector) ∷ layerEnd (e .selector) ∷ e .old ∷ e .new ∷ []
+sevenOf e = e .index .0 ∷ mipStart (e .selector) ∷ mipEnd (e .selector) ∷ layerStart (e .selector) ∷ layerEnd (e .selector) ∷ e .old
+    ∷ e .new ∷ []
 
 -- the entry that the first seven numbers make
 abbrev pub entryOf : List ℕ → PendingTransition
@@ -109,9 +110,9 @@ unfolding read
 read-front zero n m l b e h = let q : n ≡ m = omega arith in rw q
 read-front (suc k) zero m l b e h = absurd (omega arith)
 read-front (suc k) (suc n) m l b e h =
-    let z : 7 * suc k ≡ 7 + 7 * k = omega arith in
-    let s : length (take 7 l) ≡ 7 = length-take-le 7 l (omega arith) in
-    let t : take (7 * suc k) l ++ b ≡ take 7 l ++ (take (7 * k) (drop 7 l) ++ b) = rw (z, take-add 7 (7 * k) l) (append-assoc (take 7 l) (take (7 * k) (drop 7 l)) b) in
+    let z : 7 * suc k ≡ 7 + 7 * k = omega arith in let s : length (take 7 l) ≡ 7 = length-take-le 7 l (omega arith) in
+    let t : take (7 * suc k) l ++ b ≡ take 7 l ++ (take (7 * k) (drop 7 l) ++ b) =
+    rw (z, take-add 7 (7 * k) l) (append-assoc (take 7 l) (take (7 * k) (drop 7 l)) b) in
     let f : entryOf (take 7 l) ≡ entryOf l = sym (front-entry (take 7 l) (drop 7 l) s) ∙ ap entryOf (take-append-drop 7 l) in
     let r = read-front k n m (drop 7 l) b (omega arith) (rw length-drop (omega arith)) in
     ap (read (suc n)) t ∙ read-next (take 7 l) (take (7 * k) (drop 7 l) ++ b) n s ∙ rw (f, r)
@@ -172,9 +173,9 @@ pub put-entry-is : (l : List ℕ) (n : ℕ) (e : PendingTransition) → 7 * n + 
 unfolding flatten entriesOf
 put-entry-is l n e h =
     let z : 7 * (n + 1) ≡ 7 * n + 7 = omega arith in
-    let c : sets l (7 * n) (sevenOf e) ≡ take (7 * n) l ++ (sevenOf e ++ drop (7 * (n + 1)) l) = rw z (sets-eq (sevenOf e) l (7 * n) h ∙ append-assoc (take (7 * n) l) (sevenOf e) (drop (7 * n + 7) l)) in
-    let a = added-is l n (e ∷ []) (omega arith) in
-    let k : n < length (entriesOf l) = rw (entries-long l) (omega arith) in
+    let c : sets l (7 * n) (sevenOf e) ≡ take (7 * n) l ++ (sevenOf e ++ drop (7 * (n + 1)) l) =
+    rw z (sets-eq (sevenOf e) l (7 * n) h ∙ append-assoc (take (7 * n) l) (sevenOf e) (drop (7 * n + 7) l)) in
+    let a = added-is l n (e ∷ []) (omega arith) in let k : n < length (entriesOf l) = rw (entries-long l) (omega arith) in
     record {
       content = c;
       seen = ap entriesOf c ∙ a .entries ∙ rw add-one (sym (set-split (entriesOf l) n e k));
@@ -190,7 +191,6 @@ pub get-entry-is : (l : List ℕ) (n : ℕ) → 7 * n + 7 ≤ length l → recor
 } ≡ getD (entriesOf l) n blankEntry
 unfolding entriesOf
 get-entry-is l n h =
-    let z : 7 * n + 0 ≡ 7 * n = omega arith in
-    let k : n < length l / 7 = omega arith in
+    let z : 7 * n + 0 ≡ 7 * n = omega arith in let k : n < length l / 7 = omega arith in
     let f : (j : ℕ) → getD (drop (7 * n) l) j 0 ≡ getD l (7 * n + j) 0 = λ j. getD-drop (7 * n) l j 0 in
     rw (read-at (length l / 7) n l blankEntry k, f 0, f 1, f 2, f 3, f 4, f 5, f 6, z)

@@ -14,13 +14,15 @@ module _ {A B : Type 0} (F : ℕ → A → List B) (G : ℕ → A) where
   mips-none k zero h = refl
   mips-none k (suc n) h = rw (h k (omega arith) (omega arith)) (mips-none (suc k) n (λ x a b. h x (omega arith) (omega arith)))
 
-  pub mips-same : (F′ : ℕ → A → List B) (k n : ℕ) → ((x : ℕ) → k ≤ x → x < k + n → F x (G x) ≡ F′ x (G x)) → eachAt F k (listFrom G k n) ≡ eachAt F′ k (listFrom G k n)
+  pub mips-same : (F′ : ℕ → A → List B) (k n : ℕ) → ((x : ℕ) → k ≤ x → x < k + n → F x (G x) ≡ F′ x (G x))
+      → eachAt F k (listFrom G k n) ≡ eachAt F′ k (listFrom G k n)
   unfolding listFrom
   mips-same F′ k zero h = refl
   mips-same F′ k (suc n) h = rw (h k (omega arith) (omega arith), mips-same F′ (suc k) n (λ x a b. h x (omega arith) (omega arith)))
 
   -- the first d mips add nothing
-  mips-skip : (d k n m : ℕ) → n ≡ d + m → ((x : ℕ) → k ≤ x → x < k + d → F x (G x) ≡ []) → eachAt F k (listFrom G k n) ≡ eachAt F (k + d) (listFrom G (k + d) m)
+  mips-skip : (d k n m : ℕ) → n ≡ d + m → ((x : ℕ) → k ≤ x → x < k + d → F x (G x) ≡ [])
+      → eachAt F k (listFrom G k n) ≡ eachAt F (k + d) (listFrom G (k + d) m)
   unfolding listFrom
   mips-skip zero k n m e h = let a : n ≡ m = omega arith in let b : k + 0 ≡ k = omega arith in rw (a, b)
   mips-skip (suc d) k zero m e h = absurd (omega arith)
@@ -36,15 +38,17 @@ module _ {A B : Type 0} (F : ℕ → A → List B) (G : ℕ → A) where
   mips-stop (suc a) k (suc n) e h = ap (λ (y : List B). F k (G k) ++ y) (mips-stop a (suc k) n (omega arith) (λ x p. h x (omega arith)))
 
   -- only the mips from lo to hi add something
-  pub mips-only : (lo hi n : ℕ) → lo ≤ hi → hi ≤ n → ((x : ℕ) → x < lo → F x (G x) ≡ []) → ((x : ℕ) → hi ≤ x → F x (G x) ≡ []) → eachAt F 0 (listFrom G 0 n) ≡ eachAt F lo (listFrom G lo (hi - lo))
+  pub mips-only : (lo hi n : ℕ) → lo ≤ hi → hi ≤ n → ((x : ℕ) → x < lo → F x (G x) ≡ []) → ((x : ℕ) → hi ≤ x → F x (G x) ≡ [])
+      → eachAt F 0 (listFrom G 0 n) ≡ eachAt F lo (listFrom G lo (hi - lo))
   mips-only lo hi n a b below above =
-      let z : 0 + lo ≡ lo = omega arith in
-      let s = mips-skip lo 0 n (n - lo) (omega arith) (λ x p q. below x (omega arith)) in
+      let z : 0 + lo ≡ lo = omega arith in let s = mips-skip lo 0 n (n - lo) (omega arith) (λ x p q. below x (omega arith)) in
       rw z at s ∙ mips-stop (hi - lo) lo (n - lo) (omega arith) (λ x p. above x (omega arith))
 
   -- only mip m adds something
-  pub mips-one : (m n : ℕ) → m < n → ((x : ℕ) → x < m → F x (G x) ≡ []) → ((x : ℕ) → m < x → F x (G x) ≡ []) → eachAt F 0 (listFrom G 0 n) ≡ F m (G m)
+  pub mips-one : (m n : ℕ) → m < n → ((x : ℕ) → x < m → F x (G x) ≡ []) → ((x : ℕ) → m < x → F x (G x) ≡ [])
+      → eachAt F 0 (listFrom G 0 n) ≡ F m (G m)
   unfolding listFrom
   mips-one m n a below above =
       let e : suc m - m ≡ suc zero = omega arith in
-      mips-only m (suc m) n (omega arith) (omega arith) below (λ x p. above x (omega arith)) ∙ mips-next m (suc m - m) zero e ∙ append-nil (F m (G m))
+      mips-only m (suc m) n (omega arith) (omega arith) below (λ x p. above x (omega arith)) ∙ mips-next m (suc m - m) zero e
+      ∙ append-nil (F m (G m))

@@ -21,12 +21,18 @@ module _ {A : Type 0} (l : List A) (n : ℕ) (x : List A) (room : n + length x �
   -- what lies past x is as it was
   pub over-past : (k : ℕ) → drop (n + length x + k) (over l n x) ≡ drop (n + length x + k) l
   over-past k =
-      rw (over-front, ← drop-drop k (n + length x) (front ++ drop (n + length x) l), drop-at front (drop (n + length x) l) (n + length x) front-long)
+      rw (
+        over-front,
+        ← drop-drop k (n + length x) (front ++ drop (n + length x) l),
+        drop-at front (drop (n + length x) l)
+            (n + length x) front-long,
+      )
       (drop-drop k (n + length x) l)
 
   -- one after another
   pub over-then : (y : List A) → over (over l n x) (n + length x) y ≡ over l n (x ++ y)
   over-then y =
-      let t : take (n + length x) (over l n x) ≡ front = ap (take (n + length x)) over-front ∙ take-at front (drop (n + length x) l) (n + length x) front-long in
+      let t : take (n + length x) (over l n x) ≡ front = ap (take (n + length x)) over-front
+      ∙ take-at front (drop (n + length x) l) (n + length x) front-long in
       let e : n + length (x ++ y) ≡ n + length x + length y = rw (length-append x y) (omega arith) in
       rw (t, over-past (length y), e) (simp append-assoc)

@@ -24,7 +24,8 @@ abbrev pub pairEntries : ℕ → ℕ → ℕ → List ℕ → List ℕ → ℕ �
 pairEntries unknown mask h t r g u v i n = mipsEntries (λ k s. toRanges unknown mask (mipOf (numbersOf t) h t r i k) k s) g u v i 0 n
 
 -- ---- A texture that is Many
-pub ready : {h : ℕ} {t r : List ℕ} {i : ℕ} {sh : Extent} → TextureHeld (numbersOf t) h t r i sh → getD t (h + i) 0 ≡ getD t complexAt 0 → (n : ℕ) → n ≤ sh .mips → Ready h t r i n
+pub ready : {h : ℕ} {t r : List ℕ} {i : ℕ} {sh : Extent} → TextureHeld (numbersOf t) h t r i sh → getD t (h + i) 0 ≡ getD t complexAt 0
+    → (n : ℕ) → n ≤ sh .mips → Ready h t r i n
 ready {h} {t} {r} {i} {sh} q c n l =
     let x = q .ready in
     record {
@@ -50,7 +51,8 @@ module _ {h : ℕ} {t r : List ℕ} {i n : ℕ} (q : Ready h t r i n) {m : ℕ} 
 
     pub run-ready : (at : ℕ) → at ≤ runTop → RunReady (lentPart x r) (x .len) m at
     run-ready at b =
-        let e : length (lentPart x r) ≡ x .end - x .base = length-take-le (x .end - x .base) (drop (x .base) r) (rw length-drop (omega (arith, f .end))) in
+        let e : length (lentPart x r) ≡ x .end - x .base =
+        length-take-le (x .end - x .base) (drop (x .base) r) (rw length-drop (omega (arith, f .end))) in
         record {
           room = omega (arith, f .size, f .len, q .few m l);
           few = omega (arith, f .len, q .few m l, q .measured .layers);
@@ -59,5 +61,6 @@ module _ {h : ℕ} {t r : List ℕ} {i n : ℕ} (q : Ready h t r i n) {m : ℕ} 
         }
 
 -- and the two parts that a function over a mip and its given ranges borrows
-pub pair-ready : {run : List ℕ} {len mip at : ℕ} {given : List ℕ} {many : ℕ} → RunReady run len mip at → RunReady given many mip at → at + 65536 ≤ runTop → PairReady run len given many mip at
+pub pair-ready : {run : List ℕ} {len mip at : ℕ} {given : List ℕ} {many : ℕ} → RunReady run len mip at → RunReady given many mip at
+    → at + 65536 ≤ runTop → PairReady run len given many mip at
 pair-ready a b low = record { held = a; room = b .room; few = b .few; low = low }

@@ -12,7 +12,8 @@ abbrev pub isMade : Option Move → Bool
 isMade none = false
 isMade (some m) = true
 
-pub moves-is : (unknown mask old new : ℕ) → isMade (moveOf unknown mask old new) ≡ not (eqb old unknown || eqb new unknown || skipBarrier mask old new)
+pub moves-is : (unknown mask old new : ℕ)
+    → isMade (moveOf unknown mask old new) ≡ not (eqb old unknown || eqb new unknown || skipBarrier mask old new)
 unfolding moveOf
 moves-is unknown mask old new = go (eqb old unknown || eqb new unknown || skipBarrier mask old new)
   where
@@ -21,11 +22,14 @@ moves-is unknown mask old new = go (eqb old unknown || eqb new unknown || skipBa
     go false = refl
 
 module _ (q : Selector) (unknown mask old new : ℕ) where
-  pub entry-yes : isMade (moveOf unknown mask old new) ≡ true → entry q (moveOf unknown mask old new) ≡ record { selector = q; move = record { old = old; new = new } } ∷ []
+  pub entry-yes : isMade (moveOf unknown mask old new) ≡ true
+      → entry q (moveOf unknown mask old new) ≡ record { selector = q; move = record { old = old; new = new } } ∷ []
   unfolding moveOf
   entry-yes = go (eqb old unknown || eqb new unknown || skipBarrier mask old new)
     where
-      go : (b : Bool) → isMade (if b then none else some (record { old = old; new = new })) ≡ true → entry q (if b then none else some (record { old = old; new = new })) ≡ record { selector = q; move = record { old = old; new = new } } ∷ []
+      go : (b : Bool) → isMade (if b then none else some (record { old = old; new = new })) ≡ true
+          → entry q (if b then none else some (record { old = old; new = new }))
+          ≡ record { selector = q; move = record { old = old; new = new } } ∷ []
       go true h = cc
       go false h = refl
 
@@ -63,12 +67,14 @@ pub record PairReady (run : List ℕ) (len : ℕ) (given : List ℕ) (many mip a
 -- what a step makes of the range r
 abbrev pub changeOf : Step → Range → Change
 changeOf (To new) r = record { made = true; start = r .start; end = r .end; old = r .state; new = new }
-changeOf (Within g) r = let c = clip (g .start) (g .end) r in record { made = overlaps (g .start) (g .end) r; start = c .start; end = c .end; old = c .state; new = g .state }
+changeOf (Within g) r = let c = clip (g .start) (g .end) r in
+    record { made = overlaps (g .start) (g .end) r; start = c .start; end = c .end; old = c .state; new = g .state }
 changeOf (From cur) r = record { made = true; start = r .start; end = r .end; old = cur; new = r .state }
 
 -- the entries of a change on mip k
 abbrev pub changeEntries : ℕ → ℕ → ℕ → Change → List Entry
-changeEntries unknown mask k c = if c .made then entry (select k (suc k) (c .start) (c .end)) (moveOf unknown mask (c .old) (c .new)) else []
+changeEntries unknown mask k c = if c .made then entry (select k (suc k) (c .start) (c .end)) (moveOf unknown mask (c .old) (c .new)) else
+    []
 
 -- what a step adds for one range of mip k
 abbrev pub rangeEntries : ℕ → ℕ → Step → ℕ → Range → List Entry
@@ -93,8 +99,10 @@ module _ (unknown mask : ℕ) (g : Range) (k : ℕ) where
   within-is (r ∷ s) = go (overlaps (g .start) (g .end) r) (within-is s)
     where
       go : (b : Bool) → toStateIn unknown mask (g .state) (g .start) (g .end) k s ≡ stepEntries unknown mask (Within g) k s
-          → mipEntries (λ cur. moveOf unknown mask cur (g .state)) k (if b then clip (g .start) (g .end) r ∷ iterFilter (g .start) (g .end) s else iterFilter (g .start) (g .end) s)
-          ≡ (if b then entry (select k (suc k) (clip (g .start) (g .end) r .start) (clip (g .start) (g .end) r .end)) (moveOf unknown mask (r .state) (g .state)) else []) ++ stepEntries unknown mask (Within g) k s
+          → mipEntries (λ cur. moveOf unknown mask cur (g .state)) k (if b then clip (g .start) (g .end) r
+          ∷ iterFilter (g .start) (g .end) s else iterFilter (g .start) (g .end) s)
+          ≡ (if b then entry (select k (suc k) (clip (g .start) (g .end) r .start) (clip (g .start) (g .end) r .end))
+          (moveOf unknown mask (r .state) (g .state)) else []) ++ stepEntries unknown mask (Within g) k s
       go true h = rw h
       go false h = h
 
@@ -103,5 +111,6 @@ module _ (unknown mask k : ℕ) (step : Step) (r : Range) {c : Change} (e : c �
   pub change-none : c .made ≡ false → rangeEntries unknown mask step k r ≡ []
   change-none h = ap (changeEntries unknown mask k) (sym e) ∙ rw h
 
-  pub change-one : {q : Selector} → c .made ≡ true → q ≡ select k (suc k) (c .start) (c .end) → rangeEntries unknown mask step k r ≡ entry q (moveOf unknown mask (c .old) (c .new))
+  pub change-one : {q : Selector} → c .made ≡ true → q ≡ select k (suc k) (c .start) (c .end)
+      → rangeEntries unknown mask step k r ≡ entry q (moveOf unknown mask (c .old) (c .new))
   change-one h i = ap (changeEntries unknown mask k) (sym e) ∙ rw (h, i)

@@ -51,48 +51,60 @@ past-mips q k a = rw (le-ltb k (mipEnd q) a) (go (leb (mipStart q) k))
     go false = refl
 
 module _ (p : UsageFlags) (mask : ℕ) (sh : Extent) where
-  pub single-to-state : (cur new : ℕ) → barrier p mask sh (single cur) (givenSingle new) ≡ entry (full sh) (moveOf (p .unknown) mask cur new)
+  pub single-to-state : (cur new : ℕ)
+      → barrier p mask sh (single cur) (givenSingle new) ≡ entry (full sh) (moveOf (p .unknown) mask cur new)
   unfolding barrier
   single-to-state cur new = refl
 
-  pub many-to-state : (ss : List (List Range)) (new : ℕ) → barrier p mask sh (many ss) (givenSingle new) ≡ eachAt (stepEntries (p .unknown) mask (To new)) 0 ss
+  pub many-to-state : (ss : List (List Range)) (new : ℕ)
+      → barrier p mask sh (many ss) (givenSingle new) ≡ eachAt (stepEntries (p .unknown) mask (To new)) 0 ss
   unfolding barrier
   many-to-state ss new = refl
 
-  pub single-to-piece : (cur new : ℕ) (q : Selector) → barrier p mask sh (single cur) (givenMany (piece q new ∷ [])) ≡ entry q (moveOf (p .unknown) mask cur new)
+  pub single-to-piece : (cur new : ℕ) (q : Selector)
+      → barrier p mask sh (single cur) (givenMany (piece q new ∷ [])) ≡ entry q (moveOf (p .unknown) mask cur new)
   unfolding barrier
   single-to-piece cur new q = append-nil _
 
-  pub single-to-many : (cur : ℕ) (gs : List (List Range)) → barrier p mask sh (single cur) (givenMany (piecesOf gs)) ≡ eachAt (stepEntries (p .unknown) mask (From cur)) 0 gs
+  pub single-to-many : (cur : ℕ) (gs : List (List Range))
+      → barrier p mask sh (single cur) (givenMany (piecesOf gs)) ≡ eachAt (stepEntries (p .unknown) mask (From cur)) 0 gs
   unfolding barrier
   single-to-many cur gs =
       let f : Piece → List Entry = λ q. entry (q .selector) (moveOf (p .unknown) mask cur (q .state)) in
-      each-at f (λ k. map (rangePiece k)) 0 gs ∙ at-ext (λ k s. each f (map (rangePiece k) s)) (stepEntries (p .unknown) mask (From cur)) (λ k s. each-map f (rangePiece k) s) 0 gs
+      each-at f (λ k. map (rangePiece k)) 0 gs
+      ∙ at-ext (λ k s. each f (map (rangePiece k) s)) (stepEntries (p .unknown) mask (From cur)) (λ k s.
+      each-map f (rangePiece k) s) 0 gs
 
   -- ---- a held Many texture, whose mips are G 0, G 1 and so on
   module _ (G : ℕ → List Range) (n : ℕ) where
     pub many-to-piece : (new : ℕ) (q : Selector) → mipStart q ≤ mipEnd q → mipEnd q ≤ n
-        → barrier p mask sh (many (listFrom G 0 n)) (givenMany (piece q new ∷ [])) ≡ eachAt (stepEntries (p .unknown) mask (Within (range (layerStart q) (layerEnd q) new))) (mipStart q) (listFrom G (mipStart q) (mipEnd q - mipStart q))
+        → barrier p mask sh (many (listFrom G 0 n)) (givenMany (piece q new ∷ []))
+        ≡ eachAt (stepEntries (p .unknown) mask (Within (range (layerStart q) (layerEnd q) new))) (mipStart q) (listFrom G (mipStart q)
+        (mipEnd q - mipStart q))
     unfolding barrier
     many-to-piece new q a b =
         let F = pieceAt (p .unknown) mask (piece q new) in
         append-nil (eachAt F 0 (listFrom G 0 n))
         ∙ mips-only F G (mipStart q) (mipEnd q) n a b (λ x h. rw (under-mips q x h)) (λ x h. rw (past-mips q x h))
-        ∙ mips-same F G (stepEntries (p .unknown) mask (Within (range (layerStart q) (layerEnd q) new))) (mipStart q) (mipEnd q - mipStart q) (λ x h k. rw (in-mips q x h (omega arith)) (within-is (p .unknown) mask (range (layerStart q) (layerEnd q) new) x (G x)))
+        ∙ mips-same F G (stepEntries (p .unknown) mask (Within (range (layerStart q) (layerEnd q) new))) (mipStart q) (mipEnd q - mipStart
+        q) (λ x h k. rw (in-mips q x h (omega arith)) (within-is (p .unknown) mask (range (layerStart q) (layerEnd q) new) x (G x)))
 
     -- the piece of one range is on its own mip
-    one-mip : (k : ℕ) (g : Range) → k < n → eachAt (pieceAt (p .unknown) mask (rangePiece k g)) 0 (listFrom G 0 n) ≡ stepEntries (p .unknown) mask (Within g) k (G k)
+    one-mip : (k : ℕ) (g : Range) → k < n
+        → eachAt (pieceAt (p .unknown) mask (rangePiece k g)) 0 (listFrom G 0 n) ≡ stepEntries (p .unknown) mask (Within g) k (G k)
     one-mip k g h =
         let q = select k (suc k) (g .start) (g .end) in
         mips-one (pieceAt (p .unknown) mask (piece q (g .state))) G k n h (λ x b. rw (under-mips q x b)) (λ x b. rw (past-mips q x b))
         ∙ rw (in-mips q k (omega arith) (omega arith)) (within-is (p .unknown) mask g k (G k))
 
     pub many-to-many : (H : ℕ → List Range)
-        → barrier p mask sh (many (listFrom G 0 n)) (givenMany (piecesOf (listFrom H 0 n))) ≡ eachAt (λ k s. toRanges (p .unknown) mask (G k) k s) 0 (listFrom H 0 n)
+        → barrier p mask sh (many (listFrom G 0 n)) (givenMany (piecesOf (listFrom H 0 n)))
+        ≡ eachAt (λ k s. toRanges (p .unknown) mask (G k) k s) 0 (listFrom H 0 n)
     unfolding barrier
     many-to-many H =
         let f : Piece → List Entry = λ q. eachAt (pieceAt (p .unknown) mask q) 0 (listFrom G 0 n) in
         each-at f (λ k. map (rangePiece k)) 0 (listFrom H 0 n)
         ∙ mips-same (λ k s. each f (map (rangePiece k) s)) H (λ k s. toRanges (p .unknown) mask (G k) k s) 0 n
         (λ k a b. each-map f (rangePiece k) (H k)
-        ∙ each-ext (λ (r : Range). f (rangePiece k r)) (λ (r : Range). stepEntries (p .unknown) mask (Within r) k (G k)) (λ r. one-mip k r (omega arith)) (H k))
+        ∙ each-ext (λ (r : Range). f (rangePiece k r)) (λ (r : Range). stepEntries (p .unknown) mask (Within r) k (G k)) (λ r.
+        one-mip k r (omega arith)) (H k))

@@ -37,8 +37,7 @@ module _ {f : ℕ → List Range → Stop InvalidUse (List Range)} {h i : ℕ} {
   -- nothing is left after the last mip
   pub lap-end : mipsIn (numbersOf t₀) t₀ i ≤ m → MipsWalked (numbersOf t₀) h i (walk f 0 (mipsOf (numbersOf t₀) h t₀ r₀ i)) t₀ r₀ Nowhere t r
   lap-end b =
-      let n = mips-long (numbersOf t₀) h t r i in
-      let k = walk-count f (numbersOf t₀) h i t₀ r₀ s hi w in
+      let n = mips-long (numbersOf t₀) h t r i in let k = walk-count f (numbersOf t₀) h i t₀ r₀ s hi w in
       walk-done f (numbersOf t₀) h i t₀ r₀ s hi w (rw (drop-of-length-le (mipsOf (numbersOf t₀) h t r i) {i = m} (omega arith)))
 
 -- every mip was made anew

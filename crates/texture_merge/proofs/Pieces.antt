@@ -4,7 +4,7 @@ use Rattle.model.specs.{declared.{UsageFlags.UsageFlags, Range.Range, InvalidUs
 use Rattle.model.specs.{Representation.select, Texture.piecesOf}
 use Rattle.range_states.specs.View.{view, blank, decode}
 use Rattle.set_storage.specs.{declared.Located.Located, Storage.{numbersOf, mipsOf, layersAt}, Locate.LocatedAt}
-use Rattle.texture_merge.specs.{declared.Stopped.Stopped, declared.Stopped.the-variants.{Nowhere, At}, declared.Doing.Doing}
+use Rattle.texture_merge.specs.{declared.{Stopped.Stopped, Doing.Doing}, declared.Stopped.the-variants.{Nowhere, At}}
 use Rattle.texture_merge.specs.{Walks.{stoppedOf, MipsWalked}, Ready.{ManyReady, HalfTiled, Selects, lentPart}}
 use Rattle.texture_merge.specs.Giving.{taken, taken-tiled, passes-tiled, pieceOn, piecesFrom, passes-append, Giving, giving-start}
 use Rattle.texture_merge.specs.Giving.{giving-word, giving-ready, giving-turn, giving-stop, giving-end, GivenMip, GivenTexture}

@@ -10,7 +10,7 @@ use Rattle.range_states.specs.View.{decode}
 use Rattle.texture_mips.specs.{Merge.{merge-mip, merge-other}, Kept.{run-tiles, update-tiles}}
 use Rattle.set_storage.specs.{Storage.{numbersOf, mipsIn, mipsOf, layersAt, startHalf}, Stays.{Frame, keeps-refl, keeps-then}}
 use Rattle.set_storage.specs.Frames.{Measured, frame-below, measured-then, mip-at, mips-long}
-use Rattle.texture_merge.specs.{declared.Stopped.Stopped, declared.Stopped.the-variants.{Nowhere, At}, declared.Doing.Doing}
+use Rattle.texture_merge.specs.{declared.{Stopped.Stopped, Doing.Doing}, declared.Stopped.the-variants.{Nowhere, At}}
 use Rattle.texture_merge.specs.{declared.Doing.the-variants.{Insert, Merge, Spread, Cover}, Walks.{stoppedOf, MipsWalked}}
 use Rattle.texture_merge.specs.Ready.{updatedMips, ManyReady}
 
@@ -22,22 +22,27 @@ taken (Spread cur) p q ss = spreadPiece p cur q ss
 taken (Cover cur) p q ss = fine (updatedMips (p .unknown) (q .selector) (endAfter (p .unknown) cur (q .state)) ss)
 
 -- the model's `insert` and `update` give the pieces so
-pub inserts : (p : UsageFlags) (qs : List Piece) (ss : List (List Range)) → passes (taken Insert p) qs ss ≡ fine (paintAll (p .unknown) qs ss)
+pub inserts : (p : UsageFlags) (qs : List Piece) (ss : List (List Range))
+    → passes (taken Insert p) qs ss ≡ fine (paintAll (p .unknown) qs ss)
 unfolding taken paintAll
 inserts p [] ss = refl
-inserts p (q ∷ qs) ss = inserts p qs (onMips (q .selector) (paint (p .unknown) (layerStart (q .selector)) (layerEnd (q .selector)) (q .state)) 0 ss)
+inserts p (q ∷ qs) ss = inserts p qs
+    (onMips (q .selector) (paint (p .unknown) (layerStart (q .selector)) (layerEnd (q .selector)) (q .state)) 0 ss)
 
-pub covers : (p : UsageFlags) (cur : ℕ) (qs : List Piece) (ss : List (List Range)) → passes (taken (Cover cur) p) qs ss ≡ fine (spreadEnd (p .unknown) cur qs ss)
+pub covers : (p : UsageFlags) (cur : ℕ) (qs : List Piece) (ss : List (List Range))
+    → passes (taken (Cover cur) p) qs ss ≡ fine (spreadEnd (p .unknown) cur qs ss)
 unfolding taken spreadEnd
 covers p cur [] ss = refl
 covers p cur (q ∷ qs) ss = covers p cur qs (updatedMips (p .unknown) (q .selector) (endAfter (p .unknown) cur (q .state)) ss)
 
-pub merges : (p : UsageFlags) (qs : List Piece) (ss : List (List Range)) → passes (taken Merge p) qs ss ≡ passes (λ q. walk (mergeMip p q) 0) qs ss
+pub merges : (p : UsageFlags) (qs : List Piece) (ss : List (List Range))
+    → passes (taken Merge p) qs ss ≡ passes (λ q. walk (mergeMip p q) 0) qs ss
 unfolding taken
 merges p [] ss = refl
 merges p (q ∷ qs) ss = rw (merges p qs (walk (mergeMip p q) 0 ss .value))
 
-pub spreads : (p : UsageFlags) (cur : ℕ) (qs : List Piece) (ss : List (List Range)) → passes (taken (Spread cur) p) qs ss ≡ passes (spreadPiece p cur) qs ss
+pub spreads : (p : UsageFlags) (cur : ℕ) (qs : List Piece) (ss : List (List Range))
+    → passes (taken (Spread cur) p) qs ss ≡ passes (spreadPiece p cur) qs ss
 unfolding taken
 spreads p cur [] ss = refl
 spreads p cur (q ∷ qs) ss = rw (spreads p cur qs (spreadPiece p cur q ss .value))
@@ -62,20 +67,26 @@ many-tiled {d} {h} {i} {w} {t} {r} m = tiled-of w (mipsOf d h t r i) (λ k b.
     let l : k < mipsIn d t i = rw (mips-long d h t r i) at b in
     subst (λ (s : List Range). Tiles 0 s w) (sym (mip-at d h t r i k [] l)) (m .tiled k l))
 
-pub many-ready : {d : Numbers} {h i w : ℕ} {t r : List ℕ} → Measured d h t r → i < d .textures → 0 < w → w ≤ d .layers → Tiled w (mipsOf d h t r i) → ManyReady d h t r i w
+pub many-ready : {d : Numbers} {h i w : ℕ} {t r : List ℕ} → Measured d h t r → i < d .textures → 0 < w → w ≤ d .layers
+    → Tiled w (mipsOf d h t r i) → ManyReady d h t r i w
 many-ready {d} {h} {i} {w} {t} {r} m hi a b x = record {
   measured = m;
   texture = hi;
   some = a;
   low = b;
-  tiled = λ k l. subst (λ (s : List Range). Tiles 0 s w) (mip-at d h t r i k [] l) (tiled-get w (mipsOf d h t r i) k x (rw (mips-long d h t r i) l));
+  tiled = λ k l. subst (λ (s : List Range). Tiles 0 s w) (mip-at d h t r i k [] l)
+      (tiled-get w (mipsOf d h t r i) k x (rw (mips-long d h t r i) l));
 }
 
-pub on-tiled : (w : ℕ) (q : Selector) (f : List Range → List Range) → ((s : List Range) → Tiles 0 s w → Tiles 0 (f s) w) → (k : ℕ) (ss : List (List Range)) → Tiled w ss → Tiled w (onMips q f k ss)
+pub on-tiled : (w : ℕ) (q : Selector) (f : List Range → List Range) → ((s : List Range) → Tiles 0 s w → Tiles 0 (f s) w)
+    → (k : ℕ) (ss : List (List Range)) → Tiled w ss → Tiled w (onMips q f k ss)
 on-tiled w q f g k [] t = tt
-on-tiled w q f g k (s ∷ ss) t = (by-test (λ (x : List Range). Tiles 0 x w) (inMips q k) (λ b. g s (t .0)) (λ b. t .0), on-tiled w q f g (suc k) ss (t .1))
+on-tiled w q f g k (s ∷ ss) t =
+    (by-test (λ (x : List Range). Tiles 0 x w) (inMips q k) (λ b. g s (t .0)) (λ b. t .0), on-tiled w q f g (suc k) ss (t .1))
 
-walk-tiled : (w : ℕ) (f : ℕ → List Range → Stop InvalidUse (List Range)) → ((k : ℕ) (s : List Range) → Tiles 0 s w → Tiles 0 (f k s .value) w) → (k : ℕ) (ss : List (List Range)) → Tiled w ss → Tiled w (walk f k ss .value)
+walk-tiled : (w : ℕ) (f : ℕ → List Range → Stop InvalidUse (List Range))
+    → ((k : ℕ) (s : List Range) → Tiles 0 s w → Tiles 0 (f k s .value) w) → (k : ℕ) (ss : List (List Range)) → Tiled w ss
+    → Tiled w (walk f k ss .value)
 walk-tiled w f g k [] t = tt
 walk-tiled w f g k (s ∷ ss) t = go (walk-tiled w f g (suc k) ss (t .1)) (f k s .conflict)
   where
@@ -83,23 +94,32 @@ walk-tiled w f g k (s ∷ ss) t = go (walk-tiled w f g (suc k) ss (t .1)) (f k s
     go ih none = (g k s (t .0), ih)
     go ih (some c) = (g k s (t .0), t .1)
 
-merge-tiled : (p : UsageFlags) (q : Piece) (w : ℕ) → layerStart (q .selector) < layerEnd (q .selector) → layerEnd (q .selector) ≤ w → (k : ℕ) (s : List Range) → Tiles 0 s w → Tiles 0 (mergeMip p q k s .value) w
+merge-tiled : (p : UsageFlags) (q : Piece) (w : ℕ) → layerStart (q .selector) < layerEnd (q .selector) → layerEnd (q .selector) ≤ w
+    → (k : ℕ) (s : List Range) → Tiles 0 s w → Tiles 0 (mergeMip p q k s .value) w
 merge-tiled p q w h g k s t = go (inMips (q .selector) k) refl
   where
     go : (b : Bool) → inMips (q .selector) k ≡ b → Tiles 0 (mergeMip p q k s .value) w
     go true e = rw (merge-mip p q k s e) (run-tiles p k (layerStart (q .selector)) (layerEnd (q .selector)) (q .state) s w h g t)
     go false e = rw (merge-other p q k s e) t
 
-pub taken-tiled : (d : Doing) (p : UsageFlags) (q : Piece) (w : ℕ) (ss : List (List Range)) → layerStart (q .selector) < layerEnd (q .selector) → layerEnd (q .selector) ≤ w → Tiled w ss → Tiled w (taken d p q ss .value)
+pub taken-tiled : (d : Doing) (p : UsageFlags) (q : Piece) (w : ℕ) (ss : List (List Range))
+    → layerStart (q .selector) < layerEnd (q .selector) → layerEnd (q .selector) ≤ w → Tiled w ss → Tiled w (taken d p q ss .value)
 unfolding taken spreadPiece
-taken-tiled Insert p q w ss h g t = on-tiled w (q .selector) _ (λ s x. paint-tiles s 0 (layerStart (q .selector)) (layerEnd (q .selector)) (p .unknown) (q .state) w (omega arith) h g x) 0 ss t
+taken-tiled Insert p q w ss h g t =
+    on-tiled w (q .selector) _ (λ s x. paint-tiles s 0 (layerStart (q .selector)) (layerEnd (q .selector)) (p .unknown) (q .state) w
+    (omega arith) h g x) 0 ss t
 taken-tiled Merge p q w ss h g t = walk-tiled w (mergeMip p q) (merge-tiled p q w h g) 0 ss t
 taken-tiled (Spread cur) p q w ss h g t = go (unite p cur (q .state))
   where
-    go : (o : Option ℕ) → Tiled w (ruled {C = InvalidUse} ss (invalidUse (q .selector) cur (q .state)) (Option·map (λ (u : ℕ). updatedMips (p .unknown) (q .selector) u ss) o) .value)
+    go : (o : Option ℕ)
+        → Tiled w (ruled {C = InvalidUse} ss (invalidUse (q .selector) cur (q .state))
+        (Option·map (λ (u : ℕ). updatedMips (p .unknown) (q .selector) u ss) o) .value)
     go none = t
-    go (some u) = on-tiled w (q .selector) _ (λ s x. update-tiles (p .unknown) (layerStart (q .selector)) (layerEnd (q .selector)) u s w h g x) 0 ss t
-taken-tiled (Cover cur) p q w ss h g t = on-tiled w (q .selector) _ (λ s x. update-tiles (p .unknown) (layerStart (q .selector)) (layerEnd (q .selector)) (endAfter (p .unknown) cur (q .state)) s w h g x) 0 ss t
+    go (some u) = on-tiled w (q .selector) _ (λ s x. update-tiles (p .unknown) (layerStart (q .selector)) (layerEnd (q .selector)) u s w h g
+        x) 0 ss t
+taken-tiled (Cover cur) p q w ss h g t =
+    on-tiled w (q .selector) _ (λ s x. update-tiles (p .unknown) (layerStart (q .selector)) (layerEnd (q .selector))
+    (endAfter (p .unknown) cur (q .state)) s w h g x) 0 ss t
 
 -- ---- Pieces of one mip, and of the mips from k on
 abbrev pub pieceOn : ℕ → Range → Piece
@@ -109,12 +129,18 @@ abbrev pub piecesFrom : ℕ → List (List Range) → List Piece
 piecesFrom k ss = eachAt (λ m s. map (pieceOn m) s) k ss
 
 module _ {C Q S : Type 0} (f : Q → S → Stop C S) where
-  pub passes-append : (xs ys : List Q) (s : S) → passes f (xs ++ ys) s ≡ andThen (passes f xs s .conflict) (passes f xs s .value) (passes f ys (passes f xs s .value))
+  pub passes-append : (xs ys : List Q) (s : S)
+      → passes f (xs ++ ys) s ≡ andThen (passes f xs s .conflict) (passes f xs s .value) (passes f ys (passes f xs s .value))
   passes-append [] ys s = refl
   passes-append (x ∷ xs) ys s = go (passes-append xs ys (f x s .value)) (f x s .conflict)
     where
-      go : passes f (xs ++ ys) (f x s .value) ≡ andThen (passes f xs (f x s .value) .conflict) (passes f xs (f x s .value) .value) (passes f ys (passes f xs (f x s .value) .value)) → (c : Option C)
-          → andThen c (f x s .value) (passes f (xs ++ ys) (f x s .value)) ≡ andThen (andThen c (f x s .value) (passes f xs (f x s .value)) .conflict) (andThen c (f x s .value) (passes f xs (f x s .value)) .value) (passes f ys (andThen c (f x s .value) (passes f xs (f x s .value)) .value))
+      go : passes f (xs ++ ys) (f x s .value)
+          ≡ andThen (passes f xs (f x s .value) .conflict) (passes f xs (f x s .value) .value) (passes f ys
+          (passes f xs (f x s .value) .value))
+          → (c : Option C)
+          → andThen c (f x s .value) (passes f (xs ++ ys) (f x s .value))
+          ≡ andThen (andThen c (f x s .value) (passes f xs (f x s .value)) .conflict) (andThen c (f x s .value)
+          (passes f xs (f x s .value)) .value) (passes f ys (andThen c (f x s .value) (passes f xs (f x s .value)) .value))
       go ih none = ih
       go ih (some c) = refl
 
@@ -126,10 +152,12 @@ module _ (h i layers : ℕ) (goal : Stop InvalidUse (List (List Range))) (t₀ r
     pub tiled : Tiled layers (mipsOf (numbersOf t₀) h t r i)
 
 module _ {h i layers : ℕ} {t r : List ℕ} (m : ManyReady (numbersOf t) h t r i layers) where
-  pub giving-start : (left : List (List Range) → Stop InvalidUse (List (List Range))) → Giving h i layers (left (mipsOf (numbersOf t) h t r i)) t r left t r
+  pub giving-start : (left : List (List Range) → Stop InvalidUse (List (List Range)))
+      → Giving h i layers (left (mipsOf (numbersOf t) h t r i)) t r left t r
   giving-start left = record { ends = refl; frame = keeps-refl t r; tiled = many-tiled m }
 
-module _ {h i layers : ℕ} {goal : Stop InvalidUse (List (List Range))} {t₀ r₀ t r : List ℕ} {left : List (List Range) → Stop InvalidUse (List (List Range))} (m : ManyReady (numbersOf t₀) h t₀ r₀ i layers) (g : Giving h i layers goal t₀ r₀ left t r) where
+module _ {h i layers : ℕ} {goal : Stop InvalidUse (List (List Range))} {t₀ r₀ t r : List ℕ} {left : List (List Range)
+    → Stop InvalidUse (List (List Range))} (m : ManyReady (numbersOf t₀) h t₀ r₀ i layers) (g : Giving h i layers goal t₀ r₀ left t r) where
   dims : numbersOf t ≡ numbersOf t₀
   dims = measured-then (m .measured) (g .frame) .dims
 
@@ -138,15 +166,18 @@ module _ {h i layers : ℕ} {goal : Stop InvalidUse (List (List Range))} {t₀ r
 
   -- the texture is ready for the next piece
   pub giving-ready : ManyReady (numbersOf t) h t r i layers
-  giving-ready = subst (λ (d : Numbers). ManyReady d h t r i layers) (sym dims) (many-ready (measured-then (m .measured) (g .frame)) (m .texture) (m .some) (m .low) (g .tiled))
+  giving-ready = subst (λ (d : Numbers). ManyReady d h t r i layers) (sym dims)
+      (many-ready (measured-then (m .measured) (g .frame)) (m .texture) (m .some) (m .low) (g .tiled))
 
-  module _ {t′ r′ : List ℕ} {x : Stopped} (f : List (List Range) → Stop InvalidUse (List (List Range))) (next : List (List Range) → Stop InvalidUse (List (List Range)))
+  module _ {t′ r′ : List ℕ} {x : Stopped} (f : List (List Range) → Stop InvalidUse (List (List Range))) (next : List (List Range)
+      → Stop InvalidUse (List (List Range)))
       (splits : (ss : List (List Range)) → left ss ≡ andThen (f ss .conflict) (f ss .value) (next (f ss .value)))
       (w : MipsWalked (numbersOf t) h i (f (mipsOf (numbersOf t) h t r i)) t r x t′ r′) where
     here : MipsWalked (numbersOf t₀) h i (f (mipsOf (numbersOf t₀) h t r i)) t r x t′ r′
     here = subst (λ (d : Numbers). MipsWalked d h i (f (mipsOf d h t r i)) t r x t′ r′) dims w
 
-    rest : (c : Option InvalidUse) → stoppedOf x ≡ c → andThen c (mipsOf (numbersOf t₀) h t′ r′ i) (next (mipsOf (numbersOf t₀) h t′ r′ i)) ≡ goal
+    rest : (c : Option InvalidUse) → stoppedOf x ≡ c
+        → andThen c (mipsOf (numbersOf t₀) h t′ r′ i) (next (mipsOf (numbersOf t₀) h t′ r′ i)) ≡ goal
     rest c e = rw (← e, here .conflict, here .into .mips) (sym (splits (mipsOf (numbersOf t₀) h t r i)) ∙ g .ends)
 
     pub giving-turn : stoppedOf x ≡ none → Tiled layers (f (mipsOf (numbersOf t₀) h t r i) .value) → Giving h i layers goal t₀ r₀ next t′ r′
@@ -161,7 +192,10 @@ module _ {h i layers : ℕ} {goal : Stop InvalidUse (List (List Range))} {t₀ r
         let z = rest (some c) e in
         record {
           conflict = ap (λ (s : Stop InvalidUse (List (List Range))). s .conflict) z;
-          into = record { mips = ap (λ (s : Stop InvalidUse (List (List Range))). s .value) z; frame = keeps-then (g .frame) (here .into .frame) };
+          into = record {
+            mips = ap (λ (s : Stop InvalidUse (List (List Range))). s .value) z;
+            frame = keeps-then (g .frame) (here .into .frame);
+          };
         }
 
   -- nothing is left
@@ -185,13 +219,16 @@ pub record GivenTexture (t : List ℕ) (i mips h : ℕ) (t₂ r₂ : List ℕ) :
   pub same : mips ≡ mipsIn (numbersOf t₂) t₂ i
 
 -- pieces within the layers keep the mips tiled
-pub passes-tiled : (d : Doing) (p : UsageFlags) (m w : ℕ) (rs : List Range) (a : ℕ) (ss : List (List Range)) → Tiles a rs w → Tiled w ss → Tiled w (passes (taken d p) (map (pieceOn m) rs) ss .value)
+pub passes-tiled : (d : Doing) (p : UsageFlags) (m w : ℕ) (rs : List Range) (a : ℕ) (ss : List (List Range)) → Tiles a rs w → Tiled w ss
+    → Tiled w (passes (taken d p) (map (pieceOn m) rs) ss .value)
 passes-tiled d p m w [] a ss t q = q
 passes-tiled d p m w (r ∷ rs) a ss t q =
     let k = taken-tiled d p (pieceOn m r) w ss (omega arith) (tiles-le rs (r .end) w (t .2)) q in
     go (passes-tiled d p m w rs (r .end) (taken d p (pieceOn m r) ss .value) (t .2) k) k (taken d p (pieceOn m r) ss .conflict)
   where
-    go : Tiled w (passes (taken d p) (map (pieceOn m) rs) (taken d p (pieceOn m r) ss .value) .value) → Tiled w (taken d p (pieceOn m r) ss .value) → (c : Option InvalidUse)
-        → Tiled w (andThen c (taken d p (pieceOn m r) ss .value) (passes (taken d p) (map (pieceOn m) rs) (taken d p (pieceOn m r) ss .value)) .value)
+    go : Tiled w (passes (taken d p) (map (pieceOn m) rs) (taken d p (pieceOn m r) ss .value) .value)
+        → Tiled w (taken d p (pieceOn m r) ss .value) → (c : Option InvalidUse)
+        → Tiled w (andThen c (taken d p (pieceOn m r) ss .value)
+        (passes (taken d p) (map (pieceOn m) rs) (taken d p (pieceOn m r) ss .value)) .value)
     go ih k none = ih
     go ih k (some c) = k

@@ -1,4 +1,5 @@
--- What the code needs of a mip, or of all mips of a texture, to change it in place, and what it leaves: the part of the ranges that is lent on.
+-- What the code needs of a mip, or of all mips of a texture, to change it in place, and what it leaves: the part of the ranges that is lent
+-- on.
 use Rattle.model.specs.Prelude.{ℕ, _+_, _*_, _-_, _≤_, _<_, arith, _≡_, sym, ap, subst, _∙_, List, [], _∷_, _++_, length, getD, set, take}
 use Rattle.model.specs.Prelude.{drop, getD-replicate}
 use Rattle.model.specs.{declared.{Extent.Extent, Range.Range, Selector.Selector}, Representation.{mipStart, mipEnd, layerStart, layerEnd}}
@@ -25,7 +26,8 @@ pub record MipTiled (d : Numbers) (h : ℕ) (t r : List ℕ) (i m layers : ℕ) 
 pub tiled-few : {d : Numbers} {h i m layers : ℕ} {t r : List ℕ} → MipTiled d h t r i m layers → getD t (countAt h i m) 0 ≤ d .layers
 tiled-few {d} {h} {i} {m} {layers} {t} {r} q = tiles-few d h t r i m layers (q .some) (q .tiled)
 
-pub tiled-is : {d : Numbers} {h i m layers : ℕ} {t r : List ℕ} → MipTiled d h t r i m layers → mipOf d h t r i m ≡ decode (getD t (countAt h i m) 0) (mipPart d r i m)
+pub tiled-is : {d : Numbers} {h i m layers : ℕ} {t r : List ℕ} → MipTiled d h t r i m layers
+    → mipOf d h t r i m ≡ decode (getD t (countAt h i m) 0) (mipPart d r i m)
 tiled-is {d} {h} {i} {m} {layers} {t} {r} q = mip-is d h t r i m (tiled-few q)
 
 -- ---- The part that is lent on: `ranges[x.base..x.end]`
@@ -42,20 +44,29 @@ module _ {t r : List ℕ} {h i m : ℕ} (q : MipReady (numbersOf t) h t r i m) {
   part-is = rw (l .size, l .base)
 
   pub part-long : length (lentPart x r) ≡ 3 * getD t layerLimitAt 0
-  part-long = ap length part-is ∙ part-length r (baseOf i m (getD t mipLimitAt 0) (getD t layerLimitAt 0)) (3 * getD t layerLimitAt 0) (room-of (q .measured) i m (q .texture) (omega (arith, q .mip, q .top)))
+  part-long = ap length part-is
+      ∙ part-length r (baseOf i m (getD t mipLimitAt 0) (getD t layerLimitAt 0)) (3 * getD t layerLimitAt 0) (room-of (q .measured) i m
+      (q .texture) (omega (arith, q .mip, q .top)))
 
   -- what a function leaves in the part, n ranges, is the texture's mip m
   pub mip-left : (n : ℕ) (p : List ℕ) (xs : List Range) → length p ≡ length (lentPart x r) → 3 * n ≤ length (lentPart x r) → decode n p ≡ xs
       → MipsBecome (numbersOf t) h i (set (mipsOf (numbersOf t) h t r i) m xs) t r (set t (countAt h i m) n) (putBack x r p)
-  mip-left n p xs long fits seen = mip-put q (x .base) (x .end - x .base) n p xs (l .base) (l .size) long (omega (arith, part-long, l .size)) seen
+  mip-left n p xs long fits seen = mip-put q (x .base) (x .end - x .base) n p xs (l .base) (l .size) long
+      (omega (arith, part-long, l .size)) seen
 
   -- a count of ranges that fit is one that can be written
   pub count-fits : (n : ℕ) → 3 * n ≤ length (lentPart x r) → (h ≤ endHalf) × ((i < 64) × ((m < 16) × (n < 4294967296)))
-  count-fits n f =
-      (q .measured .half .1, (omega (arith, q .texture, q .measured .textures), (omega (arith, q .mip, q .top, q .measured .mips), omega (arith, part-long, q .measured .layers))))
+  count-fits n f = (
+    q .measured .half .1,
+    (
+      omega (arith, q .texture, q .measured .textures),
+      (omega (arith, q .mip, q .top, q .measured .mips), omega (arith, part-long, q .measured .layers)),
+    ),
+  )
 
 -- the part of a tiled mip, as the functions on one mip see it
-module _ {t r : List ℕ} {h i m layers : ℕ} (q : MipTiled (numbersOf t) h t r i m layers) {x : Located} (l : LocatedAt t h i m (length r) x) where
+module _ {t r : List ℕ} {h i m layers : ℕ} (q : MipTiled (numbersOf t) h t r i m layers) {x : Located}
+    (l : LocatedAt t h i m (length r) x) where
   pub lent-is : decode (x .len) (lentPart x r) ≡ mipOf (numbersOf t) h t r i m
   lent-is = rw (l .len, part-is (q .ready) l) (sym (tiled-is q))
 
@@ -84,7 +95,8 @@ abbrev pub HalfTiled : ℕ → List ℕ → List ℕ → ℕ → Type 0
 HalfTiled h t r i = ManyReady (numbersOf t) h t r i (getD t (layersAt i) 0)
 
 -- as the half holds it, where its word tells COMPLEX; w is how many layers it has
-pub many-of : {d : Numbers} {h i : ℕ} {sh : Extent} {t r : List ℕ} → TextureHeld d h t r i sh → getD t (h + i) 0 ≡ getD t complexAt 0 → (w : ℕ) → w ≡ sh .layers → ManyReady d h t r i w
+pub many-of : {d : Numbers} {h i : ℕ} {sh : Extent} {t r : List ℕ} → TextureHeld d h t r i sh → getD t (h + i) 0 ≡ getD t complexAt 0
+    → (w : ℕ) → w ≡ sh .layers → ManyReady d h t r i w
 many-of x c w e =
     let y = x .ready in
     record {
@@ -116,7 +128,8 @@ pub record EveryReady (d : Numbers) (h : ℕ) (t r : List ℕ) (i mips : ℕ) : 
 
 module _ {d : Numbers} {h i : ℕ} {sh : Extent} {t r : List ℕ} (x : TextureReady d h t r i sh) where
   pub texture-selects : {q : Selector} → SelectorWithin sh q → Selects d t i q
-  texture-selects w = record { mips = w .order; layers = w .span; in-mips = rw (texture-mips x) (w .in-mips); in-layers = rw (x .layers) (w .in-layers) }
+  texture-selects w = record
+      { mips = w .order; layers = w .span; in-mips = rw (texture-mips x) (w .in-mips); in-layers = rw (x .layers) (w .in-layers) }
 
   pub texture-every : EveryReady d h t r i (sh .mips)
   texture-every = record { measured = x .measured; texture = x .index; all = sym (texture-mips x) }
@@ -129,6 +142,7 @@ module _ {d : Numbers} {h i : ℕ} {sh : Extent} {t r : List ℕ} (x : TextureRe
     some = rw z (x .some);
     low = rw z (x .low);
     tiled = λ k l.
-        let f : mipOf d h t r i k ≡ range 0 (sh .layers) st ∷ [] = sym (mip-at d h t r i k [] l) ∙ rw e (getD-replicate (sh .mips) k (range 0 (sh .layers) st ∷ []) [] (rw (texture-mips x) at l)) in
+        let f : mipOf d h t r i k ≡ range 0 (sh .layers) st ∷ [] = sym (mip-at d h t r i k [] l)
+        ∙ rw e (getD-replicate (sh .mips) k (range 0 (sh .layers) st ∷ []) [] (rw (texture-mips x) at l)) in
         rw z (subst (λ (s : List Range). Tiles 0 s (sh .layers)) (sym f) (tiles-one (sh .layers) st (x .some)));
   }

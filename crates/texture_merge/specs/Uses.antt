@@ -19,7 +19,8 @@ unfoldable pub brokenUp : Extent → ℕ → Selector → ℕ → ℕ → Held
 brokenUp sh was q u st = many (updatedMips u q st (freshMips sh was))
 
 -- what the checks and the test of the set have shown
-pub record UseReady (d : Numbers) (h : ℕ) (t r : List ℕ) (i : ℕ) (sh : Extent) (all : Bool) (q : Selector) (p : UsageFlags) (new : ℕ) : Type 0 where
+pub record UseReady (d : Numbers) (h : ℕ) (t r : List ℕ) (i : ℕ) (sh : Extent) (all : Bool) (q : Selector) (p : UsageFlags) (new : ℕ) : Type
+    0 where
   pub texture : TextureReady d h t r i sh
   pub selector : SelectorWithin sh q
   pub flags : p ≡ flagsOf t
@@ -44,7 +45,8 @@ pub record HalfMerged (d : Numbers) (h i : ℕ) (w : Stop InvalidUse Held) (t r 
 
 -- ---- The model's merge of one use, case by case
 -- with a state that has another bit than COMPLEX, for a part
-pub use-with : {d : Numbers} {h i : ℕ} {sh : Extent} {all : Bool} {q : Selector} {p : UsageFlags} {new : ℕ} {t r : List ℕ} (u : ℕ) → UseReady d h t r i sh all q p new → (u ≡ p .complex → ⊥) → UseReady d h t r i sh false q p u
+pub use-with : {d : Numbers} {h i : ℕ} {sh : Extent} {all : Bool} {q : Selector} {p : UsageFlags} {new : ℕ} {t r : List ℕ} (u : ℕ)
+    → UseReady d h t r i sh all q p new → (u ≡ p .complex → ⊥) → UseReady d h t r i sh false q p u
 use-with u x c = record { texture = x .texture; selector = x .selector; flags = x .flags; whole = λ z. absurd (false≢true z); plain = c }
 
 pub united : (p : UsageFlags) (old new u : ℕ) → unite p old new ≡ some u → u ≡ bitOr old new
@@ -56,26 +58,31 @@ united p old new u e = go (invalidState p (bitOr old new)) e
     go false q = cc
 
 -- Single, and the states do not fit: nothing changes, and the use's selector is told
-pub single-conflict : (p : UsageFlags) (sh : Extent) (cur new : ℕ) (all : Bool) (q : Selector) → (all ≡ true → q ≡ full sh) → unite p cur new ≡ none → merge p sh (single cur) (useOf all q new) ≡ stopped (single cur) (invalidUse q cur new)
+pub single-conflict : (p : UsageFlags) (sh : Extent) (cur new : ℕ) (all : Bool) (q : Selector) → (all ≡ true → q ≡ full sh)
+    → unite p cur new ≡ none → merge p sh (single cur) (useOf all q new) ≡ stopped (single cur) (invalidUse q cur new)
 unfolding merge spreadPiece
 single-conflict p sh cur new true q w e = rw (e, w refl)
 single-conflict p sh cur new false q w e = rw e
 
 -- Single, and they fit: the union, or the texture broken up
-pub single-all : (p : UsageFlags) (sh : Extent) (cur new u : ℕ) (q : Selector) → unite p cur new ≡ some u → merge p sh (single cur) (useOf true q new) ≡ fine (single u)
+pub single-all : (p : UsageFlags) (sh : Extent) (cur new u : ℕ) (q : Selector) → unite p cur new ≡ some u
+    → merge p sh (single cur) (useOf true q new) ≡ fine (single u)
 unfolding merge
 single-all p sh cur new u q e = rw e
 
-pub single-part : (p : UsageFlags) (sh : Extent) (cur new u : ℕ) (q : Selector) → unite p cur new ≡ some u → merge p sh (single cur) (useOf false q new) ≡ fine (brokenUp sh cur q (p .unknown) u)
+pub single-part : (p : UsageFlags) (sh : Extent) (cur new u : ℕ) (q : Selector) → unite p cur new ≡ some u
+    → merge p sh (single cur) (useOf false q new) ≡ fine (brokenUp sh cur q (p .unknown) u)
 unfolding merge spreadPiece brokenUp
 single-part p sh cur new u q e = rw e
 
 -- Many
-pub many-all : (p : UsageFlags) (sh : Extent) (ss : List (List Range)) (new : ℕ) (q : Selector) → merge p sh (many ss) (useOf true q new) ≡ asMany (walk (mergeEvery p new) 0 ss)
+pub many-all : (p : UsageFlags) (sh : Extent) (ss : List (List Range)) (new : ℕ) (q : Selector)
+    → merge p sh (many ss) (useOf true q new) ≡ asMany (walk (mergeEvery p new) 0 ss)
 unfolding merge
 many-all p sh ss new q = refl
 
-pub many-part : (p : UsageFlags) (sh : Extent) (ss : List (List Range)) (new : ℕ) (q : Selector) → merge p sh (many ss) (useOf false q new) ≡ asMany (walk (mergeMip p (record { selector = q; state = new })) 0 ss)
+pub many-part : (p : UsageFlags) (sh : Extent) (ss : List (List Range)) (new : ℕ) (q : Selector)
+    → merge p sh (many ss) (useOf false q new) ≡ asMany (walk (mergeMip p (record { selector = q; state = new })) 0 ss)
 unfolding merge
 many-part p sh ss new q = ap asMany (once (walk (mergeMip p (record { selector = q; state = new })) 0 ss))
   where

@@ -31,7 +31,8 @@ module _ {C A : Type 0} (f : ℕ → A → Stop C A) where
         rw add-one record { conflict = rw dr (rw c at conflict-here); value = rw (dr, tk, append-assoc) (rw c at value-here) }
 
     -- the step that stops
-    pub walk-stop : (l′ : List A) (x : C) → l′ ≡ set l k (here .value) → here .conflict ≡ some x → (l′ ≡ walk f 0 l₀ .value) × (some x ≡ walk f 0 l₀ .conflict)
+    pub walk-stop : (l′ : List A) (x : C) → l′ ≡ set l k (here .value) → here .conflict ≡ some x
+        → (l′ ≡ walk f 0 l₀ .value) × (some x ≡ walk f 0 l₀ .conflict)
     walk-stop l′ x e c = (e ∙ set-split l k (here .value) h ∙ rw c at value-here, rw c at conflict-here)
 
     -- a step that leaves the element
@@ -43,13 +44,16 @@ module _ {C A : Type 0} (f : ℕ → A → Stop C A) where
   walk-rest k [] g = refl
   walk-rest k (x ∷ l) g = rw (g k x (omega arith), walk-rest (suc k) l (λ j y q. g j y (omega arith)))
 
-  pub walk-end : {l₀ : List A} {k : ℕ} {l : List A} → Walking l₀ k l → walk f k (drop k l) ≡ fine (drop k l) → (l ≡ walk f 0 l₀ .value) × (none ≡ walk f 0 l₀ .conflict)
+  pub walk-end : {l₀ : List A} {k : ℕ} {l : List A} → Walking l₀ k l → walk f k (drop k l) ≡ fine (drop k l)
+      → (l ≡ walk f 0 l₀ .value) × (none ≡ walk f 0 l₀ .conflict)
   walk-end {l₀} {k} {l} w e = (sym (take-append-drop k l) ∙ rw e at (w .value), rw e at (w .conflict))
 
   -- what lies before k is passed over
   walk-skip : (d : A) (l : List A) (k : ℕ) → k ≤ length l → ((j : ℕ) (x : A) → j < k → f j x ≡ fine x) → Walking l k l
   walk-skip d l zero h g = walk-start l
-  walk-skip d l (suc k) h g = rw (← add-one k) (walk-pass (walk-skip d l k (omega arith) (λ j x q. g j x (omega arith))) d (omega arith) (g k (getD l k d) (omega arith)))
+  walk-skip d l (suc k) h g =
+      rw (← add-one k) (walk-pass (walk-skip d l k (omega arith) (λ j x q. g j x (omega arith))) d (omega arith)
+      (g k (getD l k d) (omega arith)))
 
 -- ---- and what comes from k on is as it was
 module _ {C A : Type 0} (d : A) (f : ℕ → A → Stop C A) where
@@ -60,7 +64,8 @@ module _ {C A : Type 0} (d : A) (f : ℕ → A → Stop C A) where
   pub place-skip : (l : List A) (k : ℕ) → k ≤ length l → ((j : ℕ) (x : A) → j < k → f j x ≡ fine x) → InPlace l k l
   place-skip l k h g = record { walking = walk-skip f d l k h g; left = λ j q. refl }
 
-  pub place-turn : {l₀ : List A} {k : ℕ} {l : List A} → InPlace l₀ k l → k < length l → (l′ : List A) → l′ ≡ set l k (f k (getD l k d) .value) → f k (getD l k d) .conflict ≡ none → InPlace l₀ (k + 1) l′
+  pub place-turn : {l₀ : List A} {k : ℕ} {l : List A} → InPlace l₀ k l → k < length l → (l′ : List A)
+      → l′ ≡ set l k (f k (getD l k d) .value) → f k (getD l k d) .conflict ≡ none → InPlace l₀ (k + 1) l′
   place-turn {l₀} {k} {l} w h l′ e c = record {
     walking = walk-turn f (w .walking) d h l′ e c;
     left = λ j q. rw e (getD-set-other l k j (f k (getD l k d) .value) d (λ z. omega arith)) ∙ w .left j (omega arith);
@@ -85,12 +90,14 @@ module _ {C A : Type 0} (q : Selector) (f : ℕ → A → Stop C A) (k : ℕ) (s
       go false = refl
 
 -- ---- No conflict: each mip of a selector is changed by g, and each is made anew
-pub walk-edits : {C : Type 0} (q : Selector) (g : List Range → List Range) (k : ℕ) (ss : List (List Range)) → walk {C = C} (among q (λ j s. fine (g s))) k ss ≡ fine (onMips q g k ss)
+pub walk-edits : {C : Type 0} (q : Selector) (g : List Range → List Range) (k : ℕ) (ss : List (List Range))
+    → walk {C = C} (among q (λ j s. fine (g s))) k ss ≡ fine (onMips q g k ss)
 walk-edits q g k [] = refl
 walk-edits {C} q g k (s ∷ ss) = go (inMips q k) (walk-edits q g (suc k) ss)
   where
     go : (b : Bool) → walk {C = C} (among q (λ j s. fine (g s))) (suc k) ss ≡ fine (onMips q g (suc k) ss)
-        → onward ((if b then fine {C = C} (g s) else fine {C = C} s) .value) ((if b then fine {C = C} (g s) else fine {C = C} s) .conflict) ss (walk (among q (λ j s. fine (g s))) (suc k) ss) ≡ fine ((if b then g s else s) ∷ onMips q g (suc k) ss)
+        → onward ((if b then fine {C = C} (g s) else fine {C = C} s) .value) ((if b then fine {C = C} (g s) else fine {C = C} s) .conflict)
+        ss (walk (among q (λ j s. fine (g s))) (suc k) ss) ≡ fine ((if b then g s else s) ∷ onMips q g (suc k) ss)
     go true e = rw e
     go false e = rw e
 

@@ -11,12 +11,14 @@ stoppedOf Nowhere = none
 stoppedOf (At c) = some c
 
 -- THE CONTRACT of a walk: the model's walk over the mips of texture i, and its conflict
-pub record MipsWalked (d : Numbers) (h i : ℕ) (w : Stop InvalidUse (List (List Range))) (t r : List ℕ) (x : Stopped) (t′ r′ : List ℕ) : Type 0 where
+pub record MipsWalked (d : Numbers) (h i : ℕ) (w : Stop InvalidUse (List (List Range))) (t r : List ℕ) (x : Stopped) (t′ r′ : List ℕ) : Type
+    0 where
   pub conflict : stoppedOf x ≡ w .conflict
   pub into : MipsBecome d h i (w .value) t r t′ r′
 
 -- one mip of it: the model's step on mip m, and its conflict
-pub record MipWalked (d : Numbers) (h i m : ℕ) (w : Stop InvalidUse (List Range)) (c : Option InvalidUse) (t r t′ r′ : List ℕ) : Type 0 where
+pub record MipWalked (d : Numbers) (h i m : ℕ) (w : Stop InvalidUse (List Range)) (c : Option InvalidUse) (t r t′ r′ : List ℕ) : Type
+    0 where
   pub conflict : c ≡ w .conflict
   pub into : MipsBecome d h i (set (mipsOf d h t r i) m (w .value)) t r t′ r′
 
@@ -40,7 +42,8 @@ module _ (f : ℕ → List Range → Stop InvalidUse (List Range)) (d : Numbers)
     pub next-turn : f m (mipOf d h t r i m) .conflict ≡ none → InPlace [] f (mipsOf d h t₀ r₀ i) (m + 1) (mipsOf d h t′ r′ i)
     next-turn c = place-turn [] f w in-list (mipsOf d h t′ r′ i) set-is (ap (λ (y : List Range). f m y .conflict) here ∙ c)
 
-    pub next-stop : (x : InvalidUse) → f m (mipOf d h t r i m) .conflict ≡ some x → (mipsOf d h t′ r′ i ≡ walk f 0 (mipsOf d h t₀ r₀ i) .value) × (some x ≡ walk f 0 (mipsOf d h t₀ r₀ i) .conflict)
+    pub next-stop : (x : InvalidUse) → f m (mipOf d h t r i m) .conflict ≡ some x
+        → (mipsOf d h t′ r′ i ≡ walk f 0 (mipsOf d h t₀ r₀ i) .value) × (some x ≡ walk f 0 (mipsOf d h t₀ r₀ i) .conflict)
     next-stop x c = walk-stop f (w .walking) [] in-list (mipsOf d h t′ r′ i) x set-is (ap (λ (y : List Range). f m y .conflict) here ∙ c)
 
 -- ---- and nothing else of the storage changes
@@ -51,7 +54,8 @@ module _ (f : ℕ → List Range → Stop InvalidUse (List Range)) (d : Numbers)
 
   -- the mips before `lo` are passed over
   pub walk-from : (lo : ℕ) → lo ≤ mipsIn d t₀ i → ((j : ℕ) (x : List Range) → j < lo → f j x ≡ fine x) → MipWalk lo t₀ r₀
-  walk-from lo q under = record { walking = place-skip [] f (mipsOf d h t₀ r₀ i) lo (rw (mips-long d h t₀ r₀ i) q) under; frame = keeps-refl t₀ r₀ }
+  walk-from lo q under = record
+      { walking = place-skip [] f (mipsOf d h t₀ r₀ i) lo (rw (mips-long d h t₀ r₀ i) q) under; frame = keeps-refl t₀ r₀ }
 
   module _ {m : ℕ} {t r : List ℕ} (s : Measured d h t₀ r₀) (hi : i < d .textures) (w : MipWalk m t r) where
     pub walk-measured : Measured d h t r
@@ -83,5 +87,6 @@ module _ (f : ℕ → List Range → Stop InvalidUse (List Range)) (d : Numbers)
             record { conflict = y .1; into = record { mips = y .0; frame = keeps-then (w .frame) (k .into .frame) } }
 
     -- what is left is passed over
-    pub walk-done : walk f m (drop m (mipsOf d h t r i)) ≡ fine (drop m (mipsOf d h t r i)) → MipsWalked d h i (walk f 0 (mipsOf d h t₀ r₀ i)) t₀ r₀ Nowhere t r
+    pub walk-done : walk f m (drop m (mipsOf d h t r i)) ≡ fine (drop m (mipsOf d h t r i))
+        → MipsWalked d h i (walk f 0 (mipsOf d h t₀ r₀ i)) t₀ r₀ Nowhere t r
     walk-done e = let y = walk-end f (w .walking .walking) e in record { conflict = y .1; into = record { mips = y .0; frame = w .frame } }

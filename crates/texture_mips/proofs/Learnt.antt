@@ -15,10 +15,12 @@ pub record Learning (s₀ : List ℕ) (len : ℕ) (ends : List ℕ) (from to u n
   pub grown : LearnFits (length s₀) u new (drop k (decode to ends)) (decode n s)
   pub left : learn u new (drop k (decode to ends)) (decode n s) ≡ learn u new (drop from (decode to ends)) (decode len s₀)
 
-pub start-of : {s : List ℕ} {len : ℕ} {ends : List ℕ} {from to u new : ℕ} → from ≤ to → LearnRoom s len u new (drop from (decode to ends)) → Learning s len ends from to u new s len from
+pub start-of : {s : List ℕ} {len : ℕ} {ends : List ℕ} {from to u new : ℕ} → from ≤ to → LearnRoom s len u new (drop from (decode to ends))
+    → Learning s len ends from to u new s len from
 start-of h r = record { low = omega arith; high = h; long = refl; fits = r .fits; grown = r .grown; left = refl }
 
-module _ {s₀ : List ℕ} {len : ℕ} {ends : List ℕ} {from to u new : ℕ} {s : List ℕ} {n k : ℕ} (room : 3 * to ≤ length ends) (j : Learning s₀ len ends from to u new s n k) where
+module _ {s₀ : List ℕ} {len : ℕ} {ends : List ℕ} {from to u new : ℕ} {s : List ℕ} {n k : ℕ} (room : 3 * to ≤ length ends)
+    (j : Learning s₀ len ends from to u new s n k) where
   module _ {x : Range} (t : k < to) (g : x ≡ getD (view ends) k blank) where
     abbrev behind : List Range
     behind = drop (k + 1) (decode to ends)
@@ -36,7 +38,8 @@ module _ {s₀ : List ℕ} {len : ℕ} {ends : List ℕ} {from to u new : ℕ} {
     pub room-here : x .state ≡ u → IsolateRoom s n (x .start) (x .end) u
     room-here e = record { fits = omega (arith, j .fits, j .long); grown = omega (arith, fits-here .0 e, j .long) }
 
-    pub turn-yes : {n′ : ℕ} {s′ : List ℕ} → x .state ≡ u → Leaves s n′ (coalesce (paint u (x .start) (x .end) new (decode n s))) s′ → Learning s₀ len ends from to u new s′ n′ (k + 1)
+    pub turn-yes : {n′ : ℕ} {s′ : List ℕ} → x .state ≡ u → Leaves s n′ (coalesce (paint u (x .start) (x .end) new (decode n s))) s′
+        → Learning s₀ len ends from to u new s′ n′ (k + 1)
     turn-yes {n′} {s′} e f =
         let q : learnt u new x (decode n s) ≡ decode n′ s′ = rw (eq-eqb (x .state) u e) (sym (f .seen)) in
         record {
@@ -51,11 +54,17 @@ module _ {s₀ : List ℕ} {len : ℕ} {ends : List ℕ} {from to u new : ℕ} {
     pub turn-no : (x .state ≡ u → ⊥) → Learning s₀ len ends from to u new s n (k + 1)
     turn-no e =
         let q : learnt u new x (decode n s) ≡ decode n s = rw (ne-eqb (x .state) u e) in
-        record { low = omega (arith, j .low); high = omega arith; long = j .long; fits = j .fits; grown = rw (← q) (fits-here .1); left = rw (← q) left-here }
+        record {
+          low = omega (arith, j .low);
+          high = omega arith;
+          long = j .long;
+          fits = j .fits;
+          grown = rw (← q) (fits-here .1);
+          left = rw (← q) left-here;
+        }
 
   pub finish : to ≤ k → Leaves s₀ n (learn u new (drop from (decode to ends)) (decode len s₀)) s
   unfolding learn
   finish t =
-      let e : k ≡ to = omega (arith, j .high) in
-      let z : drop k (decode to ends) ≡ [] = rw e (slice-empty to (view ends)) in
+      let e : k ≡ to = omega (arith, j .high) in let z : drop k (decode to ends) ≡ [] = rw e (slice-empty to (view ends)) in
       record { long = j .long; fits = j .fits; seen = rw z at (j .left) }

@@ -35,7 +35,9 @@ module _ {A : Type 0} (stop : A → Bool) (f : A → A) (d : A) where
   met-some [] h = absurd (omega arith)
   met-some (x ∷ l) h = go (stop x) refl (met-some l)
     where
-      go : (t : Bool) → stop x ≡ t → (passedCount stop f l < length l → firstMet stop l ≡ some (getD (passed stop f l) (passedCount stop f l) d)) → firstMet stop (x ∷ l) ≡ some (getD (passed stop f (x ∷ l)) (passedCount stop f (x ∷ l)) d)
+      go : (t : Bool) → stop x ≡ t
+          → (passedCount stop f l < length l → firstMet stop l ≡ some (getD (passed stop f l) (passedCount stop f l) d))
+          → firstMet stop (x ∷ l) ≡ some (getD (passed stop f (x ∷ l)) (passedCount stop f (x ∷ l)) d)
       go true q ih = rw q
       go false q ih = let k : suc (passedCount stop f l) < suc (length l) = rw q at h in rw q (ih (omega arith))
 
@@ -51,7 +53,8 @@ module _ {A : Type 0} (stop : A → Bool) (f : A → A) (d : A) where
 -- ---- the model's walk
 record Walks (p : UsageFlags) (k new i : ℕ) (l : List Range) : Type 0 where
   value : walk (λ (j : ℕ). mergeRange p k new) i l .value ≡ passed (runStops p new) (runTakes p new) l
-  conflict : walk (λ (j : ℕ). mergeRange p k new) i l .conflict ≡ Option·map (λ (r : Range). invalidUse (select k (suc k) (r .start) (r .end)) (r .state) new) (firstMet (runStops p new) l)
+  conflict : walk (λ (j : ℕ). mergeRange p k new) i l .conflict
+      ≡ Option·map (λ (r : Range). invalidUse (select k (suc k) (r .start) (r .end)) (r .state) new) (firstMet (runStops p new) l)
 
 walk-is : (p : UsageFlags) (k new i : ℕ) (l : List Range) → Walks p k new i l
 unfolding passed firstMet runStops runTakes
@@ -63,7 +66,9 @@ walk-is p k new i (x ∷ l) = go (uniteKnown p (x .state) new) refl (walk-is p k
     go (some u) q ih = record { value = rw q (ap (λ (t : List Range). inState u x ∷ t) (ih .value)); conflict = rw q (ih .conflict) }
 
 -- ---- a pass over a run in the middle of a mip
-module _ (p : UsageFlags) (new : ℕ) (l₁ : List ℕ) (n : ℕ) (before run after : List Range) (from to k : ℕ) (l₂ : List ℕ) (fits : 3 * n ≤ length l₁) (all : decode n l₁ ≡ before ++ (run ++ after)) (ef : from ≡ length before) (et : to ≡ from + length run) (ps : Passed (runStops p new) (runTakes p new) l₁ from to k l₂) where
+module _ (p : UsageFlags) (new : ℕ) (l₁ : List ℕ) (n : ℕ) (before run after : List Range) (from to k : ℕ) (l₂ : List ℕ)
+    (fits : 3 * n ≤ length l₁) (all : decode n l₁ ≡ before ++ (run ++ after)) (ef : from ≡ length before) (et : to ≡ from + length run)
+    (ps : Passed (runStops p new) (runTakes p new) l₁ from to k l₂) where
   abbrev pass : List Range → List Range
   pass = passed (runStops p new) (runTakes p new)
 
@@ -78,8 +83,7 @@ module _ (p : UsageFlags) (new : ℕ) (l₁ : List ℕ) (n : ℕ) (before run af
 
   met-is : (x : Range) → k < to → x ≡ getD (view l₂) k blank → firstMet (runStops p new) run ≡ some x
   met-is x h e =
-      let j : ℕ = passedCount (runStops p new) (runTakes p new) run in
-      let q : k ≡ length before + j = omega (arith, at′) in
+      let j : ℕ = passedCount (runStops p new) (runTakes p new) run in let q : k ≡ length before + j = omega (arith, at′) in
       let t : j < length run = omega (arith, at′) in
       let u : getD (view l₂) k blank ≡ getD (pass run) j blank =
       sym (getD-take to (view l₂) k blank h) ∙ rw (becomes-live into′, q) (getD-append-add before (pass run) j blank)
@@ -90,8 +94,11 @@ module _ (p : UsageFlags) (new : ℕ) (l₁ : List ℕ) (n : ℕ) (before run af
   none-is h = met-none (runStops p new) (runTakes p new) blank run (omega (arith, at′))
 
   -- where it stopped, and where it did not
-  module _ (w : ℕ → Stop InvalidUse (List Range)) (wc : (i : ℕ) → w i .conflict ≡ walk (λ (j : ℕ). mergeRange p i new) 0 run .conflict) (wv : (i : ℕ) → w i .value ≡ settled (walk (λ (j : ℕ). mergeRange p i new) 0 run .conflict) (before ++ (walk (λ (j : ℕ). mergeRange p i new) 0 run .value ++ after))) where
-    ends-met : (x : Range) → length l₂ ≡ length l₁ → k < to → x ≡ getD (view l₂) k blank → Walked new w l₁ (record { len = n; met = Conflict x }) l₂
+  module _ (w : ℕ → Stop InvalidUse (List Range)) (wc : (i : ℕ) → w i .conflict ≡ walk (λ (j : ℕ). mergeRange p i new) 0 run .conflict)
+      (wv : (i : ℕ) → w i .value ≡ settled (walk (λ (j : ℕ). mergeRange p i new) 0 run .conflict) (before
+      ++ (walk (λ (j : ℕ). mergeRange p i new) 0 run .value ++ after))) where
+    ends-met : (x : Range) → length l₂ ≡ length l₁ → k < to → x ≡ getD (view l₂) k blank
+        → Walked new w l₁ (record { len = n; met = Conflict x }) l₂
     ends-met x lg h e =
         record {
           long = lg;
@@ -100,7 +107,8 @@ module _ (p : UsageFlags) (new : ℕ) (l₁ : List ℕ) (n : ℕ) (before run af
           seen = λ i. let y = walk-is p i new 0 run in ran′ ∙ sym (wv i ∙ rw (y .value, y .conflict, met-is x h e));
         }
 
-    ends-done : (c : ℕ) (l₃ : List ℕ) → length l₂ ≡ length l₁ → to ≤ k → Coalesced l₂ n c l₃ → Walked new w l₁ (record { len = c; met = Nothing }) l₃
+    ends-done : (c : ℕ) (l₃ : List ℕ) → length l₂ ≡ length l₁ → to ≤ k → Coalesced l₂ n c l₃
+        → Walked new w l₁ (record { len = c; met = Nothing }) l₃
     ends-done c l₃ lg h q =
         record {
           long = q .into .long ∙ lg;
@@ -110,27 +118,39 @@ module _ (p : UsageFlags) (new : ℕ) (l₁ : List ℕ) (n : ℕ) (before run af
         }
 
 -- ---- a piece: the run is what `isolate` made
-module _ (p : UsageFlags) (a e new : ℕ) {l : List ℕ} {len : ℕ} {i : Isolated} {l₁ : List ℕ} {k : ℕ} {l₂ : List ℕ} (is : Isolating l len a e (p .unknown) i l₁) (ps : Passed (runStops p new) (runTakes p new) l₁ (i .position) (i .end) k l₂) where
+module _ (p : UsageFlags) (a e new : ℕ) {l : List ℕ} {len : ℕ} {i : Isolated} {l₁ : List ℕ} {k : ℕ} {l₂ : List ℕ}
+    (is : Isolating l len a e (p .unknown) i l₁) (ps : Passed (runStops p new) (runTakes p new) l₁ (i .position) (i .end) k l₂) where
   abbrev cut-of : Cut
   cut-of = isolate a e (p .unknown) (decode len l)
 
-  rebase : {r : Merged} {l₃ : List ℕ} → Walked new (λ (j : ℕ). mergeRun p j a e new (decode len l)) l₁ r l₃ → PieceMerged p a e new l len r l₃
-  rebase w = record { long = w .long ∙ is .into .long; fits = omega (arith, w .fits, is .into .long); conflict = w .conflict; seen = w .seen }
+  rebase : {r : Merged} {l₃ : List ℕ} → Walked new (λ (j : ℕ). mergeRun p j a e new (decode len l)) l₁ r l₃
+      → PieceMerged p a e new l len r l₃
+  rebase w = record {
+    long = w .long ∙ is .into .long;
+    fits = omega (arith, w .fits, is .into .long);
+    conflict = w .conflict;
+    seen = w .seen;
+  }
 
-  pub piece-met : {x : Range} → k < i .end → x ≡ getD (view l₂) k blank → PieceMerged p a e new l len (record { len = i .len; met = Conflict x }) l₂
+  pub piece-met : {x : Range} → k < i .end → x ≡ getD (view l₂) k blank
+      → PieceMerged p a e new l len (record { len = i .len; met = Conflict x }) l₂
   unfolding mergeRun
   piece-met {x} h q =
-      rebase (ends-met p new l₁ (i .len) (cut-of .before) (cut-of .run) (cut-of .after) (i .position) (i .end) k l₂ (omega (arith, is .fits, is .into .long)) (becomes-live (is .into)) (is .position) (is .end) ps
+      rebase (ends-met p new l₁ (i .len) (cut-of .before) (cut-of .run) (cut-of .after) (i .position) (i .end) k l₂
+      (omega (arith, is .fits, is .into .long)) (becomes-live (is .into)) (is .position) (is .end) ps
       (λ (j : ℕ). mergeRun p j a e new (decode len l)) (λ j. refl) (λ j. refl) x (ps .into .long) h q)
 
-  pub piece-done : {c : ℕ} {l₃ : List ℕ} → i .end ≤ k → Coalesced l₂ (i .len) c l₃ → PieceMerged p a e new l len (record { len = c; met = Nothing }) l₃
+  pub piece-done : {c : ℕ} {l₃ : List ℕ} → i .end ≤ k → Coalesced l₂ (i .len) c l₃
+      → PieceMerged p a e new l len (record { len = c; met = Nothing }) l₃
   unfolding mergeRun
   piece-done {c} {l₃} h q =
-      rebase (ends-done p new l₁ (i .len) (cut-of .before) (cut-of .run) (cut-of .after) (i .position) (i .end) k l₂ (omega (arith, is .fits, is .into .long)) (becomes-live (is .into)) (is .position) (is .end) ps
+      rebase (ends-done p new l₁ (i .len) (cut-of .before) (cut-of .run) (cut-of .after) (i .position) (i .end) k l₂
+      (omega (arith, is .fits, is .into .long)) (becomes-live (is .into)) (is .position) (is .end) ps
       (λ (j : ℕ). mergeRun p j a e new (decode len l)) (λ j. refl) (λ j. refl) c l₃ (ps .into .long) h q)
 
 -- ---- every range: the run is the mip
-module _ (p : UsageFlags) (new : ℕ) {l : List ℕ} {len k : ℕ} {l₂ : List ℕ} (fits : 3 * len ≤ length l) (ps : Passed (runStops p new) (runTakes p new) l 0 len k l₂) where
+module _ (p : UsageFlags) (new : ℕ) {l : List ℕ} {len k : ℕ} {l₂ : List ℕ} (fits : 3 * len ≤ length l)
+    (ps : Passed (runStops p new) (runTakes p new) l 0 len k l₂) where
   long-of : len ≡ 0 + length (decode len l)
   long-of = let v : length (decode len l) ≡ len = length-take-le len (view l) (view-long l len fits) in omega arith
 

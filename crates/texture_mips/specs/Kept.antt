@@ -7,11 +7,13 @@ use Rattle.range_states.specs.View.{decode}
 use Rattle.texture_mips.specs.{Merge.mergeRun, Learn.{learnt, LearnFits, LearnRoom}}
 
 -- ---- merging: a range keeps its layers
-walk-tiles : (p : UsageFlags) (k new i : ℕ) (s : List Range) (a e : ℕ) → Tiles a s e → Tiles a (walk (λ (j : ℕ). mergeRange p k new) i s .value) e
+walk-tiles : (p : UsageFlags) (k new i : ℕ) (s : List Range) (a e : ℕ) → Tiles a s e
+    → Tiles a (walk (λ (j : ℕ). mergeRange p k new) i s .value) e
 walk-tiles p k new i [] a e t = t
 walk-tiles p k new i (r ∷ s) a e t = go (uniteKnown p (r .state) new) refl (walk-tiles p k new (suc i) s (r .end) e (t .2))
   where
-    go : (o : Option ℕ) → uniteKnown p (r .state) new ≡ o → Tiles (r .end) (walk (λ (j : ℕ). mergeRange p k new) (suc i) s .value) e → Tiles a (walk (λ (j : ℕ). mergeRange p k new) i (r ∷ s) .value) e
+    go : (o : Option ℕ) → uniteKnown p (r .state) new ≡ o → Tiles (r .end) (walk (λ (j : ℕ). mergeRange p k new) (suc i) s .value) e
+        → Tiles a (walk (λ (j : ℕ). mergeRange p k new) i (r ∷ s) .value) e
     go none q ih = rw q t
     go (some u) q ih = rw q (t .0, t .1, ih)
 
@@ -19,14 +21,15 @@ settled-tiles : {C : Type 0} (c : Option C) (s : List Range) (a e : ℕ) → Til
 settled-tiles none s a e t = coalesce-tiles s a e t
 settled-tiles (some c) s a e t = t
 
-pub run-tiles : (p : UsageFlags) (k a e new : ℕ) (s : List Range) (w : ℕ) → a < e → e ≤ w → Tiles 0 s w → Tiles 0 (mergeRun p k a e new s .value) w
+pub run-tiles : (p : UsageFlags) (k a e new : ℕ) (s : List Range) (w : ℕ) → a < e → e ≤ w → Tiles 0 s w
+    → Tiles 0 (mergeRun p k a e new s .value) w
 unfolding mergeRun
 run-tiles p k a e new s w h g t =
-    let c = isolate-cuts s 0 a e (p .unknown) w (omega arith) h g t in
-    let i = isolate a e (p .unknown) s in
+    let c = isolate-cuts s 0 a e (p .unknown) w (omega arith) h g t in let i = isolate a e (p .unknown) s in
     let v = walk (λ (j : ℕ). mergeRange p k new) 0 (i .run) in
     settled-tiles (v .conflict) (i .before ++ (v .value ++ i .after)) 0 w
-    (tiles-append (i .before) (v .value ++ i .after) 0 a w (c .before) (tiles-append (v .value) (i .after) a e w (walk-tiles p k new 0 (i .run) a e (c .run)) (c .after)))
+    (tiles-append (i .before) (v .value ++ i .after) 0 a w (c .before)
+    (tiles-append (v .value) (i .after) a e w (walk-tiles p k new 0 (i .run) a e (c .run)) (c .after)))
 
 -- ---- painting
 pub update-tiles : (u a e st : ℕ) (s : List Range) (w : ℕ) → a < e → e ≤ w → Tiles 0 s w → Tiles 0 (coalesce (paint u a e st s)) w
@@ -38,8 +41,10 @@ abbrev pub Within : List Range → ℕ → Type 0
 Within [] w = Unit {0}
 Within (r ∷ s) w = (r .start < r .end) × (r .end ≤ w) × Within s w
 
-learnt-tiles : (u new : ℕ) (r : Range) (s : List Range) (w : ℕ) → r .start < r .end → r .end ≤ w → Tiles 0 s w → Tiles 0 (learnt u new r s) w
-learnt-tiles u new r s w h g t = by-test (λ (x : List Range). Tiles 0 x w) (eqb (r .state) u) (λ b. update-tiles u (r .start) (r .end) new s w h g t) (λ b. t)
+learnt-tiles : (u new : ℕ) (r : Range) (s : List Range) (w : ℕ) → r .start < r .end → r .end ≤ w → Tiles 0 s w
+    → Tiles 0 (learnt u new r s) w
+learnt-tiles u new r s w h g t = by-test (λ (x : List Range). Tiles 0 x w) (eqb (r .state) u)
+    (λ b. update-tiles u (r .start) (r .end) new s w h g t) (λ b. t)
 
 pub learn-tiles : (u new : ℕ) (ends s : List Range) (w : ℕ) → Within ends w → Tiles 0 s w → Tiles 0 (learn u new ends s) w
 unfolding learn
@@ -54,7 +59,8 @@ learn-fits room u new (r ∷ ends) s w h i t = (
 )
 
 -- as many records as layers are enough
-pub learn-room : (l : List ℕ) (len u new : ℕ) (ends : List Range) (w : ℕ) → 3 * w ≤ length l → 3 * len ≤ length l → Within ends w → Tiles 0 (decode len l) w → LearnRoom l len u new ends
+pub learn-room : (l : List ℕ) (len u new : ℕ) (ends : List Range) (w : ℕ) → 3 * w ≤ length l → 3 * len ≤ length l → Within ends w
+    → Tiles 0 (decode len l) w → LearnRoom l len u new ends
 learn-room l len u new ends w h k i t = record { fits = k; grown = learn-fits (length l) u new ends (decode len l) w h i t }
 
 -- a part of a tiling lies within its layers

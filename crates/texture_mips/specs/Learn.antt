@@ -10,7 +10,8 @@ learnt u new r start = if eqb (r .state) u then coalesce (paint u (r .start) (r 
 -- each isolation on the way fits into `room` numbers
 abbrev pub LearnFits : ℕ → ℕ → ℕ → List Range → List Range → Type 0
 LearnFits room u new [] start = Unit {0}
-LearnFits room u new (r ∷ s) start = (r .state ≡ u → 3 * length (listOf (isolate (r .start) (r .end) u start)) ≤ room) × LearnFits room u new s (learnt u new r start)
+LearnFits room u new (r ∷ s) start = (r .state ≡ u → 3 * length (listOf (isolate (r .start) (r .end) u start)) ≤ room)
+    × LearnFits room u new s (learnt u new r start)
 
 pub record LearnRoom (l : List ℕ) (len u new : ℕ) (ends : List Range) : Type 0 where
   pub fits : 3 * len ≤ length l

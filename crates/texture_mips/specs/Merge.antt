@@ -25,11 +25,11 @@ runTakes p new r = inState (stateOr (r .state) (uniteKnown p (r .state) new)) r
 -- ---- A run of mip k: `mergeMip` where the piece has the mip
 unfoldable pub mergeRun : UsageFlags → ℕ → ℕ → ℕ → ℕ → List Range → Stop InvalidUse (List Range)
 mergeRun p k a e new s =
-    let c = isolate a e (p .unknown) s in
-    let w = walk (λ i. mergeRange p k new) 0 (c .run) in
+    let c = isolate a e (p .unknown) s in let w = walk (λ i. mergeRange p k new) 0 (c .run) in
     record { value = settled (w .conflict) (c .before ++ (w .value ++ c .after)); conflict = w .conflict }
 
-pub merge-mip : (p : UsageFlags) (q : Piece) (k : ℕ) (s : List Range) → inMips (q .selector) k ≡ true → mergeMip p q k s ≡ mergeRun p k (layerStart (q .selector)) (layerEnd (q .selector)) (q .state) s
+pub merge-mip : (p : UsageFlags) (q : Piece) (k : ℕ) (s : List Range) → inMips (q .selector) k ≡ true
+    → mergeMip p q k s ≡ mergeRun p k (layerStart (q .selector)) (layerEnd (q .selector)) (q .state) s
 unfolding mergeMip mergeRun
 merge-mip p q k s e = rw e
 

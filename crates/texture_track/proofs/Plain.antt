@@ -1,6 +1,6 @@
 -- A Single texture of a tracker, where the given set holds a Single one: its transitions and what it becomes.
 use Rattle.model.specs.Prelude.{ℕ, _+_, _≡_, sym, ap, _∙_, true, not, List, eqb, getD, set, ne-eqb, eqb-false, not-true}
-use Rattle.model.specs.{declared.UsageFlags.UsageFlags, Texture.barrier, BoolLaws.{and-both as both}}
+use Rattle.model.specs.{declared.UsageFlags.UsageFlags, Texture.barrier, BoolLaws.and-both as both}
 use Rattle.set_storage.specs.{Storage.{numbersOf, endHalf, complexAt, ownedAt, stateAt, trackerSlot}, Stays.onlyOwned, Slots.held-single}
 use Rattle.texture_update.specs.FromSet.{from-use}
 use Rattle.set_ready.specs.{Half.half-held, Given.{givenAt, given-update, where-owned, only-owned}}
@@ -17,10 +17,17 @@ module _ (t g : List ℕ) (h i : ℕ) (e : bothSingle t g h i ≡ true) where
   end-single : getD t (endHalf + i) 0 ≡ getD t complexAt 0 → ⊥
   end-single = eqb-false _ _ (not-true _ (both (not (eqb (getD g (h + i) 0) (getD g complexAt 0))) _ e .1))
 
-pub plain-entries : (p : UsageFlags) (mask : ℕ) (t e : List ℕ) (from : ℕ) (g a : List ℕ) (i : ℕ) → (getD g (ownedAt i) 0 ≡ 0 → ⊥) → (getD t (ownedAt i) 0 ≡ 0 → ⊥) → bothSingle t g from i ≡ true → givenEntries p mask t e from g a i ≡ singleEntry p mask t from g i
+pub plain-entries : (p : UsageFlags) (mask : ℕ) (t e : List ℕ) (from : ℕ) (g a : List ℕ) (i : ℕ) → (getD g (ownedAt i) 0 ≡ 0 → ⊥)
+    → (getD t (ownedAt i) 0 ≡ 0 → ⊥) → bothSingle t g from i ≡ true → givenEntries p mask t e from g a i ≡ singleEntry p mask t from g i
 unfolding barrier
 plain-entries p mask t e from g a i o q s =
-    rw (ne-eqb _ _ o, ne-eqb _ _ q, held-single (numbersOf t) endHalf t e i (end-single t g from i s), held-single (numbersOf g) from g a i (given-single t g from i s))
+    rw (
+      ne-eqb _ _ o,
+      ne-eqb _ _ q,
+      held-single (numbersOf t) endHalf t e i (end-single t g from i s),
+      held-single (numbersOf g) from g a i
+          (given-single t g from i s),
+    )
 
 pub plain-set : {t s e : List ℕ} {i from to : ℕ} {g a b : List ℕ} {p : UsageFlags} → SetsAt t s e i from to g a b p
     → (getD g (ownedAt i) 0 ≡ 0 → ⊥) → (getD t (ownedAt i) 0 ≡ 0 → ⊥) → bothSingle t g to i ≡ true

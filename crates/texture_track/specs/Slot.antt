@@ -67,9 +67,12 @@ abbrev pub slotEntries : UsageFlags → ℕ → Extent → Given → Slot (Ends 
 slotEntries p mask sh from x = if x .owned then barrier p mask sh (x .held .end) from else []
 
 -- they are the model's
-pub slot-pending : (p : UsageFlags) (mask : ℕ) (sh : Extent) (from : Given) (i : ℕ) (x : Slot (Ends Held)) → pending (logSlot ranged p mask sh from i x) ≡ entriesAt i (slotEntries p mask sh from x)
+pub slot-pending : (p : UsageFlags) (mask : ℕ) (sh : Extent) (from : Given) (i : ℕ) (x : Slot (Ends Held))
+    → pending (logSlot ranged p mask sh from i x) ≡ entriesAt i (slotEntries p mask sh from x)
 slot-pending p mask sh from i x = go (x .owned)
   where
-    go : (b : Bool) → pending (if b then record { index = i; what = barrier p mask sh (x .held .end) from } ∷ [] else []) ≡ entriesAt i (if b then barrier p mask sh (x .held .end) from else [])
+    go : (b : Bool)
+        → pending (if b then record { index = i; what = barrier p mask sh (x .held .end) from } ∷ [] else [])
+        ≡ entriesAt i (if b then barrier p mask sh (x .held .end) from else [])
     go true = append-nil (entriesAt i (barrier p mask sh (x .held .end) from))
     go false = refl

@@ -4,7 +4,7 @@ use Rattle.model.specs.Prelude.{drop}
 use Rattle.model.specs.{declared.{UsageFlags.UsageFlags, Range.Range}, Sets.Numbers, Representation.{Ends, select}, RangedStates.Tiles}
 use Rattle.model.specs.{Texture.{Held, piecesOf}, RangeLaws.tiles-le}
 use Rattle.range_states.specs.View.{view, blank, decode}
-use Rattle.set_storage.specs.declared.Located.{Located}
+use Rattle.set_storage.specs.declared.{Located.Located}
 use Rattle.set_storage.specs.Storage.{numbersOf, startHalf, endHalf, mipsOf, endsOf, layersAt, layerLimitAt, texturesAt}
 use Rattle.set_storage.specs.{Frames.{Measured, mips-top}, Locate.LocatedAt, Stays.{BothFrame, both-refl, both-then}}
 use Rattle.set_storage.specs.Texture.{measured-low, numbers-low, flags-low}

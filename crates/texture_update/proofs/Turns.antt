@@ -7,7 +7,7 @@ use Rattle.model.specs.{Texture.{learn, learnAll, metBy, onMips}, RangeLaws.iso
 use Rattle.range_states.specs.View.{decode}
 use Rattle.range_isolate.specs.Isolation.{IsolateRoom}
 use Rattle.texture_mips.specs.{Learn.LearnRoom, Kept.{learn-room, tiles-within}}
-use Rattle.set_storage.specs.declared.Located.{Located}
+use Rattle.set_storage.specs.declared.{Located.Located}
 use Rattle.set_storage.specs.Storage.{numbersOf, startHalf, endHalf, countAt, mipsIn, mipOf, mipsOf, layersAt, mipsAt, stateAt}
 use Rattle.set_storage.specs.{Frames.{MipReady, MipsBecome, half-of, mip-put, mips-long, mips-same, mips-top}, Slots.half-low}
 use Rattle.set_storage.specs.{Locate.LocatedAt, Stays.{BothFrame, both-refl, both-then}, Texture.{measured-low, numbers-low}}
@@ -40,8 +40,7 @@ module _ {t s e : List ℕ} {i m : ℕ} (q : PairTiled t s e i m) {x y : Located
   pub pair-put : {r : Both} {s′ e′ : List ℕ} → PairLeft (lentPart x s) (x .len) (lentPart y e) (y .len) a z u new r s′ e′
       → BothMips (numbersOf t) i (set (mipsOf (numbersOf t) startHalf t s i) m learned) (set (mipsOf (numbersOf t) endHalf t e i) m painted) t s e (set (set t (countAt startHalf i m) (r .start)) (countAt endHalf i m) (r .end)) (putBack x s s′) (putBack y e e′)
   pair-put {r} {s′} {e′} p =
-      let rs = q .start .ready in
-      let re = q .end .ready in
+      let rs = q .start .ready in let re = q .end .ready in
       let first : MipsBecome (numbersOf t) startHalf i (set (mipsOf (numbersOf t) startHalf t s i) m learned) t s (set t (countAt startHalf i m) (r .start)) (putBack x s s′) =
       mip-left rs l (r .start) s′ learned (p .start .long) (p .start .fits) (rw (lent-is (q .start) l, lent-is (q .end) k) at (p .start .seen)) in
       let low = half-low (rs .measured) (rs .texture) (half-of (first .frame)) in

@@ -14,7 +14,9 @@ pub record BothReady (t s e : List ℕ) (i : ℕ) : Type 0 where
   pub end : HalfTiled endHalf t e i
 
 -- ---- `learnAll` is a walk over the mips of the start, each by the end's: G and H tell them
-pub walk-learn : {C : Type 0} (part : ℕ → List Range → List Range) (u new : ℕ) (G H : ℕ → List Range) (k n : ℕ) → walk {C = C} (λ j x. fine (learn u new (part j (G j)) x)) k (listFrom H k n) ≡ fine (learnAll part u new k (listFrom G k n) (listFrom H k n))
+pub walk-learn : {C : Type 0} (part : ℕ → List Range → List Range) (u new : ℕ) (G H : ℕ → List Range) (k n : ℕ)
+    → walk {C = C} (λ j x. fine (learn u new (part j (G j)) x)) k (listFrom H k n)
+    ≡ fine (learnAll part u new k (listFrom G k n) (listFrom H k n))
 unfolding listFrom
 walk-learn part u new G H k zero = refl
 walk-learn part u new G H k (suc n) = rw (walk-learn part u new G H (suc k) n)

@@ -29,14 +29,18 @@ updates u [] x = x
 updates u (q ∷ qs) x = updates u qs (updated u q x)
 
 -- the model's `updateAll` gives the pieces so
-pub updates-are : (u : ℕ) (qs : List Piece) (ss : List (List Range)) (start : Held) → updates u qs (record { start = start; end = many ss }) ≡ updateAll u qs ss start
+pub updates-are : (u : ℕ) (qs : List Piece) (ss : List (List Range)) (start : Held)
+    → updates u qs (record { start = start; end = many ss }) ≡ updateAll u qs ss start
 unfolding updates updated updateAll
 updates-are u [] ss start = refl
-updates-are u (q ∷ qs) ss start = go (eqb (q .state) u) (updates-are u qs ss start) (updates-are u qs (paintedBy u q ss) (learnHeld (metBy u q) u (q .state) ss start))
+updates-are u (q ∷ qs) ss start = go (eqb (q .state) u) (updates-are u qs ss start)
+    (updates-are u qs (paintedBy u q ss) (learnHeld (metBy u q) u (q .state) ss start))
   where
     go : (b : Bool) → updates u qs (record { start = start; end = many ss }) ≡ updateAll u qs ss start
-        → updates u qs (record { start = learnHeld (metBy u q) u (q .state) ss start; end = many (paintedBy u q ss) }) ≡ updateAll u qs (paintedBy u q ss) (learnHeld (metBy u q) u (q .state) ss start)
-        → updates u qs (if b then record { start = start; end = many ss } else record { start = learnHeld (metBy u q) u (q .state) ss start; end = many (paintedBy u q ss) })
+        → updates u qs (record { start = learnHeld (metBy u q) u (q .state) ss start; end = many (paintedBy u q ss) })
+        ≡ updateAll u qs (paintedBy u q ss) (learnHeld (metBy u q) u (q .state) ss start)
+        → updates u qs (if b then record { start = start; end = many ss } else record
+        { start = learnHeld (metBy u q) u (q .state) ss start; end = many (paintedBy u q ss) })
         ≡ (if b then updateAll u qs ss start else updateAll u qs (paintedBy u q ss) (learnHeld (metBy u q) u (q .state) ss start))
     go true passed taken = passed
     go false passed taken = taken
@@ -62,16 +66,19 @@ pub record EndsTiled (w : ℕ) (x : Ends Held) : Type 0 where
   pub start : HeldTiled w (x .start)
   pub end : ManyTiled w (x .end)
 
-learn-tiled : (w u new : ℕ) (part : ℕ → List Range → List Range) → ((k : ℕ) (s : List Range) → Tiles 0 s w → Within (part k s) w) → (k : ℕ) (es ss : List (List Range)) → Tiled w es → Tiled w ss → Tiled w (learnAll part u new k es ss)
+learn-tiled : (w u new : ℕ) (part : ℕ → List Range → List Range) → ((k : ℕ) (s : List Range) → Tiles 0 s w → Within (part k s) w)
+    → (k : ℕ) (es ss : List (List Range)) → Tiled w es → Tiled w ss → Tiled w (learnAll part u new k es ss)
 learn-tiled w u new part f k [] ss a b = b
 learn-tiled w u new part f k (e ∷ es) [] a b = tt
-learn-tiled w u new part f k (e ∷ es) (s ∷ ss) a b = (learn-tiles u new (part k e) s w (f k e (a .0)) (b .0), learn-tiled w u new part f (suc k) es ss (a .1) (b .1))
+learn-tiled w u new part f k (e ∷ es) (s ∷ ss) a b =
+    (learn-tiles u new (part k e) s w (f k e (a .0)) (b .0), learn-tiled w u new part f (suc k) es ss (a .1) (b .1))
 
 module _ (u : ℕ) (q : Piece) (w : ℕ) (h : layerStart (q .selector) < layerEnd (q .selector)) (g : layerEnd (q .selector) ≤ w) where
   met-within : (k : ℕ) (s : List Range) → Tiles 0 s w → Within (metBy u q k s) w
   met-within k s t =
       by-test (λ (x : List Range). Within x w) (inMips (q .selector) k)
-      (λ b. tiles-within ((isolate (layerStart (q .selector)) (layerEnd (q .selector)) u s) .run) (layerStart (q .selector)) (layerEnd (q .selector)) w g (isolate-cuts s 0 (layerStart (q .selector)) (layerEnd (q .selector)) u w (omega arith) h g t .run))
+      (λ b. tiles-within ((isolate (layerStart (q .selector)) (layerEnd (q .selector)) u s) .run) (layerStart (q .selector))
+      (layerEnd (q .selector)) w g (isolate-cuts s 0 (layerStart (q .selector)) (layerEnd (q .selector)) u w (omega arith) h g t .run))
       (λ b. tt)
 
   learnt-tiled : (ss : List (List Range)) (x : Held) → Tiled w ss → HeldTiled w x → HeldTiled w (learnHeld (metBy u q) u (q .state) ss x)
@@ -83,7 +90,11 @@ module _ (u : ℕ) (q : Piece) (w : ℕ) (h : layerStart (q .selector) < layerEn
   halves-tiled x (many ss) a b =
       by-test (EndsTiled w) (eqb (q .state) u)
       (λ z. record { start = a; end = b })
-      (λ z. record { start = learnt-tiled ss x b a; end = on-tiled w (q .selector) _ (λ s t. update-tiles u (layerStart (q .selector)) (layerEnd (q .selector)) (q .state) s w h g t) 0 ss b })
+      (λ z. record {
+        start = learnt-tiled ss x b a;
+        end = on-tiled w (q .selector) _ (λ s t. update-tiles u (layerStart (q .selector)) (layerEnd (q .selector)) (q .state) s w h g t)
+            0 ss b;
+      })
 
   pub updated-tiled : (x : Ends Held) → EndsTiled w x → EndsTiled w (updated u q x)
   unfolding updated

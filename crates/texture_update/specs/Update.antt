@@ -32,32 +32,51 @@ module _ {t s e : List ℕ} {i : ℕ} {sh : Extent} {p : UsageFlags} {new : ℕ}
   both-many a b = record { start = start-many a; end = end-many b }
 
   pub end-use : {q : Selector} → Selecting sh q p new → UseReady (numbersOf t) endHalf t e i sh false q p new
-  end-use x = record { texture = r .end .ready; selector = x .selector; flags = r .flags; whole = λ z. absurd (false≢true z); plain = r .plain }
+  end-use x = record {
+    texture = r .end .ready;
+    selector = x .selector;
+    flags = r .flags;
+    whole = λ z. absurd (false≢true z);
+    plain = r .plain;
+  }
 
 -- ---- The model's update, case by case: one state for all
 module _ (p : UsageFlags) (sh : Extent) (new : ℕ) where
-  pub state-single : (x : Held) (cur : ℕ) → update p sh (record { start = x; end = single cur }) (givenSingle new) ≡ record { start = x; end = single new }
+  pub state-single : (x : Held) (cur : ℕ)
+      → update p sh (record { start = x; end = single cur }) (givenSingle new) ≡ record { start = x; end = single new }
   unfolding update
   state-single x cur = refl
 
-  pub state-kept : (st : ℕ) (es : List (List Range)) → update p sh (record { start = single st; end = many es }) (givenSingle new) ≡ record { start = single st; end = single new }
+  pub state-kept : (st : ℕ) (es : List (List Range))
+      → update p sh (record { start = single st; end = many es }) (givenSingle new) ≡ record { start = single st; end = single new }
   unfolding update
   state-kept st es = refl
 
-  pub state-learnt : (ss es : List (List Range)) → update p sh (record { start = many ss; end = many es }) (givenSingle new) ≡ record { start = many (learnAll (λ k x. x) (p .unknown) new 0 es ss); end = single new }
+  pub state-learnt : (ss es : List (List Range))
+      → update p sh (record { start = many ss; end = many es }) (givenSingle new)
+      ≡ record { start = many (learnAll (λ k x. x) (p .unknown) new 0 es ss); end = single new }
   unfolding update
   state-learnt ss es = refl
 
   -- a selector with a state that is not UNKNOWN
   module _ (q : Selector) (n : new ≡ p .unknown → ⊥) where
-    pub use-single : (x : Held) (cur : ℕ) → update p sh (record { start = x; end = single cur }) (useOf false q new) ≡ record { start = x; end = brokenUp sh cur q (p .unknown) new }
+    pub use-single : (x : Held) (cur : ℕ)
+        → update p sh (record { start = x; end = single cur }) (useOf false q new)
+        ≡ record { start = x; end = brokenUp sh cur q (p .unknown) new }
     unfolding update spreadEnd brokenUp
     use-single x cur = rw (ne-eqb new (p .unknown) n)
 
-    pub use-kept : (st : ℕ) (es : List (List Range)) → update p sh (record { start = single st; end = many es }) (useOf false q new) ≡ record { start = single st; end = many (updatedMips (p .unknown) q new es) }
+    pub use-kept : (st : ℕ) (es : List (List Range))
+        → update p sh (record { start = single st; end = many es }) (useOf false q new)
+        ≡ record { start = single st; end = many (updatedMips (p .unknown) q new es) }
     unfolding update updateAll
     use-kept st es = rw (ne-eqb new (p .unknown) n)
 
-    pub use-learnt : (ss es : List (List Range)) → update p sh (record { start = many ss; end = many es }) (useOf false q new) ≡ record { start = many (learnAll (metBy (p .unknown) (record { selector = q; state = new })) (p .unknown) new 0 es ss); end = many (updatedMips (p .unknown) q new es) }
+    pub use-learnt : (ss es : List (List Range))
+        → update p sh (record { start = many ss; end = many es }) (useOf false q new)
+        ≡ record {
+          start = many (learnAll (metBy (p .unknown) (record { selector = q; state = new })) (p .unknown) new 0 es ss);
+          end = many (updatedMips (p .unknown) q new es);
+        }
     unfolding update updateAll
     use-learnt ss es = rw (ne-eqb new (p .unknown) n)

@@ -16,7 +16,8 @@ clientAsked room = asked 1 2 4 clientFlags 10 room
 -- the grid's run of the two calls, from such a tracker newly opened
 abbrev pub clientRun : ℕ → TrackerIndex → Extent → Selector → ℕ → ℕ → CallResult SubresourceConflict (List (List (Option Move))) (Sets grid)
 clientRun room i sh sel a b =
-    let k = step grid (callSetSingle 0 i sh sel a) (newly grid [] (clientAsked room ∷ [])) .after in step grid (callSetSingle 0 i sh sel b) k
+    let k = step grid (callSetSingle 0 i sh sel a) (newly grid [] (clientAsked room ∷ [])) .after in
+    step grid (callSetSingle 0 i sh sel b) k
 
 -- the second call as a step: what emptying and the call answered, and what is lent as the call left it; `SharedAt` looks at no more of it
 abbrev pub clientStep : Call → Answered → Answered → List ℕ → List ℕ → List ℕ → List ℕ → Step

@@ -39,7 +39,8 @@ module _ {X : Type 0} (log : Log) (was : X) (r : CallResult InvalidUse (List Ent
   enough (refused x) n e = absurd (let z : _≡_ {A = ℕ} 0 1 = cc in omega arith)
   enough (inConflict c) n e = fits-in n (ltb (log .head .free) n) refl e
 
-  moved : (o : Option Refusal) (out : Logged X) → (o ≡ none → sum (out .log .head) ≡ sum (log .head)) → sum (unlessLogged o log was out .log .head) ≡ sum (log .head)
+  moved : (o : Option Refusal) (out : Logged X) → (o ≡ none → sum (out .log .head) ≡ sum (log .head))
+      → sum (unlessLogged o log was out .log .head) ≡ sum (log .head)
   moved none out h = h refl
   moved (some x) out h = refl
 
@@ -69,9 +70,22 @@ few-owned : (c : Call) (t : LentTracker) → Ready (alone t) → capacityOf c (v
 few-owned c t ready e = le-trans (owned-within c (viewOf (alone t)) (ready-fits (alone t) ready)) e
 
 -- ---- The two calls
-module _ {t₀ s₀ e₀ : List ℕ} {x : Outcome} {t₁ : List ℕ} (o : OpenedTracker t₀ s₀ e₀ 1 2 4 clientFlags 10 x t₁) (starts : 8 ≤ length s₀ / 3) (ends : 8 ≤ length e₀ / 3) where
+module _ {t₀ s₀ e₀ : List ℕ} {x : Outcome} {t₁ : List ℕ} (o : OpenedTracker t₀ s₀ e₀ 1 2 4 clientFlags 10 x t₁) (starts : 8 ≤ length s₀ / 3)
+    (ends : 8 ≤ length e₀ / 3) where
   abbrev opening : TrackerOpening
-  opening = record { table = t₀; starts = s₀; ends = e₀; textures = 1; mips = 2; layers = 4; flags = clientFlags; mask = 10; outcome = x; opened = t₁; meets = o }
+  opening = record {
+    table = t₀;
+    starts = s₀;
+    ends = e₀;
+    textures = 1;
+    mips = 2;
+    layers = 4;
+    flags = clientFlags;
+    mask = 10;
+    outcome = x;
+    opened = t₁;
+    meets = o;
+  }
 
   is-open : opens (trackerAsked opening) ≡ true
   is-open = client-opens (min (length s₀ / 3) (length e₀ / 3)) (le-min starts ends)
@@ -93,10 +107,26 @@ module _ {t₀ s₀ e₀ : List ℕ} {x : Outcome} {t₁ : List ℕ} (o : Opened
       (m₃ : Emptying (x₂ .head) l₂ x₃)
       (m₄ : SetSingle (tracker t₂ s₂ e₂) i sh sel b (x₃ .head) l₂ x₄ (tracker t₃ s₃ e₃) l₃) where
     abbrev step₁ : Step
-    step₁ = record { call = callSetSingle 0 i sh sel a; log = l₀; told = record { written = 0; free = 8 }; emptied = x₁; answered = x₂; sets = alone (tracker t₂ s₂ e₂); logged = l₂ }
+    step₁ = record {
+      call = callSetSingle 0 i sh sel a;
+      log = l₀;
+      told = record { written = 0; free = 8 };
+      emptied = x₁;
+      answered = x₂;
+      sets = alone (tracker t₂ s₂ e₂);
+      logged = l₂;
+    }
 
     abbrev step₂ : Step
-    step₂ = record { call = callSetSingle 0 i sh sel b; log = l₂; told = x₂ .head; emptied = x₃; answered = x₄; sets = alone (tracker t₃ s₃ e₃); logged = l₃ }
+    step₂ = record {
+      call = callSetSingle 0 i sh sel b;
+      log = l₂;
+      told = x₂ .head;
+      emptied = x₃;
+      answered = x₄;
+      sets = alone (tracker t₃ s₃ e₃);
+      logged = l₃;
+    }
 
     room₀ : 8 ≤ length (entriesOf l₀)
     room₀ = rw (entries-long l₀) lent
@@ -131,7 +161,8 @@ module _ {t₀ s₀ e₀ : List ℕ} {x : Outcome} {t₁ : List ℕ} (o : Opened
     ready₂ = ready-after (step₁ ∷ []) (alone (tracker t₁ s₀ e₀)) ready₁ (meets₁, tt)
 
     numbers₂ : numbersOf t₂ ≡ record { textures = 1; mips = 2; layers = 4 }
-    numbers₂ = let head = tracker-head (m₂ .stays) in rw (head texturesAt (omega arith), head mipLimitAt (omega arith), head layerLimitAt (omega arith)) numbers₁
+    numbers₂ = let head = tracker-head (m₂ .stays) in
+        rw (head texturesAt (omega arith), head mipLimitAt (omega arith), head layerLimitAt (omega arith)) numbers₁
 
     meets₂ : Meets (alone (tracker t₂ s₂ e₂)) step₂
     unfolding trackerOf
@@ -144,7 +175,18 @@ module _ {t₀ s₀ e₀ : List ℕ} {x : Outcome} {t₁ : List ℕ} (o : Opened
     }
 
     -- THE CLIENT's second call shares with the grid's run what demand 3 lists
-    pub client-shares : SharedAt (clientStep (callSetSingle 0 i sh sel b) x₃ x₄ t₃ s₃ e₃ l₃) (clientRun (min (length s₀ / 3) (length e₀ / 3)) i sh sel a b)
+    pub client-shares : SharedAt (clientStep (callSetSingle 0 i sh sel b) x₃ x₄ t₃ s₃ e₃ l₃)
+        (clientRun (min (length s₀ / 3) (length e₀ / 3)) i sh sel a b)
     client-shares =
-        let z = demand3 [] (opening ∷ []) (step₁ ∷ step₂ ∷ []) (subst (λ (k : Lent). Trace k (step₁ ∷ step₂ ∷ [])) (sym opened-is) (meets₁, (meets₂, tt))) .1 .0 in
-        record { answer = z .answer; scopes = z .scopes; trackers = z .trackers; transitions = z .transitions; once = z .once; refusals = z .refusals; others = z .others; emptied = z .emptied }
+        let z = demand3 [] (opening ∷ []) (step₁ ∷ step₂ ∷ []) (subst (λ (k : Lent). Trace k (step₁ ∷ step₂ ∷ [])) (sym opened-is)
+        (meets₁, (meets₂, tt))) .1 .0 in
+        record {
+          answer = z .answer;
+          scopes = z .scopes;
+          trackers = z .trackers;
+          transitions = z .transitions;
+          once = z .once;
+          refusals = z .refusals;
+          others = z .others;
+          emptied = z .emptied;
+        }

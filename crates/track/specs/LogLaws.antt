@@ -1,4 +1,5 @@
--- The log of a step: emptied, it fits and is empty; a call of the model then runs as if there were no log; and its entries tell the model's transitions.
+-- The log of a step: emptied, it fits and is empty; a call of the model then runs as if there were no log; and its entries tell the model's
+-- transitions.
 use Rattle.model.specs.Prelude.{ℕ, _+_, _≤_, zero-add, arith, _≡_, refl, ap, _∙_, Bool, true, false, _&&_, Option, none, some, List, []}
 use Rattle.model.specs.Prelude.{_∷_, _++_, append-assoc, eqb, length, take, le-ltb}
 use Rattle.model.specs.declared.Outcome.the-variants.{Done}
@@ -21,10 +22,12 @@ unfolding emptying firstFailing
 emptied-is log e = rw e
 
 -- the head that it leaves
-pub emptied-head : (l : List ℕ) (h : LogHead) (x : Answered) → h .written + h .free ≤ length (entriesOf l) → Logs (emptying (logOf l h)) l x l
+pub emptied-head : (l : List ℕ) (h : LogHead) (x : Answered) → h .written + h .free ≤ length (entriesOf l)
+    → Logs (emptying (logOf l h)) l x l
     → x .head ≡ record { written = 0; free = h .free + h .written }
 emptied-head l h x room c =
-    c .head ∙ ap (λ (r : Logged (Unit {0})). r .log .head) (emptied-is (logOf l h) (le-ltb (length (entriesOf l)) (h .written + h .free) room))
+    c .head ∙ ap (λ (r : Logged (Unit {0})). r .log .head) (emptied-is (logOf l h)
+    (le-ltb (length (entriesOf l)) (h .written + h .free) room))
 
 pub empty-log : (l : List ℕ) (h : LogHead) (x : Answered) → h .written + h .free ≤ length (entriesOf l) → Logs (emptying (logOf l h)) l x l
     → (x .outcome ≡ Done) × Empty (logOf l (x .head))
@@ -50,7 +53,8 @@ module _ {X : Type 0} (log : Log) (was : X) where
     pub after : logging true log was r .after ≡ r .after
     pub entries : take (logging true log was r .log .head .written) (logging true log was r .log .entries) ≡ pending (r .log)
 
-  pub as-own : (o : Option Refusal) (out : CallResult InvalidUse (List Entry) X) → out .answer ≡ done → Empty log → entries (unless o was out .log) ≤ log .head .free → AsOwn (unless o was out)
+  pub as-own : (o : Option Refusal) (out : CallResult InvalidUse (List Entry) X) → out .answer ≡ done → Empty log
+      → entries (unless o was out .log) ≤ log .head .free → AsOwn (unless o was out)
   unfolding logging firstFailing
   as-own (some r) out d e room = record { answer = rw (e .fits); after = rw (e .fits); entries = rw (e .fits, e .none) }
   as-own none out d e room =
@@ -73,7 +77,8 @@ module _ (i m l : ℕ) where
   no-more false = refl
 
   -- the entries of one texture, at index k
-  of-texture : (k : ℕ) (es : List Entry) → transitionsAt i m l (pendingOf (record { index = k; what = es })) ≡ (if eqb k i then entriesAt m l es else [])
+  of-texture : (k : ℕ) (es : List Entry)
+      → transitionsAt i m l (pendingOf (record { index = k; what = es })) ≡ (if eqb k i then entriesAt m l es else [])
   of-texture k [] = no-more (eqb k i)
   of-texture k (e ∷ es) = rw (of-texture k es) (one-more (eqb k i) (holds (e .selector) m l) (e .move) (entriesAt m l es))
 
@@ -83,4 +88,5 @@ module _ (i m l : ℕ) where
 
   pub transitions-logged : (log : List (Indexed (List Entry))) → transitionsAt i m l (pending log) ≡ loggedAt i m l log
   transitions-logged [] = refl
-  transitions-logged (x ∷ log) = transitions-append (pendingOf x) (pending log) ∙ rw (of-texture (x .index) (x .what), transitions-logged log)
+  transitions-logged (x ∷ log) = transitions-append (pendingOf x) (pending log)
+      ∙ rw (of-texture (x .index) (x .what), transitions-logged log)

@@ -15,7 +15,9 @@ done-opens none = refl
 done-opens (some r) = refl
 
 -- and then its room is enough
-third : (a b c : Bool) → accepted (if not a then some NumbersOutOfLimits else if not b then some FlagsBreakRule else if c then some ShortRoom else none) ≡ true → c ≡ false
+third : (a b c : Bool)
+    → accepted (if not a then some NumbersOutOfLimits else if not b then some FlagsBreakRule else if c then some ShortRoom else none) ≡ true
+    → c ≡ false
 third true true true e = absurd (false≢true e)
 third true true false e = refl
 third true false c e = absurd (false≢true e)
@@ -44,13 +46,16 @@ tracker-done o = ap isDone (o .meets .answer) ∙ done-opens (openingRefusal (tr
 scope-opened : (o : ScopeOpening) → opens (scopeAsked o) ≡ true → scopeTest (record { table = o .opened; ranges = o .ranges }) ≡ true
 scope-opened o e = rw (o .meets .view e) (both (scope-fits (scopeAsked o) e) (le-leb _ _ (room-enough (scopeAsked o) e)))
 
-tracker-opened : (o : TrackerOpening) → opens (trackerAsked o) ≡ true → trackerTest (record { table = o .opened; starts = o .starts; ends = o .ends }) ≡ true
+tracker-opened : (o : TrackerOpening) → opens (trackerAsked o) ≡ true
+    → trackerTest (record { table = o .opened; starts = o .starts; ends = o .ends }) ≡ true
 tracker-opened o e =
     let a = length (o .starts) / 3 in let b = length (o .ends) / 3 in let room = room-enough (trackerAsked o) e in
-    rw (o .meets .view e) (both (both (tracker-fits (trackerAsked o) e) (le-leb _ a (le-trans room (min-le-left a b)))) (le-leb _ b (le-trans room (min-le-right a b))))
+    rw (o .meets .view e) (both (both (tracker-fits (trackerAsked o) e) (le-leb _ a (le-trans room (min-le-left a b))))
+    (le-leb _ b (le-trans room (min-le-right a b))))
 
 -- ---- All of them: openings O, each of which asks, is done or not, and makes a storage L that is viewed as a set S
-module _ {O L S : Type 0} (view : L → S) (begun : Opening → S) (ask : O → Opening) (made : O → Bool) (store : O → L) (same : (o : O) → made o ≡ opens (ask o)) where
+module _ {O L S : Type 0} (view : L → S) (begun : Opening → S) (ask : O → Opening) (made : O → Bool) (store : O → L) (same : (o : O)
+    → made o ≡ opens (ask o)) where
   abbrev stored : List O → List L
   stored os = each (λ o. if made o then store o ∷ [] else []) os
 
@@ -60,12 +65,14 @@ module _ {O L S : Type 0} (view : L → S) (begun : Opening → S) (ask : O → 
   viewed : ((o : O) → opens (ask o) ≡ true → view (store o) ≡ begun (ask o)) → (os : List O) → map view (stored os) ≡ allBegun os
   viewed h [] = refl
   viewed h (o ∷ os) =
-      rw (same o) (by-test₂ (λ (x : List L) (y : List S). map view (x ++ stored os) ≡ y ++ allBegun os) (opens (ask o)) (λ e. rw (h o e, viewed h os)) (λ e. viewed h os))
+      rw (same o) (by-test₂ (λ (x : List L) (y : List S). map view (x ++ stored os) ≡ y ++ allBegun os) (opens (ask o))
+      (λ e. rw (h o e, viewed h os)) (λ e. viewed h os))
 
   all-made : (P : L → Type 0) → ((o : O) → opens (ask o) ≡ true → P (store o)) → (os : List O) → All P (stored os)
   all-made P h [] = tt
   all-made P h (o ∷ os) =
-      all-join P (if made o then store o ∷ [] else []) _ (by-test (All P) (made o) (λ e. (h o (sym (same o) ∙ e), tt)) (λ e. tt)) (all-made P h os)
+      all-join P (if made o then store o ∷ [] else []) _ (by-test (All P) (made o) (λ e. (h o (sym (same o) ∙ e), tt)) (λ e. tt))
+      (all-made P h os)
 
 module _ (ss : List ScopeOpening) (ts : List TrackerOpening) where
   pub opened-view : viewOf (openedSets ss ts) ≡ newly ranged (map scopeAsked ss) (map trackerAsked ts)
@@ -78,5 +85,6 @@ module _ (ss : List ScopeOpening) (ts : List TrackerOpening) where
   pub opened-ready : Ready (openedSets ss ts)
   opened-ready = record {
     scopes = all-made scopeIn (openSet single) scopeAsked _ _ scope-done (λ (s : LentScope). scopeTest s ≡ true) scope-opened ss;
-    trackers = all-made trackerIn (openTracker single) trackerAsked _ _ tracker-done (λ (t : LentTracker). trackerTest t ≡ true) tracker-opened ts;
+    trackers = all-made trackerIn (openTracker single) trackerAsked _ _ tracker-done (λ (t : LentTracker). trackerTest t ≡ true)
+        tracker-opened ts;
   }

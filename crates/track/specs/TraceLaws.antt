@@ -27,7 +27,8 @@ told-refused (inConflict c) x e = absurd (let z : _≡_ {A = ℕ} 0 1 = cc in om
 -- ---- One step: it is the model's
 pub steps-on : (k : Lent) → Ready k → (s : Step) → Meets k s → (s .emptied .outcome ≡ Done) × Follows (step ranged (s .call) (viewOf k)) s
 steps-on k ready s m =
-    let e = empty-log (s .log) (s .told) (s .emptied) (m .lent) (m .emptied) in (e .0, follows k ready s (e .1) (s .call) (m .word) (m .free) (m .ran))
+    let e = empty-log (s .log) (s .told) (s .emptied) (m .lent) (m .emptied) in
+    (e .0, follows k ready s (e .1) (s .call) (m .word) (m .free) (m .ran))
 
 is-model : (s : Step) (m : Sets ranged) → Follows (step ranged (s .call) m) s → IsModel s (step ranged (s .call) m)
 is-model s m f = record { answer = f .answer; after = f .after; entries = f .entries }
@@ -40,7 +41,8 @@ fewer n i is h = go (eqb i n) h
     go true h = absurd (true≢false h)
     go false h = (refl, h)
 
-not-own : (n : ℕ) → listed n (1 ∷ 2 ∷ 3 ∷ 4 ∷ 5 ∷ 14 ∷ 15 ∷ []) ≡ false → (listed n (4 ∷ 5 ∷ 15 ∷ []) ≡ false) × (listed n (1 ∷ 2 ∷ 3 ∷ 14 ∷ []) ≡ false)
+not-own : (n : ℕ) → listed n (1 ∷ 2 ∷ 3 ∷ 4 ∷ 5 ∷ 14 ∷ 15 ∷ []) ≡ false
+    → (listed n (4 ∷ 5 ∷ 15 ∷ []) ≡ false) × (listed n (1 ∷ 2 ∷ 3 ∷ 14 ∷ []) ≡ false)
 not-own n h =
     let a = fewer n 1 (2 ∷ 3 ∷ 4 ∷ 5 ∷ 14 ∷ 15 ∷ []) h in let b = fewer n 2 (3 ∷ 4 ∷ 5 ∷ 14 ∷ 15 ∷ []) (a .1) in
     let c = fewer n 3 (4 ∷ 5 ∷ 14 ∷ 15 ∷ []) (b .1) in let d = fewer n 4 (5 ∷ 14 ∷ 15 ∷ []) (c .1) in
@@ -72,7 +74,8 @@ along [] k g ready a t = tt
 along (s ∷ steps) k g ready a t =
     let f = steps-on k ready s (t .0) in (
       share-step k s (step grid (s .call) g) (f .0) (f .1) (a .0),
-      along steps (s .sets) (step grid (s .call) g .after) (f .1 .ready) (subst (λ (x : Sets ranged). Agree x (step grid (s .call) g .after) (callsOf steps)) (sym (f .1 .after)) (a .1)) (t .1),
+      along steps (s .sets) (step grid (s .call) g .after) (f .1 .ready)
+          (subst (λ (x : Sets ranged). Agree x (step grid (s .call) g .after) (callsOf steps)) (sym (f .1 .after)) (a .1)) (t .1),
     )
 
 model-along : (steps : List Step) (k : Lent) (m : Sets ranged) → Ready k → viewOf k ≡ m → Trace k steps
@@ -91,8 +94,11 @@ ready-after (s ∷ steps) k ready t = ready-after steps (s .sets) (steps-on k re
 -- what is ready is well formed
 pub ready-fits : (k : Lent) → Ready k → wellFormed (viewOf k) ≡ true
 ready-fits k r = both
-    (all-every (λ (x : Set Held). scopeFits x ≡ true) scopeFits (λ x e. e) (map scopeIn (k .scopes)) (all-map (λ (s : LentScope). scopeTest s ≡ true) (λ (x : Set Held). scopeFits x ≡ true) scopeIn scope-well (k .scopes) (r .scopes)))
-    (all-every (λ (x : Tracker Held). trackerFits x ≡ true) trackerFits (λ x e. e) (map trackerIn (k .trackers)) (all-map (λ (t : LentTracker). trackerTest t ≡ true) (λ (x : Tracker Held). trackerFits x ≡ true) trackerIn tracker-well (k .trackers) (r .trackers)))
+    (all-every (λ (x : Set Held). scopeFits x ≡ true) scopeFits (λ x e. e) (map scopeIn (k .scopes))
+    (all-map (λ (s : LentScope). scopeTest s ≡ true) (λ (x : Set Held). scopeFits x ≡ true) scopeIn scope-well (k .scopes) (r .scopes)))
+    (all-every (λ (x : Tracker Held). trackerFits x ≡ true) trackerFits (λ x e. e) (map trackerIn (k .trackers))
+    (all-map (λ (t : LentTracker). trackerTest t ≡ true) (λ (x : Tracker Held). trackerFits x ≡ true) trackerIn tracker-well
+    (k .trackers) (r .trackers)))
 
 -- ---- The theorems
 pub shares-from : (k : Lent) → Ready k → (steps : List Step) → Trace k steps → SharedAlong steps (toGrids (viewOf k))
@@ -107,7 +113,10 @@ pub model-runs : (k : Lent) → Ready k → (steps : List Step) → Trace k step
     → ModelAlong steps (viewOf k) × (viewOf (setsAfter k steps) ≡ afterCalls ranged (callsOf steps) (viewOf k))
 model-runs k ready steps = model-along steps k (viewOf k) ready refl
 
-pub trace-runs : (scopes : List ScopeOpening) (trackers : List TrackerOpening) (steps : List Step) → Trace (openedSets scopes trackers) steps
+pub trace-runs : (scopes : List ScopeOpening) (trackers : List TrackerOpening) (steps : List Step)
+    → Trace (openedSets scopes trackers) steps
     → ModelAlong steps (newly ranged (map scopeAsked scopes) (map trackerAsked trackers))
-    × (viewOf (setsAfter (openedSets scopes trackers) steps) ≡ afterCalls ranged (callsOf steps) (newly ranged (map scopeAsked scopes) (map trackerAsked trackers)))
-trace-runs ss ts steps = model-along steps (openedSets ss ts) (newly ranged (map scopeAsked ss) (map trackerAsked ts)) (opened-ready ss ts) (opened-view ss ts)
+    × (viewOf (setsAfter (openedSets scopes trackers) steps)
+    ≡ afterCalls ranged (callsOf steps) (newly ranged (map scopeAsked scopes) (map trackerAsked trackers)))
+trace-runs ss ts steps = model-along steps (openedSets ss ts) (newly ranged (map scopeAsked ss) (map trackerAsked ts)) (opened-ready ss ts)
+    (opened-view ss ts)

@@ -49,18 +49,17 @@ or-assoc a b c = bin-ind (λ (a : ℕ). (b c : ℕ) → bitOr (bitOr a b) c ≡ 
 -- the bits of s that are not in u, and those that are
 pub split-bits : (s u : ℕ) → bitOr (s - bitAnd u s) (bitAnd u s) ≡ s
 split-bits s u =
-    let l = and-le-r u s in
-    let d : bitAnd (s - bitAnd u s) (bitAnd u s) ≡ 0 = apart s u in
+    let l = and-le-r u s in let d : bitAnd (s - bitAnd u s) (bitAnd u s) ≡ 0 = apart s u in
     or-disjoint (s - bitAnd u s) (bitAnd u s) d ∙ omega arith
   where
     apart : (s u : ℕ) → bitAnd (s - bitAnd u s) (bitAnd u s) ≡ 0
     apart s u = bin-ind (λ (s : ℕ). (u : ℕ) → bitAnd (s - bitAnd u s) (bitAnd u s) ≡ 0) (λ u. rw (and-zero-r u) refl)
         (λ n ih u. givenSingle n u (ih (u / 2))) s u
       where
-        givenSingle : (n u : ℕ) → bitAnd (n / 2 - bitAnd (u / 2) (n / 2)) (bitAnd (u / 2) (n / 2)) ≡ 0 → bitAnd (n - bitAnd u n) (bitAnd u n) ≡ 0
+        givenSingle : (n u : ℕ) → bitAnd (n / 2 - bitAnd (u / 2) (n / 2)) (bitAnd (u / 2) (n / 2)) ≡ 0
+            → bitAnd (n - bitAnd u n) (bitAnd u n) ≡ 0
         givenSingle n u h =
-            let s = and-step u n in
-            let l = and-le-r (u / 2) (n / 2) in
+            let s = and-step u n in let l = and-le-r (u / 2) (n / 2) in
             let x : (n - bitAnd u n) / 2 ≡ n / 2 - bitAnd (u / 2) (n / 2) = omega arith in
             let y : bitAnd u n / 2 ≡ bitAnd (u / 2) (n / 2) = and-half u n in
             let z : min ((n - bitAnd u n) % 2) (bitAnd u n % 2) ≡ 0 = omega arith in
@@ -88,10 +87,12 @@ bits-apart (suc k) a b e f h g d = and-step a b ∙ go (λ x y p q r s z. bits-a
   where
     go : ((a b : ℕ) → onesIn k a ≡ 1 → onesIn k b ≡ 1 → a < 2 ^ k → b < 2 ^ k → (a ≡ b → ⊥) → bitAnd a b ≡ 0)
         → Dec (a % 2 < 1) → Dec (b % 2 < 1) → bitAnd (a / 2) (b / 2) * 2 + min (a % 2) (b % 2) ≡ 0
-    go ih (yes x) (yes y) = let z = ih (a / 2) (b / 2) (omega arith) (omega arith) (omega arith) (omega arith) (λ z. d (omega arith)) in omega arith
+    go ih (yes x) (yes y) = let z = ih (a / 2) (b / 2) (omega arith) (omega arith) (omega arith) (omega arith) (λ z. d (omega arith)) in
+        omega arith
     go ih (yes x) (no y) = let z = zero-ones k (b / 2) (omega arith) (omega arith) in rw (z, and-zero-r) (omega arith)
     go ih (no x) (yes y) = let z = zero-ones k (a / 2) (omega arith) (omega arith) in rw z (omega (arith, and-zero-l (b / 2)))
-    go ih (no x) (no y) = let z = zero-ones k (a / 2) (omega arith) (omega arith) in let w = zero-ones k (b / 2) (omega arith) (omega arith) in absurd (d (omega arith))
+    go ih (no x) (no y) = let z = zero-ones k (a / 2) (omega arith) (omega arith) in let w =
+        zero-ones k (b / 2) (omega arith) (omega arith) in absurd (d (omega arith))
 
 -- what has a bit, and lies in one bit, is that bit
 pub in-one-bit : (k u a b : ℕ) → onesIn k u ≡ 1 → u < 2 ^ k → bitOr a b ≡ u → (a ≡ 0 → ⊥) → a ≡ u

@@ -19,10 +19,11 @@ unfolding cleared
 loop-again c = (omega arith, rw (add-one, (c .before .loop .inv) .1))
 
 returns : tie.Need-returns Inv-loop μ-loop
-returns c = let e : (c .before .loop .i) ≡ (c .before .before .args .n) = omega (arith, (c .before .loop .inv) .0) in (c .before .loop .inv) .1 ∙ rw e refl
+returns c = let e : (c .before .loop .i) ≡ (c .before .before .args .n) = omega (arith, (c .before .loop .inv) .0) in
+    (c .before .loop .inv) .1 ∙ rw e refl
 
 pub clear-spec : {M : Type 1} → statement M
 clear-spec = tie.close (tie.spec Inv-loop μ-loop loop-holds (λ c. search needs) (λ c. search needs) (λ c. search needs)
-    (λ c. search needs) (λ c. search needs) (λ c. search needs) (λ c. search needs) (λ c. search needs)
-    (λ c. search needs) (λ c. search needs) (λ c. search needs) (λ c. search needs) (λ c. search needs)
-    (λ c. search needs) (λ c. search needs) (λ c. search needs) (λ c. search needs) loop-again returns)
+    (λ c. search needs) (λ c. search needs) (λ c. search needs) (λ c. search needs) (λ c. search needs) (λ c. search needs)
+    (λ c. search needs) (λ c. search needs) (λ c. search needs) (λ c. search needs) (λ c. search needs) (λ c. search needs)
+    (λ c. search needs) (λ c. search needs) loop-again returns)

@@ -100,8 +100,7 @@ pub clips : (a e : ℕ) (rs rest out : List Range) → a < e → Ascends 0 rs �
     → clipping (scanned a e begun rs .found) (scanned a e begun rs .first) a e (rs ++ rest) out ≡ iterFilter a e rs ++ drop (scanned a e begun rs .found) out
 clips a e rs rest out k t h =
     let n : scanned a e begun rs .found ≡ founds a e rs = omega (arith, found-from a e begun rs) in
-    let first : scanned a e begun rs .first ≡ firsts a rs = omega (arith, first-from a e begun rs) in
-    let both = both-few a e rs in
+    let first : scanned a e begun rs .first ≡ firsts a rs = omega (arith, first-from a e begun rs) in let both = both-few a e rs in
     rw (
       n,
       first,

@@ -36,23 +36,20 @@ module _ (a e : ℕ) (r : Range) (t : ℕ) (k : a < e) (h : r .start < t) where
   last-above : e < t → Last a e r t (max (r .start) e)
   unfolding slices
   last-above u =
-      let b = max (r .start) e in
-      let above = part-some b t (r .state) b t refl refl (omega arith) in
+      let b = max (r .start) e in let above = part-some b t (r .state) b t refl refl (omega arith) in
       record {
         low = omega arith;
         high = omega arith;
         whole = λ q. rw (part-none (r .start) (min t a) (r .state) (omega arith), part-none (max (r .start) a) (min t e) (r .state) (omega arith), above);
         more = λ q.
-            let low : min b a ≡ min t a = omega arith in
-            let high : min b e ≡ min t e = omega arith in
+            let low : min b a ≡ min t a = omega arith in let high : min b e ≡ min t e = omega arith in
             rw (low, high, above, part-none b b (r .state) (omega arith), append-nil) (simp append-assoc);
       }
 
   last-inner : t ≤ e → a < t → Last a e r t (max (r .start) a)
   unfolding slices
   last-inner u v =
-      let b = max (r .start) a in
-      let inner = part-some b (min t e) (r .state) b t refl (omega arith) (omega arith) in
+      let b = max (r .start) a in let inner = part-some b (min t e) (r .state) b t refl (omega arith) (omega arith) in
       let above = part-none (max (r .start) e) t (r .state) (omega arith) in
       record {
         low = omega arith;
@@ -84,8 +81,7 @@ module _ (a e : ℕ) (r : Range) (t : ℕ) (k : a < e) (h : r .start < t) where
 -- ---- every record has a piece
 slices-some : (a e : ℕ) (r : Range) (t : ℕ) → a < e → r .start < t → 1 ≤ length (slices a e r t)
 slices-some a e r t k h =
-    let b = lowerOf (r .start) t a e in
-    let l = last-is a e r t k h in
+    let b = lowerOf (r .start) t a e in let l = last-is a e r t k h in
     by-order b (r .start)
     (λ u. rw (l .whole (omega (arith, l .low))) (omega arith))
     (λ u. rw (l .more u) (rw length-append (omega arith)))
@@ -94,8 +90,7 @@ pieces-few : (a e d g from : ℕ) (rs : List Range) → a < e → Ascends from r
 unfolding pieces
 pieces-few a e d g from [] k t = omega arith
 pieces-few a e d g from (r ∷ rs) k t =
-    let ih = pieces-few a e d g (r .end) rs k (t .2) in
-    let some = slices-some a e r (r .end) k (t .1) in
+    let ih = pieces-few a e d g (r .end) rs k (t .2) in let some = slices-some a e r (r .end) k (t .1) in
     omega (arith, length-append (part (max from a) (min (r .start) e) d) (slices a e r (r .end) ++ pieces a e d g (r .end) rs), length-append (slices a e r (r .end)) (pieces a e d g (r .end) rs))
 
 -- ---- the pieces of one record more
@@ -115,8 +110,7 @@ left a e d rs (suc i) g =
 left-is : (a e d : ℕ) (rs : List Range) (i g : ℕ) → i < length rs → getD rs i blank .end ≤ g → left a e d rs (suc i) g ≡ pieces a e d g 0 (take (suc i) rs)
 unfolding left
 left-is a e d rs i g h k =
-    let r : Range = getD rs i blank in
-    let top : min (r .end) g ≡ r .end = omega arith in
+    let r : Range = getD rs i blank in let top : min (r .end) g ≡ r .end = omega arith in
     rw (top, take-suc rs i blank h) (sym (pieces-snoc a e d g 0 (take i rs) r))
 
 -- the last of them starts before g, so that it has a piece
@@ -129,8 +123,7 @@ left-few : (a e d : ℕ) (rs : List Range) (i g : ℕ) → a < e → Ascends 0 r
 unfolding left
 left-few a e d rs zero g k t o = omega arith
 left-few a e d rs (suc i) g k t o =
-    let r : Range = getD rs i blank in
-    let few = pieces-few a e d (r .start) 0 (take i rs) k (ascends-take 0 rs i t) in
+    let r : Range = getD rs i blank in let few = pieces-few a e d (r .start) 0 (take i rs) k (ascends-take 0 rs i t) in
     let some = slices-some a e r (min (r .end) g) k (omega (arith, at 0 rs i (o .0) t)) in
     simp length-append (omega (arith, length-take-le i rs (omega arith)))
 
@@ -170,8 +163,7 @@ module _ (a e d : ℕ) (rs : List Range) (i g : ℕ) (k : a < e) (t : Ascends 0 
   pops-gap : max (r .end) a < min g e → Pops a e d rs (suc i) g (record { range = range (max (r .end) a) (min g e) d; left = suc i })
   unfolding left
   pops-gap u =
-      let top : min (r .end) g ≡ r .end = omega arith in
-      let top′ : min (r .end) (max (r .end) a) ≡ r .end = omega arith in
+      let top : min (r .end) g ≡ r .end = omega arith in let top′ : min (r .end) (max (r .end) a) ≡ r .end = omega arith in
       let gap = part-some (max (r .end) a) (min g e) d (max (r .end) a) (min g e) refl refl u in
       let none = part-none (max (r .end) a) (min (max (r .end) a) e) d (omega arith) in
       record {
@@ -236,8 +228,7 @@ cut : (a e d : ℕ) (rs : List Range) (w i g : ℕ) (l : List Range) → a < e �
 unfolding cutting
 cut a e d rs zero i g l k t o q n h = rw (none-long (left a e d rs i g) n)
 cut a e d rs (suc w) i g l k t o q n h =
-    let p = cutPiece i (getD l (i - 1) blank) g a e d in
-    let m = pops a e d rs i g l k t o q (omega arith) in
+    let p = cutPiece i (getD l (i - 1) blank) g a e d in let m = pops a e d rs i g l k t o q (omega arith) in
     cut a e d rs w (p .left) (p .range .start) (set l w (p .range)) k t (m .ready) (turn-unread a e d rs w i g l p k t q n m) (turn-long a e d rs w i g l p k t q n m)
     (omega (arith, length-set l w (p .range)))
     ∙ turn-written a e d rs w i g l p k t q n m h

@@ -58,8 +58,7 @@ join-from : (m : ℕ) (xs : List Range) (last : Range) (z : ℕ) (us rest : List
     → joining (length us) i len last (state xs last z (us ++ rest)) ≡ joined m (xs ++ coalesceFrom last us) rest
 unfolding joining coalesceFrom
 join-from m xs last z [] rest i len q p f =
-    let size : length (xs ++ (last ∷ [])) ≡ len = rw length-append (omega arith) in
-    let left : m - len ≡ z = omega arith in
+    let size : length (xs ++ (last ∷ [])) ≡ len = rw length-append (omega arith) in let left : m - len ≡ z = omega arith in
     rw (size, left, append-assoc)
 join-from m xs last z (n ∷ us) rest i len q p f =
     let size : length (xs ++ (last ∷ [])) ≡ suc (length xs) = rw length-append (omega arith) in

@@ -99,15 +99,13 @@ module _ (a e d g p : ℕ) (r : Range) (s : List Range) (h : a ≤ p) (k : p < e
   gap-is : r .start < e → part (max p a) (min (r .start) e) d ≡ gapBefore d p (r .start)
   unfolding part
   gap-is u =
-      let low : max p a ≡ p = omega arith in
-      let high : min (r .start) e ≡ r .start = omega arith in
+      let low : max p a ≡ p = omega arith in let high : min (r .start) e ≡ r .start = omega arith in
       rw (low, high)
 
   runs-cut : r .start < e → e < r .end → Runs a e d g p (r ∷ s) (withRun (gapBefore d p (r .start)) (rest (range (max p (r .start)) e (r .state) ∷ []) (range e (r .end) (r .state) ∷ s)))
   unfolding middles pieces slices
   runs-cut u v =
-      let low : max p (r .start) ≡ r .start = omega arith in
-      let below = part-none (r .start) (min (r .end) a) (r .state) (omega arith) in
+      let low : max p (r .start) ≡ r .start = omega arith in let below = part-none (r .start) (min (r .end) a) (r .state) (omega arith) in
       let inner = part-some (max (r .start) a) (min (r .end) e) (r .state) (r .start) e (omega arith) (omega arith) u in
       let above = part-some (max (r .start) e) (r .end) (r .state) e (r .end) (omega arith) refl v in
       record {
@@ -159,11 +157,9 @@ module _ (a e d g from : ℕ) (r : Range) (s : List Range) (h : from ≤ a) (k :
   unfolding belows middles pieces slices
   pieced-lead u v =
       let i = runs a e d g a (range a (r .end) (r .state) ∷ s) (omega arith) k f (omega arith, v, t .2) in
-      let gap = part-none (max from a) (min (r .start) e) d (omega arith) in
-      let gap′ = part-none (max a a) (min a e) d (omega arith) in
+      let gap = part-none (max from a) (min (r .start) e) d (omega arith) in let gap′ = part-none (max a a) (min a e) d (omega arith) in
       let below = part-some (r .start) (min (r .end) a) (r .state) (r .start) a refl (omega arith) u in
-      let below′ = part-none a (min (r .end) a) (r .state) (omega arith) in
-      let low : max (r .start) a ≡ max a a = omega arith in
+      let below′ = part-none a (min (r .end) a) (r .state) (omega arith) in let low : max (r .start) a ≡ max a a = omega arith in
       let high : max (r .start) e ≡ max a e = omega arith in
       record {
         before = rw (below, belows-past a (r .end) s (omega arith) (t .2));
@@ -175,8 +171,7 @@ module _ (a e d g from : ℕ) (r : Range) (s : List Range) (h : from ≤ a) (k :
   unfolding belows middles pieces slices
   pieced-here u =
       let i = runs a e d g a (r ∷ s) (omega arith) k f (u, t .1, t .2) in
-      let below = part-none (r .start) (min (r .end) a) (r .state) (omega arith) in
-      let low : max from a ≡ max a a = omega arith in
+      let below = part-none (r .start) (min (r .end) a) (r .state) (omega arith) in let low : max from a ≡ max a a = omega arith in
       record { before = rw (below, belows-past a (r .end) s (omega arith) (t .2)); run = rw low (i .run); all = rw low (i .all) }
 
 pub pieced : (a e d g from : ℕ) (s : List Range) → from ≤ a → a < e → e ≤ g → Ascends from s → Pieced a e d g from s (isolate a e d s)

@@ -7,7 +7,7 @@ use Rattle.model.specs.{declared.{Range.Range, Refusal.Refusal, Verdict.Verdict
 use Rattle.model.specs.{RangedStates.{listOf, isolate, iterFilter}, RangeCalls.{ascends, isolateRefusal, coalesceRefusal, filterRefusal}}
 use Rattle.model.specs.BoolLaws.{by-test, neither}
 use Rattle.range_states.specs.View.{blank}
-use Rattle.range_calls.specs.declared.FilterAnswer.{FilterAnswer}
+use Rattle.range_calls.specs.declared.{FilterAnswer.FilterAnswer}
 use Rattle.range_calls.specs.RangeContract.{isolateAnswer, isolateRecords, coalesceAnswer, coalesceRecords, filterAnswer, filterRecords}
 use Rattle.range_records.specs.{declared.decisions.Scan.Scan, declared.decisions.Plan.Plan}
 use Rattle.range_records.specs.Passes.{begun, scanned, gapsOf, lengthOf, refusedPlan, isolatePlan, verdictOf, grantedOf, coalescedOf}
@@ -89,8 +89,7 @@ module _ (a e d told : ℕ) (rs : List Range) where
     done : ltb (length rs) (lengthOf a e told (survey a e told rs)) ≡ false → Isolates (isolatedPlan a e told (survey a e told rs))
     unfolding isolateAnswer isolateRecords
     done o =
-        let i = in-order a e told rs p in
-        let accepted : isolateRefusal a e d told rs ≡ none = rw o at refusal-is in
+        let i = in-order a e told rs p in let accepted : isolateRefusal a e d told rs ≡ none = rw o at refusal-is in
         let fits : lengthOf a e told (survey a e told rs) ≤ length rs = ltb-false (length rs) (lengthOf a e told (survey a e told rs)) o in
         let cut = cuts a e d (take told rs) rs (leb-false e a q) (i .order) (rw (i .size)) (rw all-is fits) in
         (rw (accepted, tells .position, tells .count, all-is), rw (accepted, ← all-is, i .used) (rw (i .size) at cut))
@@ -135,8 +134,7 @@ pub filter-fits : (a e told : ℕ) (rs out : List Range) → let x = filterPlan 
     (survey a e told rs .first + filterCount x ≤ length rs) × (filterCount x ≤ length out)
 unfolding filterPlan
 filter-fits a e told rs out =
-    let both = scanned-both a e (take (min told (length rs)) rs) in
-    let size = length-take (min told (length rs)) rs in
+    let both = scanned-both a e (take (min told (length rs)) rs) in let size = length-take (min told (length rs)) rs in
     by-test P (leb e a) (λ q. omega arith) λ q.
     by-test P (ltb (length rs) told || not (survey a e told rs .ascends)) (λ q. omega arith) λ q.
     by-test P (ltb (length out) (survey a e told rs .found)) (λ q. omega arith) (λ q. omega (arith, ltb-false (length out) (survey a e told rs .found) q))
@@ -165,8 +163,7 @@ module _ (a e told : ℕ) (rs out : List Range) where
     listed : ltb (length out) (survey a e told rs .found) ≡ false → Filters (filter.Filtered (survey a e told rs .found))
     unfolding filterAnswer filterRecords
     listed o =
-        let i = in-order a e told rs p in
-        let accepted : filterRefusal a e told rs out ≡ none = rw o at room-is in
+        let i = in-order a e told rs p in let accepted : filterRefusal a e told rs out ≡ none = rw o at room-is in
         let fits : survey a e told rs .found ≤ length out = ltb-false (length out) (survey a e told rs .found) o in
         let clip = clips a e (take told rs) (drop told rs) out (leb-false e a q) (i .order) (rw (i .used) at fits) in
         (rw (accepted, found-is), rw (accepted, found-is, i .used) (rw (take-append-drop told rs) at clip))

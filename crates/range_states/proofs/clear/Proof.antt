@@ -15,7 +15,8 @@ record Clearing (s₀ : List ℕ) (from to : ℕ) (s : List ℕ) (k : ℕ) : Typ
 start-of : (s : List ℕ) (from to : ℕ) → from ≤ to → Clearing s from to s from
 start-of s from to h = record { low = omega arith; high = h; seen = sym (filled-none blank from (view s)); rest = refl; long = refl }
 
-turn : {s₀ : List ℕ} {from to : ℕ} {s : List ℕ} {k : ℕ} {s′ : List ℕ} → Clearing s₀ from to s k → k < to → Put s k blank s′ → Clearing s₀ from to s′ (k + 1)
+turn : {s₀ : List ℕ} {from to : ℕ} {s : List ℕ} {k : ℕ} {s′ : List ℕ} → Clearing s₀ from to s k → k < to → Put s k blank s′
+    → Clearing s₀ from to s′ (k + 1)
 turn {s₀} {from} {to} {s} {k} {s′} i t p =
     record {
       low = omega arith;
@@ -25,10 +26,10 @@ turn {s₀} {from} {to} {s} {k} {s′} i t p =
       long = p .long ∙ i .long;
     }
 
-finish : {s₀ : List ℕ} {from to : ℕ} {s : List ℕ} {k : ℕ} → 3 * to ≤ length s₀ → Clearing s₀ from to s k → to ≤ k → Becomes s₀ to (decode from s₀ ++ replicate (to - from) blank) s
+finish : {s₀ : List ℕ} {from to : ℕ} {s : List ℕ} {k : ℕ} → 3 * to ≤ length s₀ → Clearing s₀ from to s k → to ≤ k
+    → Becomes s₀ to (decode from s₀ ++ replicate (to - from) blank) s
 finish {s₀} {from} {to} {s} {k} room i t =
-    let e : k ≡ to = omega arith in
-    let i′ : Clearing s₀ from to s to = rw e at i in
+    let e : k ≡ to = omega arith in let i′ : Clearing s₀ from to s to = rw e at i in
     let v : to ≤ length (view s₀) = view-long s₀ to room in
     record {
       size = simp (length-append, length-replicate, length-take-le from (view s₀) (omega arith)) (omega arith);
@@ -44,5 +45,5 @@ abbrev μ-loop : tie.MeasureT-loop
 μ-loop s₀ from to k₀ s k = to - k
 
 pub clear-spec : {M : Type 1} → statement M
-clear-spec = tie.close (tie.spec Inv-loop μ-loop (λ c. search start-of) (λ c κs. search needs) (λ c. search needs)
-    (λ c. search needs) (λ c. search turn) (λ c. search needs) (λ c. search finish))
+clear-spec = tie.close (tie.spec Inv-loop μ-loop (λ c. search start-of) (λ c κs. search needs) (λ c. search needs) (λ c. search needs)
+    (λ c. search turn) (λ c. search needs) (λ c. search finish))

@@ -8,5 +8,5 @@ returns : tie.Need-returns
 returns c = view-at (c .before .before .before .args .s .now) (c .before .before .before .args .k) (omega arith)
 
 pub get-spec : {M : Type 1} → statement M
-get-spec = tie.close (tie.spec (λ c. search needs) (λ c. search needs) (λ c. search needs) (λ c. search needs)
-    (λ c. search needs) (λ c. search needs) (λ c. search needs) (λ c. search needs) (λ c. search needs) returns)
+get-spec = tie.close (tie.spec (λ c. search needs) (λ c. search needs) (λ c. search needs) (λ c. search needs) (λ c. search needs)
+    (λ c. search needs) (λ c. search needs) (λ c. search needs) (λ c. search needs) returns)

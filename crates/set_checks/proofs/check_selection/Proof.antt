@@ -13,5 +13,4 @@ returns-2 : tie.Need-returns-2
 returns-2 c = rw ((c .before .before .selection .given) .1) (c .check-selector .ensures)
 
 pub check-selection-spec : {M : Type 1} → statement M
-check-selection-spec = tie.close (tie.spec (λ c. search needs) (λ c. search needs) (λ c κs. search needs) returns
-    returns-2)
+check-selection-spec = tie.close (tie.spec (λ c. search needs) (λ c. search needs) (λ c κs. search needs) returns returns-2)

@@ -12,5 +12,5 @@ unfolding baseOf
 returns c = (refl, known c .end)
 
 pub base-spec : {M : Type 1} → statement M
-base-spec = tie.close (tie.spec (λ c. omega (arith, known c)) (λ c. omega (arith, known c))
-    (λ c. omega (arith, known c)) (λ c. omega (arith, known c)) returns)
+base-spec = tie.close (tie.spec (λ c. omega (arith, known c)) (λ c. omega (arith, known c)) (λ c. omega (arith, known c))
+    (λ c. omega (arith, known c)) returns)

@@ -7,14 +7,19 @@ scope-words-requires : tie.Need-scope-words-requires
 scope-words-requires c κs = (omega (arith, (c .before .pre .0) .textures, (c .before .pre .1) .0), (c .before .pre .1) .1)
 
 returns : tie.Need-returns
-returns c = scope-not ((c .before .before .before .before .args) .table .now) ((c .before .before .before .before .args) .n) ((c .before .before .before .before .args) .ranges .now) (sym (c .before .before .scope-words .ensures .fit) ∙ not-true _ (c .if1 .taken))
+returns c =
+    let at-entry = c .before .before .before .before in
+    scope-not ((at-entry .args) .table .now) ((at-entry .args) .n) ((at-entry .args) .ranges .now) (sym (c .before .before .scope-words .ensures .fit) ∙ not-true _ (c .if1 .taken))
 
 returns-2 : tie.Need-returns-2
-returns-2 c = scope-all ((c .before .before .before .before .before .args) .table .now) ((c .before .before .before .before .before .args) .n) ((c .before .before .before .before .before .args) .ranges .now) (sym (c .before .before .before .scope-words .ensures .fit) ∙ not-false _ (c .before .if1 .left)) (sym (c .before .before .before .scope-words .ensures .plain) ∙ (c .if2 .taken))
+returns-2 c =
+    let at-scope-words = c .before .before .before in let at-entry = at-scope-words .before .before in
+    scope-all ((at-entry .args) .table .now) ((at-entry .args) .n) ((at-entry .args) .ranges .now) (sym (at-scope-words .scope-words .ensures .fit) ∙ not-false _ (c .before .if1 .left)) (sym (at-scope-words .scope-words .ensures .plain) ∙ (c .if2 .taken))
 
 slots-fit-requires : tie.Need-slots-fit-requires
-slots-fit-requires c κs = ((c .before .before .before .before .before .pre .0), ((c .before .before .before .before .before .pre .1), (sym (c .before .before .before .scope-words .ensures .fit) ∙ not-false _ (c .before .if1 .left))))
+slots-fit-requires c κs =
+    let at-scope-words = c .before .before .before in let at-entry = at-scope-words .before .before in
+    ((at-entry .pre .0), ((at-entry .pre .1), (sym (at-scope-words .scope-words .ensures .fit) ∙ not-false _ (c .before .if1 .left))))
 
 pub all-fit-spec : {M : Type 1} → statement M
-all-fit-spec = tie.close (tie.spec scope-words-requires returns returns-2 slots-fit-requires
-    (λ c. (c .slots-fit .ensures)))
+all-fit-spec = tie.close (tie.spec scope-words-requires returns returns-2 slots-fit-requires (λ c. (c .slots-fit .ensures)))

@@ -16,7 +16,9 @@ returns : tie.Need-returns Inv-loop μ-loop
 returns c = let q = (c .before .before .before .before .before .pre) in rw (mips-told _ (q .0) (q .1 .0) (q .1 .1 .0)) (testing-stop (c .before .before .before .loop .inv) (c .before .before .loop-test .taken) (c .before .mip-fits .ensures) (c .if1 .taken))
 
 loop-again : tie.Need-loop-again Inv-loop μ-loop
-loop-again c = testing-turn (c .before .before .before .loop .inv) (c .before .before .loop-test .taken) (c .before .mip-fits .ensures) (c .if1 .left)
+loop-again c =
+    let at-loop = c .before .before .before in
+    testing-turn (at-loop .loop .inv) (c .before .before .loop-test .taken) (c .before .mip-fits .ensures) (c .if1 .left)
 
 returns-2 : tie.Need-returns-2 Inv-loop μ-loop
 returns-2 c = let q = (c .before .before .before .pre) in rw (mips-told _ (q .0) (q .1 .0) (q .1 .1 .0)) (testing-end (c .before .loop .inv) (c .loop-test .left))

@@ -11,18 +11,29 @@ abbrev μ-loop : tie.MeasureT-loop
 μ-loop s len p layers at₀ k₀ at k = len - k
 
 returns : tie.Need-returns Inv-loop μ-loop
-returns c = bad-start (c .before .before .before .before .before .before .pre) (c .before .before .before .before .loop .inv) (c .before .before .before .loop-test .taken) (c .before .before .get .ensures) (c .if1 .taken)
+returns c =
+    let at-loop-test = c .before .before .before in let at-loop = at-loop-test .before in let at-entry = at-loop .before .before in
+    bad-start (at-entry .pre) (at-loop .loop .inv) (at-loop-test .loop-test .taken) (c .before .before .get .ensures) (c .if1 .taken)
 
 returns-2 : tie.Need-returns-2 Inv-loop μ-loop
-returns-2 c = bad-end (c .before .before .before .before .before .before .before .before .pre) (c .before .before .before .before .before .before .loop .inv) (c .before .before .before .before .before .loop-test .taken) (c .before .before .before .before .get .ensures) (c .before .before .if1 .left) (c .if2 .taken)
+returns-2 c =
+    let at-get = c .before .before .before .before in let at-loop-test = at-get .before in let at-loop = at-loop-test .before in
+    let at-entry = at-loop .before .before in
+    bad-end (at-entry .pre) (at-loop .loop .inv) (at-loop-test .loop-test .taken) (at-get .get .ensures) (c .before .before .if1 .left) (c .if2 .taken)
 
 returns-3 : tie.Need-returns-3 Inv-loop μ-loop
-returns-3 c = bad-state (c .before .before .before .before .before .before .before .before .before .before .pre) (c .before .before .before .before .before .before .before .before .loop .inv) (c .before .before .before .before .before .before .before .loop-test .taken) (c .before .before .before .before .before .before .get .ensures) (c .before .before .before .before .if1 .left) (c .before .before .if2 .left) (sym (c .before .state-fits .ensures) ∙ not-true _ (c .if3 .taken))
+returns-3 c =
+    let at-if1 = c .before .before .before .before in let at-get = at-if1 .before .before in let at-loop-test = at-get .before in
+    let at-loop = at-loop-test .before in let at-entry = at-loop .before .before in
+    bad-state (at-entry .pre) (at-loop .loop .inv) (at-loop-test .loop-test .taken) (at-get .get .ensures) (at-if1 .if1 .left) (c .before .before .if2 .left) (sym (c .before .state-fits .ensures) ∙ not-true _ (c .if3 .taken))
 
 loop-again : tie.Need-loop-again Inv-loop μ-loop
-loop-again c = tiling-turn (c .before .before .before .before .before .before .before .before .before .before .pre) (c .before .before .before .before .before .before .before .before .loop .inv) (c .before .before .before .before .before .before .before .loop-test .taken) (c .before .before .before .before .before .before .get .ensures) (c .before .before .before .before .if1 .left) (c .before .before .if2 .left) (sym (c .before .state-fits .ensures) ∙ not-false _ (c .if3 .left))
+loop-again c =
+    let at-if1 = c .before .before .before .before in let at-get = at-if1 .before .before in let at-loop-test = at-get .before in
+    let at-loop = at-loop-test .before in let at-entry = at-loop .before .before in
+    tiling-turn (at-entry .pre) (at-loop .loop .inv) (at-loop-test .loop-test .taken) (at-get .get .ensures) (at-if1 .if1 .left) (c .before .before .if2 .left) (sym (c .before .state-fits .ensures) ∙ not-false _ (c .if3 .left))
 
 pub ranges-fit-spec : {M : Type 1} → statement M
-ranges-fit-spec = tie.close (tie.spec Inv-loop μ-loop (λ c. tiling-start _ _ _ _) (λ c κs. search needs) returns
-    returns-2 (λ c κs. search needs) returns-3 (λ c. search needs) (λ c. search needs) loop-again
+ranges-fit-spec = tie.close (tie.spec Inv-loop μ-loop (λ c. tiling-start _ _ _ _) (λ c κs. search needs) returns returns-2
+    (λ c κs. search needs) returns-3 (λ c. search needs) (λ c. search needs) loop-again
     (λ c. tiling-end (c .before .loop .inv) (c .loop-test .left)))

@@ -13,6 +13,6 @@ returns-2 : tie.Need-returns-2
 returns-2 c = let a = (c .before .before .before .before .before .before .before .before .args) in let f = rw (c .before .before .before .before .before .before .before .before .pre .1 .0) at (sym (c .before .before .before .before .plain-words .ensures) ∙ (c .before .before .before .if1 .left)) in (rw (c .before .before .before .before .before .before .before .before .pre .1 .0) at (c .mips-fit .ensures)) ∙ scope-many (a .table .now) (a .ranges .now) (a .i) (c .before .before .before .before .before .before .before .before .pre .1 .1) f
 
 pub slot-fits-spec : {M : Type 1} → statement M
-slot-fits-spec = tie.close (tie.spec (λ c. search needs) (λ c. search needs) (λ c. search needs) (λ c. search needs)
-    (λ c. search needs) (λ c. search needs) (λ c κs. search needs) returns (λ c. search needs) (λ c. search needs)
-    (λ c. search needs) (λ c. search needs) (λ c. search needs) (λ c. search needs) mips-fit-requires returns-2)
+slot-fits-spec = tie.close (tie.spec (λ c. search needs) (λ c. search needs) (λ c. search needs) (λ c. search needs) (λ c. search needs)
+    (λ c. search needs) (λ c κs. search needs) returns (λ c. search needs) (λ c. search needs) (λ c. search needs) (λ c. search needs)
+    (λ c. search needs) (λ c. search needs) mips-fit-requires returns-2)

@@ -1,6 +1,6 @@
 -- `set_checked`: 15 where the entries do not fit; otherwise they are written, and the textures change.
 use Rattle.model.specs.Prelude.{ℕ, _/_, arith, refl, ⊎-elim, false≢true, List, length, needs}
-use Rattle.model.specs.declared.PendingTransition.{PendingTransition}
+use Rattle.model.specs.declared.{PendingTransition.PendingTransition}
 use Rattle.set_storage.specs.Stays.{both-refl}
 use Rattle.log_head.specs.{Log.head-le, Called.{Fitting, counted-fits, all-fit, room-for, Wrote, wrote, not-enough, written}}
 use Rattle.call_join.specs.Join.{joinedEntries}
@@ -55,10 +55,8 @@ returns c =
 
 log-set-requires-2 : tie.Need-log-set-requires-2
 log-set-requires-2 c κs =
-    let j = c .before .before .before in let f = fitting j in
-    let n = j .before .before .before in let r = n .before .before .before in
-    let a = entry r .args in let pre = entry r .pre in
-    let h = head-le (length (a .log .now) / 7) (a .head) (pre .1 .1 .0) in
+    let j = c .before .before .before in let f = fitting j in let n = j .before .before .before in let r = n .before .before .before in
+    let a = entry r .args in let pre = entry r .pre in let h = head-le (length (a .log .now) / 7) (a .head) (pre .1 .1 .0) in
     rw (r .flags-of .ensures, n .wide .ensures .0, f .same)
     (logs-set (pre .0), (omega (arith, h, pre .1 .1 .1), λ w. room-for (a .head) (a .log .now) (new (entry r)) (pre .1 .1 .0) (f .fits)))
 
@@ -80,7 +78,6 @@ returns-2 c =
     rw (c .moved-on .ensures) (record { change = written w (z .view); frame = z .frame })
 
 pub set-checked-spec : {M : Type 1} → statement M
-set-checked-spec = tie.close (tie.spec (λ c κs. search needs) (λ c. search needs) (λ c. search needs)
-    (λ c κs. search needs) subresources-requires log-set-requires (λ c κs. search needs) (λ c. search needs)
-    (λ c. search needs) returns log-set-requires-2 set-slots-requires moved-on-requires (λ c. search needs)
-    (λ c. search needs) same-length-5 returns-2)
+set-checked-spec = tie.close (tie.spec (λ c κs. search needs) (λ c. search needs) (λ c. search needs) (λ c κs. search needs)
+    subresources-requires log-set-requires (λ c κs. search needs) (λ c. search needs) (λ c. search needs) returns log-set-requires-2
+    set-slots-requires moved-on-requires (λ c. search needs) (λ c. search needs) same-length-5 returns-2)

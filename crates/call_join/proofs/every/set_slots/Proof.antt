@@ -8,7 +8,8 @@ use Rattle.texture_track.specs.GivenSlot.{slotAfter}
 use Rattle.call_join.proofs.every.set_slots.Tie as tie
 
 abbrev Inv-loop : tie.InvT-loop
-Inv-loop table₀ starts₀ ends₀ given first from last to n p k₀ table starts ends k = (k ≤ n) × Setting (within table₀ (ownedBy given)) table₀ starts₀ ends₀ (slotAfter p from to given first last) k table starts ends
+Inv-loop table₀ starts₀ ends₀ given first from last to n p k₀ table starts ends k =
+    (k ≤ n) × Setting (within table₀ (ownedBy given)) table₀ starts₀ ends₀ (slotAfter p from to given first last) k table starts ends
 
 abbrev μ-loop : tie.MeasureT-loop
 μ-loop table₀ starts₀ ends₀ given first from last to n p k₀ table starts ends k = n - k

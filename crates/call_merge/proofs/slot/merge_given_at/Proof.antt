@@ -26,6 +26,5 @@ returns-2 c =
     scope-old (at-if1 .before .before .before .before .pre .0) _ _ (at-if1 .if1 .left) (c .before .before .merge-given .ensures)
 
 pub merge-given-at-spec : {M : Type 1} → statement M
-merge-given-at-spec = tie.close (tie.spec (λ c. search needs) (λ c. search needs) (λ c. search needs)
-    (λ c κs. search needs) insert-given-requires (λ c. search needs) returns merge-given-requires (λ c. search needs)
-    returns-2)
+merge-given-at-spec = tie.close (tie.spec (λ c. search needs) (λ c. search needs) (λ c. search needs) (λ c κs. search needs)
+    insert-given-requires (λ c. search needs) returns merge-given-requires (λ c. search needs) returns-2)

@@ -20,6 +20,6 @@ returns-2 c =
     rw (ne-eqb _ _ own) (scope-named (only-owned given own) (c .before .before .merge-given-at .ensures))
 
 pub merge-owned-at-spec : {M : Type 1} → statement M
-merge-owned-at-spec = tie.close (tie.spec (λ c. search needs) (λ c. search needs) (λ c. search needs) returns
-    (λ c. search needs) (λ c. search needs) (λ c. search needs) (λ c. search needs) (λ c. search needs)
-    (λ c. search needs) merge-given-at-requires (λ c. search needs) returns-2)
+merge-owned-at-spec = tie.close (tie.spec (λ c. search needs) (λ c. search needs) (λ c. search needs) returns (λ c. search needs)
+    (λ c. search needs) (λ c. search needs) (λ c. search needs) (λ c. search needs) (λ c. search needs) merge-given-at-requires
+    (λ c. search needs) returns-2)

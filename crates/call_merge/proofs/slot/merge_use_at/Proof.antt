@@ -54,7 +54,7 @@ returns-4 c =
     scope-old (at-if1 .before .before .before .pre .0) _ _ (at-if1 .if1 .left) (c .before .before .merge-use2 .ensures)
 
 pub merge-use-at-spec : {M : Type 1} → statement M
-merge-use-at-spec = tie.close (tie.spec (λ c. search needs) (λ c. search needs) (λ c. search needs)
-    (λ c κs. search needs) insert-use-requires (λ c. search needs) returns (λ c. search needs) (λ c. search needs)
-    (λ c. search needs) merge-use-requires (λ c. search needs) returns-2 merge-single-use-requires (λ c. search needs)
-    returns-3 merge-use-requires-2 (λ c. search needs) returns-4)
+merge-use-at-spec = tie.close (tie.spec (λ c. search needs) (λ c. search needs) (λ c. search needs) (λ c κs. search needs)
+    insert-use-requires (λ c. search needs) returns (λ c. search needs) (λ c. search needs) (λ c. search needs) merge-use-requires
+    (λ c. search needs) returns-2 merge-single-use-requires (λ c. search needs) returns-3 merge-use-requires-2 (λ c. search needs)
+    returns-4)

@@ -1,6 +1,6 @@
 -- `remove_checked`: 15 where the entries do not fit; otherwise they are written, and both sets change.
 use Rattle.model.specs.Prelude.{ℕ, _/_, arith, ⊎-elim, false≢true, List, length, needs}
-use Rattle.model.specs.declared.PendingTransition.{PendingTransition}
+use Rattle.model.specs.declared.{PendingTransition.PendingTransition}
 use Rattle.log_head.specs.{Log.head-le, Called.{Fitting, counted-fits, all-fit, room-for, Wrote, wrote}}
 use Rattle.call_remove.specs.Logs.{removedEntries, logs-listed}
 use Rattle.call_remove.proofs.{Removal.{none-removed, all-removed}, sparse.remove_checked.Statement.statement}
@@ -38,8 +38,7 @@ subresources-requires c κs = let m = entry (c .before .before) .pre .0 .tracker
 
 log-listed-requires : tie.Need-log-listed-requires
 log-listed-requires c κs =
-    let r = c .before .before .before .before .before .before .before .before in
-    let pre = entry r .pre in let q = pre .0 in
+    let r = c .before .before .before .before .before .before .before .before in let pre = entry r .pre in let q = pre .0 in
     rw (r .flags-of .ensures) (logs-listed (q .tracker) (q .scope) (q .passed), (pre .1 .1 .0, (omega arith, λ w. absurd (false≢true w))))
 
 returns : tie.Need-returns
@@ -76,6 +75,6 @@ returns-2 c =
     rw (c .moved-on .ensures) (all-removed (logged w) (s .set-listed .ensures))
 
 pub remove-checked-spec : {M : Type 1} → statement M
-remove-checked-spec = tie.close (tie.spec (λ c κs. search needs) (λ c. search needs) subresources-requires
-    log-listed-requires (λ c κs. search needs) (λ c. search needs) (λ c. search needs) returns log-listed-requires-2
-    set-listed-requires moved-on-requires (λ c. search needs) (λ c. search needs) same-length-5 returns-2)
+remove-checked-spec = tie.close (tie.spec (λ c κs. search needs) (λ c. search needs) subresources-requires log-listed-requires
+    (λ c κs. search needs) (λ c. search needs) (λ c. search needs) returns log-listed-requires-2 set-listed-requires moved-on-requires
+    (λ c. search needs) (λ c. search needs) same-length-5 returns-2)

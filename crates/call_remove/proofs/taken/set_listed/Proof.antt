@@ -5,7 +5,8 @@ use Rattle.call_remove.proofs.taken.set_listed.Statement.{statement}
 use Rattle.call_remove.proofs.taken.set_listed.Tie as tie
 
 abbrev Inv-loop : tie.InvT-loop
-Inv-loop table₀ starts₀ ends₀ given₀ lent indices p k₀ table starts ends given k = Taking table₀ starts₀ ends₀ given₀ lent indices k table starts ends given
+Inv-loop table₀ starts₀ ends₀ given₀ lent indices p k₀ table starts ends given k =
+    Taking table₀ starts₀ ends₀ given₀ lent indices k table starts ends given
 
 abbrev μ-loop : tie.MeasureT-loop
 μ-loop table₀ starts₀ ends₀ given₀ lent indices p k₀ table starts ends given k = length indices - k
@@ -29,7 +30,7 @@ loop-again c =
     taking-turn (p .0) (l .before .loop .inv) (l .loop-test .taken) (p .1) z
 
 pub set-listed-spec : {M : Type 1} → statement M
-set-listed-spec = tie.close (tie.spec Inv-loop μ-loop (λ c. taking-start _ _ _ _ _ _)
-    (λ c. omega (arith, c .loop-test .taken)) (λ c. omega (arith, c .before .loop-test .taken)) (λ c κs. search needs)
-    take-at-requires add-k loop-less loop-again (λ c. c .before .loop .inv .walked .frame .starts .long)
-    (λ c. c .before .loop .inv .walked .frame .ends .long) (λ c. taking-end (c .before .loop .inv) (c .loop-test .left)))
+set-listed-spec = tie.close (tie.spec Inv-loop μ-loop (λ c. taking-start _ _ _ _ _ _) (λ c. omega (arith, c .loop-test .taken))
+    (λ c. omega (arith, c .before .loop-test .taken)) (λ c κs. search needs) take-at-requires add-k loop-less loop-again
+    (λ c. c .before .loop .inv .walked .frame .starts .long) (λ c. c .before .loop .inv .walked .frame .ends .long)
+    (λ c. taking-end (c .before .loop .inv) (c .loop-test .left)))

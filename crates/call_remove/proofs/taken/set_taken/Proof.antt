@@ -33,8 +33,7 @@ set-owned-at-requires-2 c κs = c .before .before .before .before .before .befor
 
 pub set-taken-spec : {M : Type 1} → statement M
 set-taken-spec = tie.close (tie.spec (λ c. omega (arith, c .before .before .before .pre .0 .index))
-    (λ c. omega (arith, c .before .before .before .pre .0 .index))
-    (λ c. omega (arith, c .before .before .before .pre .0 .index)) set-owned-at-requires (λ c. search needs)
-    (λ c. search needs) (λ c. c .before .before .before .before .set-owned-at .ensures) both-single-requires
-    add-set-state mul-set-state element-copy-out-set-state set-state-requires returns-2 set-owned-at-requires-2
+    (λ c. omega (arith, c .before .before .before .pre .0 .index)) (λ c. omega (arith, c .before .before .before .pre .0 .index))
+    set-owned-at-requires (λ c. search needs) (λ c. search needs) (λ c. c .before .before .before .before .set-owned-at .ensures)
+    both-single-requires add-set-state mul-set-state element-copy-out-set-state set-state-requires returns-2 set-owned-at-requires-2
     (λ c. search needs) (λ c. search needs) (λ c. c .before .before .before .before .set-owned-at2 .ensures))

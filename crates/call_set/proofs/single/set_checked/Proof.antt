@@ -1,6 +1,6 @@
 -- `set_checked`: 15 where the entries do not fit; otherwise they are written, and the texture changes.
 use Rattle.model.specs.Prelude.{ℕ, _/_, arith, refl, ⊎-elim, false≢true, List, length, needs}
-use Rattle.model.specs.declared.PendingTransition.{PendingTransition}
+use Rattle.model.specs.declared.{PendingTransition.PendingTransition}
 use Rattle.set_storage.specs.Stays.{both-refl}
 use Rattle.texture_merge.specs.Uses.{useOf}
 use Rattle.log_head.specs.{Log.head-le, Called.{room-for, Fitting, counted-fits, all-fit, Wrote, wrote, not-enough, written}}
@@ -76,12 +76,10 @@ same-length-6 c = logged (c .before .before .before .before .before .before .bef
 returns-2 : tie.Need-returns-2
 returns-2 c =
     let s = c .before .before .before .before .before in let w = s .before .before .before .before .before .before in
-    let r = read (w .before .before .before .before .before .before) in
-    let set = rw (r .flags-of .ensures) at (s .set-use-at .ensures) in
+    let r = read (w .before .before .before .before .before .before) in let set = rw (r .flags-of .ensures) at (s .set-use-at .ensures) in
     rw (c .moved-on .ensures) (used _ _ _ _ _ _ (entry r .pre .0) set (written (logged w)))
 
 pub set-checked-spec : {M : Type 1} → statement M
-set-checked-spec = tie.close (tie.spec (λ c κs. search needs) (λ c. search needs) subresources-requires
-    log-use-at-requires (λ c κs. search needs) (λ c. search needs) (λ c. search needs) (λ c. search needs) returns
-    log-use-at-requires-2 set-use-at-requires moved-on-requires (λ c. search needs) (λ c. search needs) same-length-6
-    returns-2)
+set-checked-spec = tie.close (tie.spec (λ c κs. search needs) (λ c. search needs) subresources-requires log-use-at-requires
+    (λ c κs. search needs) (λ c. search needs) (λ c. search needs) (λ c. search needs) returns log-use-at-requires-2 set-use-at-requires
+    moved-on-requires (λ c. search needs) (λ c. search needs) same-length-6 returns-2)

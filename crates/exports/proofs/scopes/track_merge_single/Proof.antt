@@ -5,8 +5,12 @@ use Rattle.exports.proofs.scopes.track_merge_single.Statement.{statemen
 use Rattle.exports.proofs.scopes.track_merge_single.Tie as tie
 
 returns : tie.Need-returns
-returns c = rw (c .flat .ensures, outcome-told _, ← c .before .before .before .before .before .before .before .selector .ensures, ← c .before .before .before .before .before .before .selection .ensures) (refl, c .before .before .before .merge-single .ensures)
+returns c =
+    let at-merge-single = c .before .before .before in let at-selection = at-merge-single .before .before .before in
+    let at-selector = at-selection .before in
+    rw (c .flat .ensures, outcome-told _, ← at-selector .selector .ensures, ← at-selection .selection .ensures)
+    (refl, at-merge-single .merge-single .ensures)
 
 pub track-merge-single-spec : {M : Type 1} → statement M
-track-merge-single-spec = tie.close (tie.spec (λ c κs. search needs) (λ c κs. search needs) (λ c κs. search needs)
-    (λ c κs. search needs) (λ c. search needs) returns)
+track-merge-single-spec = tie.close (tie.spec (λ c κs. search needs) (λ c κs. search needs) (λ c κs. search needs) (λ c κs. search needs)
+    (λ c. search needs) returns)

@@ -8,5 +8,4 @@ returns : tie.Need-returns
 returns c = rw (c .flat .ensures, outcome-told _) (refl, c .before .before .before .merge-usage-scope .ensures)
 
 pub track-merge-usage-scope-spec : {M : Type 1} → statement M
-track-merge-usage-scope-spec = tie.close (tie.spec (λ c κs. search needs) (λ c κs. search needs) (λ c. search needs)
-    returns)
+track-merge-usage-scope-spec = tie.close (tie.spec (λ c κs. search needs) (λ c κs. search needs) (λ c. search needs) returns)

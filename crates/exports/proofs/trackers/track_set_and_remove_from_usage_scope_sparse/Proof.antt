@@ -9,7 +9,10 @@ set-and-remove-from-usage-scope-sparse-requires :
 set-and-remove-from-usage-scope-sparse-requires c κs = search needs
 
 returns : tie.Need-returns
-returns c = rw (c .logged .ensures, outcome-told _) (refl, c .before .before .before .before .before .before .before .set-and-remove-from-usage-scope-sparse .ensures)
+returns c =
+    let at-set-and-remove-from-usage-scope-sparse = c .before .before .before .before .before .before .before in
+    rw (c .logged .ensures, outcome-told _)
+    (refl, at-set-and-remove-from-usage-scope-sparse .set-and-remove-from-usage-scope-sparse .ensures)
 
 pub track-set-and-remove-from-usage-scope-sparse-spec : {M : Type 1} → statement M
 track-set-and-remove-from-usage-scope-sparse-spec = tie.close (tie.spec set-and-remove-from-usage-scope-sparse-requires

@@ -5,8 +5,11 @@ use Rattle.exports.proofs.trackers.track_set_single.Statement.{statemen
 use Rattle.exports.proofs.trackers.track_set_single.Tie as tie
 
 returns : tie.Need-returns
-returns c = rw (c .logged .ensures, outcome-told _) (refl, rw (c .before .before .before .before .before .before .before .before .before .before .before .before .selector .ensures) at (c .before .before .before .before .before .before .before .set-single .ensures))
+returns c =
+    let at-set-single = c .before .before .before .before .before .before .before in
+    let at-selector = at-set-single .before .before .before .before .before in
+    rw (c .logged .ensures, outcome-told _) (refl, rw (at-selector .selector .ensures) at (at-set-single .set-single .ensures))
 
 pub track-set-single-spec : {M : Type 1} → statement M
-track-set-single-spec = tie.close (tie.spec (λ c κs. search needs) (λ c κs. search needs) (λ c κs. search needs)
-    (λ c. search needs) (λ c. search needs) (λ c. search needs) returns)
+track-set-single-spec = tie.close (tie.spec (λ c κs. search needs) (λ c κs. search needs) (λ c κs. search needs) (λ c. search needs)
+    (λ c. search needs) (λ c. search needs) returns)

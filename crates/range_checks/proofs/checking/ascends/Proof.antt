@@ -10,14 +10,22 @@ abbrev μ-loop : tie.MeasureT-loop
 μ-loop s len k₀ from₀ k from = len - k
 
 returns : tie.Need-returns Inv-loop μ-loop
-returns c = early (c .before .before .before .before .before .pre) (c .before .before .before .loop .inv) (c .before .before .loop-test .taken) (c .before .get .ensures) (c .if1 .taken)
+returns c =
+    let at-loop = c .before .before .before in let at-entry = at-loop .before .before in
+    early (at-entry .pre) (at-loop .loop .inv) (c .before .before .loop-test .taken) (c .before .get .ensures) (c .if1 .taken)
 
 returns-2 : tie.Need-returns-2 Inv-loop μ-loop
-returns-2 c = empty (c .before .before .before .before .before .before .pre) (c .before .before .before .before .loop .inv) (c .before .before .before .loop-test .taken) (c .before .before .get .ensures) (c .before .if1 .left) (c .if2 .taken)
+returns-2 c =
+    let at-loop-test = c .before .before .before in let at-loop = at-loop-test .before in let at-entry = at-loop .before .before in
+    empty (at-entry .pre) (at-loop .loop .inv) (at-loop-test .loop-test .taken) (c .before .before .get .ensures) (c .before .if1 .left)
+    (c .if2 .taken)
 
 loop-again : tie.Need-loop-again Inv-loop μ-loop
-loop-again c = turn (c .before .before .before .before .before .before .pre) (c .before .before .before .before .loop .inv) (c .before .before .before .loop-test .taken) (c .before .before .get .ensures) (c .before .if1 .left) (c .if2 .left)
+loop-again c =
+    let at-loop-test = c .before .before .before in let at-loop = at-loop-test .before in let at-entry = at-loop .before .before in
+    turn (at-entry .pre) (at-loop .loop .inv) (at-loop-test .loop-test .taken) (c .before .before .get .ensures) (c .before .if1 .left)
+    (c .if2 .left)
 
 pub ascends-spec : {M : Type 1} → statement M
-ascends-spec = tie.close (tie.spec Inv-loop μ-loop (λ c. search start-of) (λ c κs. search needs) (λ c. search needs)
-    returns returns-2 (λ c. search needs) loop-again (λ c. search finish))
+ascends-spec = tie.close (tie.spec Inv-loop μ-loop (λ c. search start-of) (λ c κs. search needs) (λ c. search needs) returns returns-2
+    (λ c. search needs) loop-again (λ c. search finish))

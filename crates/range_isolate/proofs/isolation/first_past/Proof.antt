@@ -11,5 +11,5 @@ abbrev μ-loop : tie.MeasureT-loop
 μ-loop s len x k₀ k = len - k
 
 pub first-past-spec : {M : Type 1} → statement M
-first-past-spec = tie.close (tie.spec Inv-loop μ-loop (λ c. search look-from) (λ c κs. search needs)
-    (λ c. search look-here) (λ c. search needs) (λ c. search needs) (λ c. search look-on) (λ c. search look-end))
+first-past-spec = tie.close (tie.spec Inv-loop μ-loop (λ c. search look-from) (λ c κs. search needs) (λ c. search look-here)
+    (λ c. search needs) (λ c. search needs) (λ c. search look-on) (λ c. search look-end))

@@ -4,5 +4,5 @@ use Rattle.range_isolate.proofs.{Counting.count-is, isolation.isolated_
 use Rattle.range_isolate.proofs.isolation.isolated_count.Tie as tie
 
 pub isolated-count-spec : {M : Type 1} → statement M
-isolated-count-spec = tie.close (tie.spec (λ c κs. search needs) (λ c κs. search needs) (λ c κs. search needs)
-    (λ c. search needs) (λ c. search needs) (λ c. search count-is))
+isolated-count-spec = tie.close (tie.spec (λ c κs. search needs) (λ c κs. search needs) (λ c κs. search needs) (λ c. search needs)
+    (λ c. search needs) (λ c. search count-is))

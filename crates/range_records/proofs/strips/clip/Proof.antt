@@ -1,5 +1,5 @@
 -- `clip` meets its contract: a walk of its code. Both runs are opened before the loop and closed after it.
-use Rattle.model.specs.declared.Range.{Range}
+use Rattle.model.specs.declared.{Range.Range}
 use Rattle.walk.specs.Walk.{_≡_, refl, ap, ⊎-elim, List, [], _∷_, none, some, ℕ, _<_, _≤_, _^_, _+_, _-_, zero-le, eq-or-lt-of-le}
 use Rattle.walk.specs.Walk.{add-one-le, add-one-dec, arith, length, getD, lit<, URA, fullShare, named, w32, w64, Val, vint, SProp, emp, id⊢}
 use Rattle.walk.specs.Walk.{Lft, Share, ftrue, flft, Model, Heap, Env, afterTurn, fmOf, factI, GhostRules, Running, Item, ‵, _⊛_, Sq, atRet}
@@ -52,8 +52,7 @@ module _ {M : Type 1} (𝓤 : URA M) (H : Heap 𝓤) (𝓜 : Model 𝓤 H) (𝓖
         let inside : w .0 < length (L (w .0)) = omega (arith, clipping-length (w .0) f a e (s₀ .now) (s .now)) in
         let scaled₀ = scaled-fits (f + w .0) (length (s₀ .now)) 12 inside₀ (room₀ .1) in
         let scaled = scaled-fits (w .0) (length (s .now)) 12 (omega arith) (room .1) in
-        let from-fits : f + w .0 < 2 ^ 64 = omega (arith, room₀ .0) in
-        let next-fits : w .0 + 1 < 2 ^ 64 = omega arith in
+        let from-fits : f + w .0 < 2 ^ 64 = omega (arith, room₀ .0) in let next-fits : w .0 + 1 < 2 ^ 64 = omega arith in
         let r = getD (s₀ .now) (f + w .0) blank in
         -- w < n, and clipped(run[first + w], start, end)
         goes-on ! tt (bin ! (var ! tt refl) (var ! tt refl) tt) (lt-ltb (w .0) n less) (tt, tt) $

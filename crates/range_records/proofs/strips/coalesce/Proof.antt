@@ -1,5 +1,5 @@
 -- `coalesce` meets its contract: a walk of its code. `run` is lent as a `&` to the first pass, and given to the second for good.
-use Rattle.model.specs.declared.Verdict.{Verdict}
+use Rattle.model.specs.declared.{Verdict.Verdict}
 use Rattle.walk.specs.Walk.{refl, ap, [], _∷_, ℕ, _<_, _^_, min, arith, length, take, URA, fullShare, named, w64, emp, id⊢, Lft, Share}
 use Rattle.walk.specs.Walk.{ftrue, flft, Model, Heap, fmOf, factI, fact-mono, GhostRules, Running, ‵, _⊛_, _$_, _∵_, !, qed, by, move, keep}
 use Rattle.walk.specs.Walk.{join, fsplit, fjoin, feqL, frame, lit, and-then, no-more, of-opd, owns, usize, MutSlice, Room, plain, Data}
@@ -7,7 +7,7 @@ use Rattle.walk.specs.Walk.{number, variant, word, half, enters, var, part, wit
 use Rattle.walk.specs.Walk.{asks, by-value, given, Function, args, Walks, free, ends, proved, Row, Slice, ref, run, relent, called, shares}
 use Rattle.walk.specs.Walk.{shared-back}
 use Rattle.range_states.specs.View.{blank}
-use Rattle.range_calls.specs.declared.CoalesceAnswer.{CoalesceAnswer}
+use Rattle.range_calls.specs.declared.{CoalesceAnswer.CoalesceAnswer}
 use Rattle.range_records.specs.declared.decisions.Scan.{Scan}
 use Rattle.range_records.specs.Passes.{begun, scanned, verdictOf, grantedOf, coalescedOf, Joined, joining}
 use Rattle.range_records.proofs.{Walks.{E, ScanOf}, Laws.Together.{coalesce-fits, coalesces}}
@@ -34,12 +34,9 @@ module _ {M : Type 1} (𝓤 : URA M) (H : Heap 𝓤) (𝓜 : Model 𝓤 H) (𝓖
   walk : Walks F 𝓤 H 𝓜 𝓖 𝓡 (κ, tt) (q, tt) (run, (told, tt)) tt code.env code.function
   walk =
       -- what each callee returns
-      let n : ℕ = min told (length (run .now)) in
-      let S : Scan = scanned 0 0 begun (take n (run .now)) in
-      let R : Verdict = verdictOf (length (run .now)) told S in
-      let J : Joined = joining (grantedOf R n) 0 0 blank (run .now) in
-      let X : CoalesceAnswer = coalescedOf R (J .len) in
-      let W = rules 𝓤 H 𝓜 𝓖 in
+      let n : ℕ = min told (length (run .now)) in let S : Scan = scanned 0 0 begun (take n (run .now)) in
+      let R : Verdict = verdictOf (length (run .now)) told S in let J : Joined = joining (grantedOf R n) 0 0 blank (run .now) in
+      let X : CoalesceAnswer = coalescedOf R (J .len) in let W = rules 𝓤 H 𝓜 𝓖 in
       let fm = fmOf 𝓤 H (W .laws) (tables-at 𝓤 H 𝓜 𝓡 code.env) in
       qed W ((‵ (flft κ q) ⊛ ‵ ftrue) ∷ ‵ (owns (MutSlice (named 0) κ (Row E) ∷ usize ∷ []) (run, (told, tt)) _) ∷ []) ∵
       move ! (1 ∷ []) $ fsplit ! $ keep ! (2 ∷ 0 ∷ []) $

@@ -1,5 +1,5 @@
 -- `cut` meets its contract: a walk of its code. The run is opened before the loop and closed after it.
-use Rattle.model.specs.declared.Range.{Range}
+use Rattle.model.specs.declared.{Range.Range}
 use Rattle.walk.specs.Walk.{_≡_, refl, sym, _∙_, ⊎-elim, List, [], _∷_, none, some, ℕ, _<_, _≤_, _^_, _-_, zero-le, eq-or-lt-of-le, le-refl}
 use Rattle.walk.specs.Walk.{arith, length, getD, set, length-set, URA, fullShare, named, w32, w64, Val, vint, SProp, emp, id⊢, Lft, Share}
 use Rattle.walk.specs.Walk.{ftrue, flft, Model, Heap, Env, afterTurn, fmOf, factI, fact-mono, GhostRules, Running, Item, ‵, _⊛_, Sq, atRet}
@@ -51,16 +51,13 @@ module _ {M : Type 1} (𝓤 : URA M) (H : Heap 𝓤) (𝓜 : Model 𝓤 H) (𝓖
     more : (u : Upto) → 0 < u .w → Turn u
     unfolding afterTurn
     more u some-left =
-        let W = rules 𝓤 H 𝓜 𝓖 in
-        let fm = fmOf 𝓤 H (W .laws) (tables-at 𝓤 H 𝓜 𝓡 code.env) in
+        let W = rules 𝓤 H 𝓜 𝓖 in let fm = fmOf 𝓤 H (W .laws) (tables-at 𝓤 H 𝓜 𝓡 code.env) in
         let read : u .i - 1 < length (u .l) = omega (arith, u .few, u .inside, u .long) in
         let written : u .w - 1 < length (u .l) = omega (arith, u .few, u .long) in
         let scaled-read = scaled-fits (u .i - 1) (length (s .now)) 12 (omega (arith, u .few, u .inside)) (room .1) in
         let scaled = scaled-fits (u .w - 1) (length (s .now)) 12 (omega (arith, u .few)) (room .1) in
-        let w-fits : u .w - 1 < 2 ^ 64 = omega (arith, u .few) in
-        let i-fits : u .i < 2 ^ 64 = omega (arith, u .inside, room .0) in
-        let r = getD (u .l) (u .i - 1) blank in
-        let p = cutPiece (u .i) r (u .g) a e d in
+        let w-fits : u .w - 1 < 2 ^ 64 = omega (arith, u .few) in let i-fits : u .i < 2 ^ 64 = omega (arith, u .inside, room .0) in
+        let r = getD (u .l) (u .i - 1) blank in let p = cutPiece (u .i) r (u .g) a e d in
         -- 0 < w, and w -= 1
         goes-on ! tt (bin ! (lit ! tt) (var ! tt refl) tt) (lt-ltb 0 (u .w) some-left) (tt, tt) $
         lets ! tt (bin ! (var ! tt refl) (lit ! tt) some-left) (tt, record { fits = w-fits }) $

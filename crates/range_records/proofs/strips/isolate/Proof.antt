@@ -1,5 +1,5 @@
 -- `isolate` meets its contract: a walk of its code. `run` is lent as a `&` to the first pass, and given to the second for good.
-use Rattle.model.specs.declared.Range.{Range}
+use Rattle.model.specs.declared.{Range.Range}
 use Rattle.walk.specs.Walk.{refl, ap, List, [], _∷_, ℕ, _<_, _^_, min, arith, length, take, length-take, URA, fullShare, named, w32, w64}
 use Rattle.walk.specs.Walk.{emp, id⊢, Lft, Share, ftrue, flft, Model, Heap, fmOf, factI, fact-mono, GhostRules, Running, ‵, _⊛_, _$_, _∵_}
 use Rattle.walk.specs.Walk.{ !, qed, by, move, keep, drop, fsplit, fjoin, feqL, frame, and-then, no-more, of-opd, owns, u32, usize, MutSlice}
@@ -28,12 +28,9 @@ module _ {M : Type 1} (𝓤 : URA M) (H : Heap 𝓤) (𝓜 : Model 𝓤 H) (𝓖
   walk : Walks F 𝓤 H 𝓜 𝓖 𝓡 (κ, tt) (q, tt) (run, (told, (a, (e, (d, tt))))) tt code.env code.function
   walk =
       -- what each callee returns, and the run at the end
-      let n : ℕ = min told (length (run .now)) in
-      let S : Scan = scanned a e begun (take n (run .now)) in
-      let P : Plan = isolatePlan (length (run .now)) told S a e in
-      let L : List Range = cutting (P .len) n (P .top) a e d (run .now) in
-      let W = rules 𝓤 H 𝓜 𝓖 in
-      let fm = fmOf 𝓤 H (W .laws) (tables-at 𝓤 H 𝓜 𝓡 code.env) in
+      let n : ℕ = min told (length (run .now)) in let S : Scan = scanned a e begun (take n (run .now)) in
+      let P : Plan = isolatePlan (length (run .now)) told S a e in let L : List Range = cutting (P .len) n (P .top) a e d (run .now) in
+      let W = rules 𝓤 H 𝓜 𝓖 in let fm = fmOf 𝓤 H (W .laws) (tables-at 𝓤 H 𝓜 𝓡 code.env) in
       let few : Few S 2305843009213693951 = few-under (length (take n (run .now))) 2305843009213693951 S (scanned-few a e (take n (run .now))) (omega (arith, length-take n (run .now), room .1)) in
       qed W ((‵ (flft κ q) ⊛ ‵ ftrue) ∷ ‵ (owns (MutSlice (named 0) κ (Row E) ∷ usize ∷ u32 ∷ u32 ∷ u32 ∷ []) (run, (told, (a, (e, (d, tt))))) _) ∷ []) ∵
       move ! (1 ∷ []) $ fsplit ! $ keep ! (2 ∷ 0 ∷ []) $

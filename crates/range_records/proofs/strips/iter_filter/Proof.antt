@@ -1,12 +1,12 @@
 -- `iter_filter` meets its contract: a walk of its code. `run` is read by both passes, and `out` is given to the second for good.
-use Rattle.model.specs.declared.Range.{Range}
+use Rattle.model.specs.declared.{Range.Range}
 use Rattle.walk.specs.Walk.{refl, ap, List, [], _∷_, ℕ, _<_, _^_, min, arith, length, take, URA, named, w32, w64, emp, id⊢, Lft, Share}
 use Rattle.walk.specs.Walk.{ftrue, flft, Model, Heap, fmOf, factI, fact-mono, GhostRules, Running, ‵, _⊛_, _$_, _∵_, !, qed, by, move, keep}
 use Rattle.walk.specs.Walk.{drop, split, join, use1, fsplit, fjoin, feqL, frame, and-then, no-more, of-opd, owns, u32, usize, ShrSlice}
 use Rattle.walk.specs.Walk.{MutSlice, Room, shr-slice-copy, plain, nothing, Data, number, variant, UnitOf, fits-in, word, half, enters, var}
 use Rattle.walk.specs.Walk.{part, within, lets, leaves, rules, tables-at, known, of, own, gives, asks, by-value, shared, given, Function}
 use Rattle.walk.specs.Walk.{args, Walks, free, ends, proved, bare, Row, Slice, ref, run, Shared, relent}
-use Rattle.range_calls.specs.declared.FilterAnswer.{FilterAnswer}
+use Rattle.range_calls.specs.declared.{FilterAnswer.FilterAnswer}
 use Rattle.range_records.specs.{declared.decisions.Scan.Scan, Passes.{begun, scanned, filterPlan, filterCount, clipping}}
 use Rattle.range_records.proofs.{Walks.{E, ScanOf}, Laws.Together.{filter-fits, filters}}
 use Rattle.range_calls.proofs.FilterAnswer as answer
@@ -27,13 +27,10 @@ module _ {M : Type 1} (𝓤 : URA M) (H : Heap 𝓤) (𝓜 : Model 𝓤 H) (𝓖
   walk : Walks F 𝓤 H 𝓜 𝓖 𝓡 (κ₀, (κ, tt)) (q₀, (q, tt)) (run, (told, (a, (e, (out, tt))))) tt code.env code.function
   walk =
       -- what each callee returns, and the second run at the end
-      let n : ℕ = min told (length (run .now)) in
-      let S : Scan = scanned a e begun (take n (run .now)) in
+      let n : ℕ = min told (length (run .now)) in let S : Scan = scanned a e begun (take n (run .now)) in
       let X : FilterAnswer = filterPlan (length (run .now)) told S a e (length (out .now)) in
-      let L : List Range = clipping (filterCount X) (S .first) a e (run .now) (out .now) in
-      let W = rules 𝓤 H 𝓜 𝓖 in
-      let fm = fmOf 𝓤 H (W .laws) (tables-at 𝓤 H 𝓜 𝓡 code.env) in
-      let fits = filter-fits a e told (run .now) (out .now) in
+      let L : List Range = clipping (filterCount X) (S .first) a e (run .now) (out .now) in let W = rules 𝓤 H 𝓜 𝓖 in
+      let fm = fmOf 𝓤 H (W .laws) (tables-at 𝓤 H 𝓜 𝓡 code.env) in let fits = filter-fits a e told (run .now) (out .now) in
       qed W ((‵ (flft κ₀ q₀) ⊛ (‵ (flft κ q) ⊛ ‵ ftrue)) ∷ ‵ (owns (ShrSlice (named 0) κ₀ (Row E) ∷ usize ∷ u32 ∷ u32 ∷ MutSlice (named 1) κ (Row E) ∷ []) (run, (told, (a, (e, (out, tt))))) _) ∷ []) ∵
       split ! $ nothing ! $ move ! (1 ∷ 0 ∷ []) $ join ! $ move ! (2 ∷ []) $ fsplit ! $
       use1 W (‵ (Shared E (named 0) κ₀ run) ⊛ ‵ (Shared E (named 0) κ₀ run)) (shr-slice-copy 𝓤 H (𝓖 .A) W (named 0) κ₀ (Row E) .twice run (ref E run ∷ [])) $ split ! $ move ! (2 ∷ []) $ fsplit ! $ drop ! $ fsplit ! $ drop ! $ fsplit ! $ drop ! $ fsplit ! $

@@ -1,5 +1,5 @@
 -- `join` meets its contract: a walk of its code. The run is opened before the loop and closed after it.
-use Rattle.model.specs.declared.Range.{Range}
+use Rattle.model.specs.declared.{Range.Range}
 use Rattle.walk.specs.Walk.{_≡_, refl, sym, ap, _∙_, ⊎-elim, List, [], _∷_, none, some, ℕ, _<_, _≤_, _^_, _+_, _-_, zero-le, eq-or-lt-of-le}
 use Rattle.walk.specs.Walk.{add-one-le, add-one-dec, unary-clauses, arith, length, getD, set, length-set, lit<, URA, fullShare, named, w64}
 use Rattle.walk.specs.Walk.{Val, vint, SProp, emp, id⊢, Lft, Share, ftrue, flft, Model, Heap, Env, afterTurn, fmOf, factI, fact-mono}
@@ -51,14 +51,11 @@ module _ {M : Type 1} (𝓤 : URA M) (H : Heap 𝓤) (𝓜 : Model 𝓤 H) (𝓖
     more : (u : Upto) → u .i < n → Turn u
     unfolding afterTurn
     more u less =
-        let W = rules 𝓤 H 𝓜 𝓖 in
-        let fm = fmOf 𝓤 H (W .laws) (tables-at 𝓤 H 𝓜 𝓡 code.env) in
+        let W = rules 𝓤 H 𝓜 𝓖 in let fm = fmOf 𝓤 H (W .laws) (tables-at 𝓤 H 𝓜 𝓡 code.env) in
         let read : u .i < length (u .l) = omega (arith, u .long) in
         let scaled = scaled-fits (u .i) (length (s .now)) 12 (omega arith) (room .1) in
-        let len-fits : u .len < 18446744073709551615 = omega (arith, u .behind) in
-        let next-fits : u .i + 1 < 2 ^ 64 = omega arith in
-        let r = getD (u .l) (u .i) blank in
-        let j = joinOf (u .last) (u .len) r in
+        let len-fits : u .len < 18446744073709551615 = omega (arith, u .behind) in let next-fits : u .i + 1 < 2 ^ 64 = omega arith in
+        let r = getD (u .l) (u .i) blank in let j = joinOf (u .last) (u .len) r in
         let long : length (set (u .l) (u .i) blank) ≡ length (s .now) = length-set (u .l) (u .i) blank ∙ u .long in
         let written : j .at < length (set (u .l) (u .i) blank) = omega (arith, join-at (u .last) (u .len) r, u .behind, long) in
         let scaled-at = scaled-fits (j .at) (length (s .now)) 12 (omega (arith, join-at (u .last) (u .len) r, u .behind)) (room .1) in
@@ -96,8 +93,7 @@ module _ {M : Type 1} (𝓤 : URA M) (H : Heap 𝓤) (𝓜 : Model 𝓤 H) (𝓖
     leave : (u : Upto) → u .i ≡ n → Turn u
     unfolding afterTurn
     leave u end =
-        let len-fits : u .len < 2 ^ 64 = omega (arith, u .behind) in
-        let none-left : 0 ≡ n - u .i = omega arith in
+        let len-fits : u .len < 2 ^ 64 = omega (arith, u .behind) in let none-left : 0 ≡ n - u .i = omega arith in
         breaks ! tt (bin ! (var ! tt refl) (var ! tt refl) tt) (le-ltb (u .i) n (omega arith)) (tt, tt) $ exec ! (tables-at 𝓤 H 𝓜 𝓡 code.env .C) (tables-at 𝓤 H 𝓜 𝓡 code.env .Λ) En code.Mir.t-5 (atRet En Out) $
         lets ! tt (of-opd ! (var ! tt refl)) (tt, record { fits = len-fits }) $ leaves ! tt refl $ updating ! $ closes-run E ! tt (named 0) κ q s (u .l) (u .long) room $ settled ! $
         ends F 𝓤 H 𝓜 𝓖 𝓡 (κ, tt) (q, tt) (s, (n, tt)) tt ! (number w64) (u .len) (refl, len-fits) (u .l, (tt, tt)) (u .long, (tt, tt)) (factI 𝓤 _ (emp 𝓤) (joining-none (u .i) (u .len) (u .last) (u .l) ∙ ap (λ (k : ℕ). joining k (u .i) (u .len) (u .last) (u .l)) none-left ∙ u .on)) $

@@ -49,12 +49,9 @@ module _ {M : Type 1} (𝓤 : URA M) (H : Heap 𝓤) (𝓜 : Model 𝓤 H) (𝓖
     more : (u : Upto) → u .k < n → Turn u
     unfolding afterTurn
     more u less =
-        let W = rules 𝓤 H 𝓜 𝓖 in
-        let fm = fmOf 𝓤 H (W .laws) (tables-at 𝓤 H 𝓜 𝓡 code.env) in
-        let inside : u .k < length (s .now) = omega arith in
-        let scaled = scaled-fits (u .k) (length (s .now)) 12 inside (room .1) in
-        let next-fits : u .k + 1 < 2 ^ 64 = omega arith in
-        let r = getD (s .now) (u .k) blank in
+        let W = rules 𝓤 H 𝓜 𝓖 in let fm = fmOf 𝓤 H (W .laws) (tables-at 𝓤 H 𝓜 𝓡 code.env) in
+        let inside : u .k < length (s .now) = omega arith in let scaled = scaled-fits (u .k) (length (s .now)) 12 inside (room .1) in
+        let next-fits : u .k + 1 < 2 ^ 64 = omega arith in let r = getD (s .now) (u .k) blank in
         let few : Few (S (u .k)) 9223372036854775807 = few-under (u .k) 9223372036854775807 (S (u .k)) (u .counts) (omega (arith, room .1)) in
         -- k < n, and s = look(s, run[k], start, end)
         goes-on ! tt (bin ! (var ! tt refl) (var ! tt refl) tt) (lt-ltb (u .k) n less) (tt, tt) $

@@ -11,6 +11,6 @@ abbrev μ-loop : tie.MeasureT-loop
 μ-loop s len i₀ cur₀ i cur = len - i
 
 pub first-join-spec : {M : Type 1} → statement M
-first-join-spec = tie.close (tie.spec Inv-loop μ-loop (λ c κs. search needs) (λ c. search reading-start)
-    (λ c κs. search needs) (λ c κs. search needs) (λ c. search reading-ends) (λ c. search needs) (λ c. search needs)
-    (λ c. search reading-on) (λ c. search reading-ends))
+first-join-spec = tie.close (tie.spec Inv-loop μ-loop (λ c κs. search needs) (λ c. search reading-start) (λ c κs. search needs)
+    (λ c κs. search needs) (λ c. search reading-ends) (λ c. search needs) (λ c. search needs) (λ c. search reading-on)
+    (λ c. search reading-ends))

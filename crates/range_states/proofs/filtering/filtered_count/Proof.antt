@@ -11,6 +11,6 @@ abbrev μ-loop : tie.MeasureT-loop
 μ-loop s len start end n₀ k₀ n k = len - k
 
 pub filtered-count-spec : {M : Type 1} → statement M
-filtered-count-spec = tie.close (tie.spec Inv-loop μ-loop (λ c. search count-from) (λ c κs. search needs)
-    (λ c. search needs) (λ c κs. search needs) (λ c. search needs) (λ c. search needs) (λ c. search count-yes)
-    (λ c. search needs) (λ c. search count-no) (λ c. search count-end))
+filtered-count-spec = tie.close (tie.spec Inv-loop μ-loop (λ c. search count-from) (λ c κs. search needs) (λ c. search needs)
+    (λ c κs. search needs) (λ c. search needs) (λ c. search needs) (λ c. search count-yes) (λ c. search needs) (λ c. search count-no)
+    (λ c. search count-end))

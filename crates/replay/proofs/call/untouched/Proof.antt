@@ -10,5 +10,5 @@ abbrev μ-loop : tie.MeasureT-loop
 μ-loop log i₀ i = length log - i
 
 pub untouched-spec : {M : Type 1} → statement M
-untouched-spec = tie.close (tie.spec Inv-loop μ-loop (λ c. search needs) (λ c. search needs) (λ c. search needs)
-    (λ c. search needs) (λ c. search needs) (λ c. search needs) (λ c. search needs) (λ c. search needs))
+untouched-spec = tie.close (tie.spec Inv-loop μ-loop (λ c. search needs) (λ c. search needs) (λ c. search needs) (λ c. search needs)
+    (λ c. search needs) (λ c. search needs) (λ c. search needs) (λ c. search needs))

@@ -4,7 +4,8 @@ use Rattle.replay_lines.proofs.numbers.product.Statement.{statement}
 use Rattle.replay_lines.proofs.numbers.product.Tie as tie
 
 mul-result : tie.Need-mul-result
-mul-result c = let s = le-trans (mul-le-mul-right (c .args .b) (c .pre .0)) (mul-le-mul-left 4096 (c .pre .1)) in record { fits = omega (arith, s) }
+mul-result c = let s = le-trans (mul-le-mul-right (c .args .b) (c .pre .0)) (mul-le-mul-left 4096 (c .pre .1)) in
+    record { fits = omega (arith, s) }
 
 returns : tie.Need-returns
 returns c = let s = le-trans (mul-le-mul-right (c .args .b) (c .pre .0)) (mul-le-mul-left 4096 (c .pre .1)) in omega (arith, s)

@@ -10,5 +10,5 @@ abbrev μ-loop : tie.MeasureT-loop
 μ-loop out₀ bytes i₀ out i = length bytes - i
 
 pub text-spec : {M : Type 1} → statement M
-text-spec = tie.close (tie.spec Inv-loop μ-loop (λ c. search needs) (λ c. search needs) (λ c κs. search needs)
-    (λ c. search needs) (λ c. search needs) (λ c. search needs) (λ c. search needs))
+text-spec = tie.close (tie.spec Inv-loop μ-loop (λ c. search needs) (λ c. search needs) (λ c κs. search needs) (λ c. search needs)
+    (λ c. search needs) (λ c. search needs) (λ c. search needs))

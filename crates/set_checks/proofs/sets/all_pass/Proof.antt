@@ -10,9 +10,6 @@ Inv-loop table given n pass₀ i₀ pass i = (i ≤ n) × (pass ≡ true → All
 abbrev μ-loop : tie.MeasureT-loop
 μ-loop table given n pass₀ i₀ pass i = n - i
 
-loop-holds : tie.Need-loop-holds Inv-loop μ-loop
-loop-holds c = (omega arith, λ z. passes-nothing _ _)
-
 loop-again : tie.Need-loop-again Inv-loop μ-loop
 loop-again c = (omega arith, passes-more _ _ (c .before .before .loop .inv .1) (c .owned-passes .ensures))
 
@@ -20,5 +17,5 @@ returns : tie.Need-returns Inv-loop μ-loop
 returns c = let z : (c .before .loop .i) ≡ ((c .before .before .args) .n) = omega arith in rw (← z) (c .before .loop .inv .1)
 
 pub all-pass-spec : {M : Type 1} → statement M
-all-pass-spec = tie.close (tie.spec Inv-loop μ-loop loop-holds (λ c κs. search needs) (λ c. search needs)
-    (λ c. search needs) loop-again returns)
+all-pass-spec = tie.close (tie.spec Inv-loop μ-loop (λ c. (omega arith, λ z. passes-nothing _ _)) (λ c κs. search needs)
+    (λ c. search needs) (λ c. search needs) loop-again returns)

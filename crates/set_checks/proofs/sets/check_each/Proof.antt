@@ -11,18 +11,22 @@ Inv-loop table given n i₀ i = Left (ownedRefusal table given) n (setRefusal (h
 abbrev μ-loop : tie.MeasureT-loop
 μ-loop table given n i₀ i = n - i
 
-loop-holds : tie.Need-loop-holds Inv-loop μ-loop
-loop-holds c = set-begins _ _ (c .before .pre .1)
-
 loop-again : tie.Need-loop-again Inv-loop μ-loop
-loop-again c = turn (c .before .before .before .before .loop .inv) (c .before .before .before .loop-test .taken) ((c .before .before .check-owned .ensures) .is) ((c .enum-told .given) .1)
+loop-again c =
+    let at-loop-test = c .before .before .before in let at-loop = at-loop-test .before in
+    turn (at-loop .loop .inv) (at-loop-test .loop-test .taken) ((c .before .before .check-owned .ensures) .is) ((c .enum-told .given) .1)
 
 returns : tie.Need-returns Inv-loop μ-loop
-returns c = record { is = stop (c .before .before .before .before .before .loop .inv) (c .before .before .before .before .loop-test .taken) ((c .before .before .before .check-owned .ensures) .is) ((c .before .r .given) .1) }
+returns c =
+    let at-check-owned = c .before .before .before in let at-loop-test = at-check-owned .before in let at-loop = at-loop-test .before in
+    record {
+      is = stop (at-loop .loop .inv) (at-loop-test .loop-test .taken) ((at-check-owned .check-owned .ensures) .is)
+          ((c .before .r .given) .1);
+    }
 
 returns-2 : tie.Need-returns-2 Inv-loop μ-loop
 returns-2 c = record { is = end (c .before .loop .inv) (c .loop-test .left) }
 
 pub check-each-spec : {M : Type 1} → statement M
-check-each-spec = tie.close (tie.spec Inv-loop μ-loop (λ c. search needs) loop-holds (λ c κs. search needs)
+check-each-spec = tie.close (tie.spec Inv-loop μ-loop (λ c. search needs) (λ c. set-begins _ _ (c .before .pre .1)) (λ c κs. search needs)
     (λ c. search needs) (λ c. search needs) (λ c. search needs) loop-again (λ c. search needs) returns returns-2)

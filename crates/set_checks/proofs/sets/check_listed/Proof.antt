@@ -7,5 +7,4 @@ returns-2 : tie.Need-returns-2
 returns-2 c = listed-tells _ _ _ (c .before .if1 .left) (c .check-owned .ensures)
 
 pub check-listed-spec : {M : Type 1} → statement M
-check-listed-spec = tie.close (tie.spec (λ c. search needs) (λ c. past-tells _ _ _ (c .if1 .taken))
-    (λ c κs. search needs) returns-2)
+check-listed-spec = tie.close (tie.spec (λ c. search needs) (λ c. past-tells _ _ _ (c .if1 .taken)) (λ c κs. search needs) returns-2)

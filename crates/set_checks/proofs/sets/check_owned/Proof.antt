@@ -7,9 +7,12 @@ returns : tie.Need-returns
 returns c = other-tells _ _ _ (rw ((c .before .before .wide .ensures) .0) at (c .if1 .taken))
 
 returns-2 : tie.Need-returns-2
-returns-2 c = owned-tells _ _ _ (rw ((c .before .before .before .before .before .wide .ensures) .0) at (c .before .before .before .if1 .left)) (rw ((c .before .before .before .before .before .wide .ensures) .0) at (c .check-texture .ensures))
+returns-2 c =
+    let at-if1 = c .before .before .before in let at-wide = at-if1 .before .before in
+    owned-tells _ _ _ (rw ((at-wide .wide .ensures) .0) at (at-if1 .if1 .left))
+    (rw ((at-wide .wide .ensures) .0) at (c .check-texture .ensures))
 
 pub check-owned-spec : {M : Type 1} → statement M
-check-owned-spec = tie.close (tie.spec (λ c κs. search needs) (λ c. search needs) (λ c. search needs)
-    (λ c. search needs) returns (λ c. search needs) (λ c. search needs) (λ c. search needs) (λ c. search needs)
-    (λ c. search needs) (λ c. search needs) (λ c κs. search needs) returns-2)
+check-owned-spec = tie.close (tie.spec (λ c κs. search needs) (λ c. search needs) (λ c. search needs) (λ c. search needs) returns
+    (λ c. search needs) (λ c. search needs) (λ c. search needs) (λ c. search needs) (λ c. search needs) (λ c. search needs)
+    (λ c κs. search needs) returns-2)

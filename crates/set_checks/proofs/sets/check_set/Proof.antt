@@ -7,15 +7,24 @@ returns : tie.Need-returns
 returns c = set-differs _ _ (sym (c .before .same-flags .ensures) ∙ not-true _ (c .if1 .taken))
 
 check-each-requires : tie.Need-check-each-requires
-check-each-requires c κs = ((c .before .before .before .before .before .pre), (sym (c .before .before .before .before .same-flags .ensures) ∙ not-false _ (c .before .before .before .if1 .left)))
+check-each-requires c κs =
+    let at-if1 = c .before .before .before in let at-same-flags = at-if1 .before in let at-entry = at-same-flags .before in
+    ((at-entry .pre), (sym (at-same-flags .same-flags .ensures) ∙ not-false _ (at-if1 .if1 .left)))
 
 check-each-requires-2 : tie.Need-check-each-requires-2
-check-each-requires-2 c κs = ((c .before .before .before .before .before .before .before .before .before .pre), (sym (c .before .before .before .before .before .before .before .before .same-flags .ensures) ∙ not-false _ (c .before .before .before .before .before .before .before .if1 .left)))
+check-each-requires-2 c κs =
+    let at-if1 = c .before .before .before .before .before .before .before in let at-same-flags = at-if1 .before in
+    let at-entry = at-same-flags .before in
+    ((at-entry .pre), (sym (at-same-flags .same-flags .ensures) ∙ not-false _ (at-if1 .if1 .left)))
 
 returns-4 : tie.Need-returns-4
-returns-4 c = let z = ((c .before .before .wide .ensures) .0) in set-passes _ _ (sym (c .before .before .before .before .before .before .before .before .same-flags .ensures) ∙ not-false _ (c .before .before .before .before .before .before .before .if1 .left)) (c .before .before .before .before .if2 .left) (rw z at ((c .before .all-pass .ensures) (not-false _ (c .if3 .left))))
+returns-4 c =
+    let at-if2 = c .before .before .before .before in let at-if1 = at-if2 .before .before .before in let at-same-flags = at-if1 .before in
+    let z = ((c .before .before .wide .ensures) .0) in
+    set-passes _ _ (sym (at-same-flags .same-flags .ensures) ∙ not-false _ (at-if1 .if1 .left)) (at-if2 .if2 .left)
+    (rw z at ((c .before .all-pass .ensures) (not-false _ (c .if3 .left))))
 
 pub check-set-spec : {M : Type 1} → statement M
-check-set-spec = tie.close (tie.spec (λ c κs. search needs) returns (λ c. search needs) (λ c. search needs)
-    check-each-requires (λ c. search needs) (λ c. search needs) (λ c κs. search needs) (λ c κs. search needs)
-    check-each-requires-2 (λ c. search needs) returns-4)
+check-set-spec = tie.close (tie.spec (λ c κs. search needs) returns (λ c. search needs) (λ c. search needs) check-each-requires
+    (λ c. search needs) (λ c. search needs) (λ c κs. search needs) (λ c κs. search needs) check-each-requires-2 (λ c. search needs)
+    returns-4)

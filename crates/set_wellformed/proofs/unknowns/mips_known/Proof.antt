@@ -16,12 +16,14 @@ returns : tie.Need-returns Inv-loop μ-loop
 returns c = let q = (c .before .before .before .before .before .pre) in rw (mips-told _ (q .ready) (q .told) (q .top)) (testing-stop (c .before .before .before .loop .inv) (c .before .before .loop-test .taken) (c .before .mip-known .ensures) (c .if1 .taken))
 
 loop-again : tie.Need-loop-again Inv-loop μ-loop
-loop-again c = testing-turn (c .before .before .before .loop .inv) (c .before .before .loop-test .taken) (c .before .mip-known .ensures) (c .if1 .left)
+loop-again c =
+    let at-loop = c .before .before .before in
+    testing-turn (at-loop .loop .inv) (c .before .before .loop-test .taken) (c .before .mip-known .ensures) (c .if1 .left)
 
 returns-2 : tie.Need-returns-2 Inv-loop μ-loop
 returns-2 c = let q = (c .before .before .before .pre) in rw (mips-told _ (q .ready) (q .told) (q .top)) (testing-end (c .before .loop .inv) (c .loop-test .left))
 
 pub mips-known-spec : {M : Type 1} → statement M
 mips-known-spec = tie.close (tie.spec Inv-loop μ-loop (λ c. testing-start _ _ _)
-    (λ c κs. mip-of _ (c .before .before .before .pre) (c .loop-test .taken)) returns (λ c. search needs)
-    (λ c. search needs) loop-again returns-2)
+    (λ c κs. mip-of _ (c .before .before .before .pre) (c .loop-test .taken)) returns (λ c. search needs) (λ c. search needs) loop-again
+    returns-2)

@@ -11,11 +11,15 @@ abbrev μ-loop : tie.MeasureT-loop
 μ-loop s len u k₀ k = len - k
 
 returns : tie.Need-returns Inv-loop μ-loop
-returns c = knowing-stop (c .before .before .before .before .before .before .pre) (c .before .before .before .before .loop .inv) (c .before .before .before .loop-test .taken) (c .before .before .get .ensures) (c .if1 .taken)
+returns c =
+    let at-loop-test = c .before .before .before in let at-loop = at-loop-test .before in let at-entry = at-loop .before .before in
+    knowing-stop (at-entry .pre) (at-loop .loop .inv) (at-loop-test .loop-test .taken) (c .before .before .get .ensures) (c .if1 .taken)
 
 loop-again : tie.Need-loop-again Inv-loop μ-loop
-loop-again c = knowing-turn (c .before .before .before .before .before .before .pre) (c .before .before .before .before .loop .inv) (c .before .before .before .loop-test .taken) (c .before .before .get .ensures) (c .if1 .left)
+loop-again c =
+    let at-loop-test = c .before .before .before in let at-loop = at-loop-test .before in let at-entry = at-loop .before .before in
+    knowing-turn (at-entry .pre) (at-loop .loop .inv) (at-loop-test .loop-test .taken) (c .before .before .get .ensures) (c .if1 .left)
 
 pub ranges-known-spec : {M : Type 1} → statement M
-ranges-known-spec = tie.close (tie.spec Inv-loop μ-loop (λ c. knowing-start _ _ _) (λ c κs. search needs) returns
-    (λ c. search needs) (λ c. search needs) loop-again (λ c. knowing-end (c .before .loop .inv) (c .loop-test .left)))
+ranges-known-spec = tie.close (tie.spec Inv-loop μ-loop (λ c. knowing-start _ _ _) (λ c κs. search needs) returns (λ c. search needs)
+    (λ c. search needs) loop-again (λ c. knowing-end (c .before .loop .inv) (c .loop-test .left)))

@@ -13,6 +13,6 @@ returns-2 : tie.Need-returns-2
 returns-2 c = let a = (c .before .before .before .before .before .before .before .before .args) in let f = rw (c .before .before .before .before .before .before .before .before .pre .1 .1 .0) at (sym (c .before .before .plain-pair .ensures) ∙ (c .before .if1 .left)) in (rw (c .before .before .before .before .before .before .before .before .pre .1 .1 .0) at (c .ends-fit .ensures)) ∙ tracker-many (a .table .now) (a .starts .now) (a .ends .now) (a .i) (c .before .before .before .before .before .before .before .before .pre .1 .1 .1) f
 
 pub slot-fits-spec : {M : Type 1} → statement M
-slot-fits-spec = tie.close (tie.spec (λ c. search needs) (λ c. search needs) (λ c. search needs) (λ c. search needs)
-    (λ c. search needs) (λ c. search needs) (λ c. search needs) (λ c. search needs) (λ c. search needs)
-    (λ c κs. search needs) returns ends-fit-requires returns-2)
+slot-fits-spec = tie.close (tie.spec (λ c. search needs) (λ c. search needs) (λ c. search needs) (λ c. search needs) (λ c. search needs)
+    (λ c. search needs) (λ c. search needs) (λ c. search needs) (λ c. search needs) (λ c κs. search needs) returns ends-fit-requires
+    returns-2)

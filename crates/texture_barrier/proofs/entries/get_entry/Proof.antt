@@ -5,11 +5,12 @@ use Rattle.texture_barrier.proofs.entries.get_entry.Statement.{statemen
 use Rattle.texture_barrier.proofs.entries.get_entry.Tie as tie
 
 returns : tie.Need-returns
-returns c = get-entry-is (c .before .before .before .before .before .before .before .args .log .now) (c .before .before .before .before .before .before .before .args .n) (omega arith)
+returns c =
+    let at-entry = c .before .before .before .before .before .before .before in
+    get-entry-is (at-entry .args .log .now) (at-entry .args .n) (omega arith)
 
 pub get-entry-spec : {M : Type 1} → statement M
-get-entry-spec = tie.close (tie.spec (λ c. search needs) (λ c. search needs) (λ c. search needs) (λ c. search needs)
-    (λ c. search needs) (λ c. search needs) (λ c. search needs) (λ c. search needs) (λ c. search needs)
-    (λ c. search needs) (λ c. search needs) (λ c. search needs) (λ c. search needs) (λ c. search needs)
-    (λ c. search needs) (λ c. search needs) (λ c. search needs) (λ c. search needs) (λ c. search needs)
-    (λ c. search needs) (λ c. search needs) returns)
+get-entry-spec = tie.close (tie.spec (λ c. search needs) (λ c. search needs) (λ c. search needs) (λ c. search needs) (λ c. search needs)
+    (λ c. search needs) (λ c. search needs) (λ c. search needs) (λ c. search needs) (λ c. search needs) (λ c. search needs)
+    (λ c. search needs) (λ c. search needs) (λ c. search needs) (λ c. search needs) (λ c. search needs) (λ c. search needs)
+    (λ c. search needs) (λ c. search needs) (λ c. search needs) (λ c. search needs) returns)

@@ -15,9 +15,8 @@ returns c =
     rw (e1, e2, e3, e4, e5, e6) (put-entry-is _ _ _ (c .pre))
 
 pub put-entry-spec : {M : Type 1} → statement M
-put-entry-spec = tie.close (tie.spec (λ c. search needs) (λ c. search needs) (λ c. search needs) (λ c. search needs)
-    (λ c. search needs) (λ c. simp length-set (omega arith)) (λ c. search needs) (λ c. search needs)
-    (λ c. simp length-set (omega arith)) (λ c. search needs) (λ c. search needs) (λ c. simp length-set (omega arith))
+put-entry-spec = tie.close (tie.spec (λ c. search needs) (λ c. search needs) (λ c. search needs) (λ c. search needs) (λ c. search needs)
+    (λ c. simp length-set (omega arith)) (λ c. search needs) (λ c. search needs) (λ c. simp length-set (omega arith)) (λ c. search needs)
+    (λ c. search needs) (λ c. simp length-set (omega arith)) (λ c. search needs) (λ c. search needs) (λ c. simp length-set (omega arith))
     (λ c. search needs) (λ c. search needs) (λ c. simp length-set (omega arith)) (λ c. search needs) (λ c. search needs)
-    (λ c. simp length-set (omega arith)) (λ c. search needs) (λ c. search needs) (λ c. simp length-set (omega arith))
-    (λ c. search needs) returns)
+    (λ c. simp length-set (omega arith)) (λ c. search needs) returns)

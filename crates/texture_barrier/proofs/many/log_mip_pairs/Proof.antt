@@ -56,9 +56,8 @@ returns c =
     adding-end v (omega (arith, c .before .before .before .before .before .pre .0 .top, v .high)) (c .loop-test .left) (mips-done _ _ _ _)
 
 pub log-mip-pairs-spec : {M : Type 1} → statement M
-log-mip-pairs-spec = tie.close (tie.spec Inv-loop μ-loop (λ c. adding-start _ _ _ _ _ _ 0 (omega arith) refl)
-    (λ c κs. search needs) locate-requires (λ c. search needs) (λ c. (c .locate .ensures) .order)
-    (λ c. (c .locate .ensures) .order) (λ c. (c .locate .ensures) .end) (λ c κs. search needs) locate-requires-2
-    (λ c. search needs) (λ c. (c .locate2 .ensures) .order) (λ c. (c .locate2 .ensures) .order)
-    (λ c. (c .locate2 .ensures) .end) (λ c. omega arith) log-pairs-requires (λ c. omega arith) add-m (λ c. omega arith)
-    loop-again (λ c. search needs) returns)
+log-mip-pairs-spec = tie.close (tie.spec Inv-loop μ-loop (λ c. adding-start _ _ _ _ _ _ 0 (omega arith) refl) (λ c κs. search needs)
+    locate-requires (λ c. search needs) (λ c. (c .locate .ensures) .order) (λ c. (c .locate .ensures) .order)
+    (λ c. (c .locate .ensures) .end) (λ c κs. search needs) locate-requires-2 (λ c. search needs) (λ c. (c .locate2 .ensures) .order)
+    (λ c. (c .locate2 .ensures) .order) (λ c. (c .locate2 .ensures) .end) (λ c. omega arith) log-pairs-requires (λ c. omega arith) add-m
+    (λ c. omega arith) loop-again (λ c. search needs) returns)

@@ -27,8 +27,7 @@ log-run-requires c κs =
 
 loop-again : tie.Need-loop-again Inv-loop μ-loop
 loop-again c =
-    let at-loop = c .before .before .before .before .before .before .before .before in
-    let p = at-loop .before .before .before .pre in
+    let at-loop = c .before .before .before .before .before .before .before .before in let p = at-loop .before .before .before .pre in
     let b = c .before .before .before .before .before .before .before .loop-test .taken in
     let at-locate = c .before .before .before .before .before in
     let f = rw (at-locate .before .wide .ensures .0) at (at-locate .locate .ensures) in
@@ -42,6 +41,6 @@ returns c =
 
 pub log-mips-spec : {M : Type 1} → statement M
 log-mips-spec = tie.close (tie.spec Inv-loop μ-loop (λ c. adding-start _ _ _ _ _ _ _ (c .before .before .pre .1 .0) refl)
-    (λ c κs. search needs) locate-requires (λ c. search needs) (λ c. search needs) (λ c. search needs)
-    (λ c. search needs) (λ c. search needs) log-run-requires (λ c. search needs) (λ c. search needs) (λ c. search needs)
-    loop-again (λ c. search needs) returns)
+    (λ c κs. search needs) locate-requires (λ c. search needs) (λ c. search needs) (λ c. search needs) (λ c. search needs)
+    (λ c. search needs) log-run-requires (λ c. search needs) (λ c. search needs) (λ c. search needs) loop-again (λ c. search needs)
+    returns)

@@ -1,6 +1,6 @@
 -- `log_pairs` takes the given ranges one by one, each against all of the run.
 use Rattle.model.specs.Prelude.{_*_, _-_, arith, refl, needs}
-use Rattle.model.specs.declared.Range.{Range}
+use Rattle.model.specs.declared.{Range.Range}
 use Rattle.texture_barrier.specs.declared.mip.Step.the-variants.{Within}
 use Rattle.texture_barrier.specs.{Adds.{Adding, adding-start, adding-room, adding-turn, adding-end}, Steps.stepEntries}
 use Rattle.range_states.specs.View.{decode}
@@ -32,5 +32,5 @@ loop-again c =
 
 pub log-pairs-spec : {M : Type 1} → statement M
 log-pairs-spec = tie.close (tie.spec Inv-loop μ-loop (λ c. adding-start _ _ _ _ _ _ _ (omega arith) refl) (λ c κs. search needs)
-    (λ c. search needs) log-run-requires (λ c. search needs) (λ c. search needs) (λ c. search needs) loop-again
-    (λ c. search needs) (λ c. adding-end (c .before .loop .inv) (omega arith) (c .loop-test .left) (run-done _ _ _ _)))
+    (λ c. search needs) log-run-requires (λ c. search needs) (λ c. search needs) (λ c. search needs) loop-again (λ c. search needs)
+    (λ c. adding-end (c .before .loop .inv) (omega arith) (c .loop-test .left) (run-done _ _ _ _)))

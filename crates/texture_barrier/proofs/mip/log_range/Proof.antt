@@ -24,5 +24,4 @@ returns-2 c =
     (c .before .before .log-move .ensures)
 
 pub log-range-spec : {M : Type 1} → statement M
-log-range-spec = tie.close (tie.spec (λ c κs. search needs) returns (λ c κs. search needs) log-move-requires
-    (λ c. search needs) returns-2)
+log-range-spec = tie.close (tie.spec (λ c κs. search needs) returns (λ c κs. search needs) log-move-requires (λ c. search needs) returns-2)

@@ -27,5 +27,5 @@ loop-again c =
 
 pub log-run-spec : {M : Type 1} → statement M
 log-run-spec = tie.close (tie.spec Inv-loop μ-loop (λ c. adding-start _ _ _ _ _ _ _ (omega arith) refl) (λ c κs. search needs)
-    (λ c. search needs) log-range-requires (λ c. search needs) (λ c. search needs) (λ c. search needs) loop-again
-    (λ c. search needs) (λ c. adding-end (c .before .loop .inv) (omega arith) (c .loop-test .left) (run-done _ _ _ _)))
+    (λ c. search needs) log-range-requires (λ c. search needs) (λ c. search needs) (λ c. search needs) loop-again (λ c. search needs)
+    (λ c. adding-end (c .before .loop .inv) (omega arith) (c .loop-test .left) (run-done _ _ _ _)))

@@ -63,7 +63,7 @@ returns-3 c =
     (adds-within (rw (at-own .before .task-of .ensures) at (c .before .before .log-mips .ensures)) 1048576 (omega arith))
 
 pub barrier-texture-spec : {M : Type 1} → statement M
-barrier-texture-spec = tie.close (tie.spec (λ c κs. search needs) (λ c. search needs) (λ c. search needs)
-    (λ c. search needs) (λ c κs. search needs) barrier-use-requires (λ c. search needs) returns (λ c κs. search needs)
-    (λ c κs. search needs) (λ c. search needs) (λ c. search needs) (λ c. search needs) log-mip-pairs-requires
-    (λ c. search needs) returns-2 log-mips-requires (λ c. search needs) returns-3)
+barrier-texture-spec = tie.close (tie.spec (λ c κs. search needs) (λ c. search needs) (λ c. search needs) (λ c. search needs)
+    (λ c κs. search needs) barrier-use-requires (λ c. search needs) returns (λ c κs. search needs) (λ c κs. search needs)
+    (λ c. search needs) (λ c. search needs) (λ c. search needs) log-mip-pairs-requires (λ c. search needs) returns-2 log-mips-requires
+    (λ c. search needs) returns-3)

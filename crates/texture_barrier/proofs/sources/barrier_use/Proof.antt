@@ -38,6 +38,6 @@ returns-2 c =
     (rw (c .before .before .before .before .step-of .ensures, at-flags .before .task-of .ensures) at (c .before .before .log-mips .ensures))
 
 pub barrier-use-spec : {M : Type 1} → statement M
-barrier-use-spec = tie.close (tie.spec (λ c κs. search needs) (λ c κs. search needs) (λ c. search needs)
-    (λ c. search needs) (λ c. search needs) log-move-requires (λ c. search needs) returns (λ c κs. search needs)
-    log-mips-requires (λ c. search needs) returns-2)
+barrier-use-spec = tie.close (tie.spec (λ c κs. search needs) (λ c κs. search needs) (λ c. search needs) (λ c. search needs)
+    (λ c. search needs) log-move-requires (λ c. search needs) returns (λ c κs. search needs) log-mips-requires (λ c. search needs)
+    returns-2)

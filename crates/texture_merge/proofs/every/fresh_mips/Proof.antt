@@ -25,5 +25,5 @@ returns : tie.Need-returns Inv-loop μ-loop
 returns c = let p = (c .before .before .before .pre) in fresh-end (p .measured) (p .texture) (c .before .loop .inv .1) (p .all) (c .loop-test .left)
 
 pub fresh-mips-spec : {M : Type 1} → statement M
-fresh-mips-spec = tie.close (tie.spec Inv-loop μ-loop loop-holds fresh-mip-requires (λ c. search needs)
-    (λ c. search needs) loop-again (λ c. search needs) returns)
+fresh-mips-spec = tie.close (tie.spec Inv-loop μ-loop loop-holds fresh-mip-requires (λ c. search needs) (λ c. search needs) loop-again
+    (λ c. search needs) returns)

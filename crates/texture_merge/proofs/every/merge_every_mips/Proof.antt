@@ -34,6 +34,5 @@ returns-2 : tie.Need-returns-2 Inv-loop μ-loop
 returns-2 c = let p = (c .before .before .before .pre) in lap-end (p .0 .measured) (p .0 .texture) (c .before .loop .inv .1) (rw (p .1 .all) at (c .loop-test .left))
 
 pub merge-every-mips-spec : {M : Type 1} → statement M
-merge-every-mips-spec = tie.close (tie.spec Inv-loop μ-loop loop-holds merge-every-mip-requires (λ c. search needs)
-    met-at-requires same-length returns (λ c. search needs) (λ c. search needs) (λ c. search needs) loop-again
-    (λ c. search needs) returns-2)
+merge-every-mips-spec = tie.close (tie.spec Inv-loop μ-loop loop-holds merge-every-mip-requires (λ c. search needs) met-at-requires
+    same-length returns (λ c. search needs) (λ c. search needs) (λ c. search needs) loop-again (λ c. search needs) returns-2)

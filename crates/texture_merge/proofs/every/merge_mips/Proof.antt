@@ -36,6 +36,6 @@ unfolding mergeMip mergeRun
 returns-2 c = let p = (c .before .before .before .before .before .pre) in selector-end (p .0) (p .1) (c .before .loop .inv) (omega (arith, (c .loop-test .left), (c .before .before .before .wide .ensures) .0))
 
 pub merge-mips-spec : {M : Type 1} → statement M
-merge-mips-spec = tie.close (tie.spec Inv-loop μ-loop (λ c κs. search needs) (λ c κs. search needs) loop-holds
-    merge-mip-requires (λ c. search needs) met-at-requires same-length returns (λ c. search needs) (λ c. search needs)
-    (λ c. search needs) loop-again (λ c. search needs) returns-2)
+merge-mips-spec = tie.close (tie.spec Inv-loop μ-loop (λ c κs. search needs) (λ c κs. search needs) loop-holds merge-mip-requires
+    (λ c. search needs) met-at-requires same-length returns (λ c. search needs) (λ c. search needs) (λ c. search needs) loop-again
+    (λ c. search needs) returns-2)

@@ -24,5 +24,5 @@ returns : tie.Need-returns Inv-loop μ-loop
 returns c = let p = (c .before .before .before .before .before .pre) in edit-end (p .0) (p .1) (c .before .loop .inv) (omega (arith, (c .loop-test .left), (c .before .before .before .wide .ensures) .0))
 
 pub paint-mips-spec : {M : Type 1} → statement M
-paint-mips-spec = tie.close (tie.spec Inv-loop μ-loop (λ c κs. search needs) (λ c κs. search needs) loop-holds
-    paint-mip-requires (λ c. search needs) (λ c. search needs) loop-again (λ c. search needs) returns)
+paint-mips-spec = tie.close (tie.spec Inv-loop μ-loop (λ c κs. search needs) (λ c κs. search needs) loop-holds paint-mip-requires
+    (λ c. search needs) (λ c. search needs) loop-again (λ c. search needs) returns)

@@ -36,6 +36,6 @@ returns-2 : tie.Need-returns-2 Inv-loop μ-loop
 returns-2 c = let p = (c .before .before .before .before .pre) in let w = (c .before .loop .inv) in range-done (p .0) (p .1) _ _ (w .1) (c .loop-test .left)
 
 pub give-mip-spec : {M : Type 1} → statement M
-give-mip-spec = tie.close (tie.spec Inv-loop μ-loop loop-holds (λ c κs. search needs) piece-at-requires
-    take-piece-requires (λ c. search needs) same-length returns (λ c. search needs) (λ c. search needs)
-    (λ c. search needs) loop-again (λ c. search needs) returns-2)
+give-mip-spec = tie.close (tie.spec Inv-loop μ-loop loop-holds (λ c κs. search needs) piece-at-requires take-piece-requires
+    (λ c. search needs) same-length returns (λ c. search needs) (λ c. search needs) (λ c. search needs) loop-again (λ c. search needs)
+    returns-2)

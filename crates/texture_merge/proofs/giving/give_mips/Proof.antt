@@ -36,5 +36,5 @@ returns-2 c = let p = (c .before .before .before .before .pre) in let w = (c .be
 
 pub give-mips-spec : {M : Type 1} → statement M
 give-mips-spec = tie.close (tie.spec Inv-loop μ-loop loop-holds locate-requires (λ c. search needs) (λ c. search needs)
-    (λ c. search needs) (λ c. search needs) give-mip-requires (λ c. search needs) same-length returns
-    (λ c. search needs) (λ c. search needs) (λ c. search needs) loop-again (λ c. search needs) returns-2)
+    (λ c. search needs) (λ c. search needs) give-mip-requires (λ c. search needs) same-length returns (λ c. search needs)
+    (λ c. search needs) (λ c. search needs) loop-again (λ c. search needs) returns-2)

@@ -11,7 +11,9 @@ returns c = let e = sym (rw ((c .enum-told .given) .1) at (c .before .before .un
 
 returns-2 : tie.Need-returns-2
 unfolding spreadPiece
-returns-2 c = let e = sym (rw ((c .before .before .before .before .before .before .u .given) .1) at (c .before .before .before .before .before .before .before .before .unite .ensures)) in rw e record { conflict = refl; into = (c .before .before .update-mips .ensures) }
+returns-2 c =
+    let at-u = c .before .before .before .before .before .before in let at-unite = at-u .before .before in
+    let e = sym (rw ((at-u .u .given) .1) at (at-unite .unite .ensures)) in rw e record { conflict = refl; into = (c .before .before .update-mips .ensures) }
 
 pub spread-piece-spec : {M : Type 1} → statement M
 spread-piece-spec = tie.close (tie.spec (λ c κs. search needs) (λ c. search needs) (λ c. search needs) returns

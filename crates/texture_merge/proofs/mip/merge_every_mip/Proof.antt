@@ -9,7 +9,10 @@ merge-every-requires : tie.Need-merge-every-requires
 merge-every-requires c κs = lent-fits (c .before .before .before .before .pre) (c .before .locate .ensures)
 
 set-count-requires : tie.Need-set-count-requires
-set-count-requires c κs = count-fits (c .before .before .before .before .before .before .before .before .pre .ready) (c .before .before .before .before .before .locate .ensures) _ (c .before .before .before .merge-every .ensures .fits)
+set-count-requires c κs =
+    let at-merge-every = c .before .before .before in let at-locate = at-merge-every .before .before in
+    let at-entry = at-locate .before .before .before in
+    count-fits (at-entry .pre .ready) (at-locate .locate .ensures) _ (at-merge-every .merge-every .ensures .fits)
 
 returns : tie.Need-returns
 returns c =
@@ -22,6 +25,5 @@ returns c =
     }
 
 pub merge-every-mip-spec : {M : Type 1} → statement M
-merge-every-mip-spec = tie.close (tie.spec (λ c κs. locates (c .before .before .pre .ready)) (λ c. search needs)
-    (λ c. search needs) (λ c. search needs) (λ c. search needs) merge-every-requires set-count-requires
-    (λ c. search needs) returns)
+merge-every-mip-spec = tie.close (tie.spec (λ c κs. locates (c .before .before .pre .ready)) (λ c. search needs) (λ c. search needs)
+    (λ c. search needs) (λ c. search needs) merge-every-requires set-count-requires (λ c. search needs) returns)

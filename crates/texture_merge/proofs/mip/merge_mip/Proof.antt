@@ -9,7 +9,10 @@ merge-piece-requires : tie.Need-merge-piece-requires
 merge-piece-requires c κs = let p = c .before .before .before .before .pre in lent-room (p .tiled) (c .before .locate .ensures) _ _ _ (p .order) (p .inside)
 
 set-count-requires : tie.Need-set-count-requires
-set-count-requires c κs = count-fits (c .before .before .before .before .before .before .before .before .pre .tiled .ready) (c .before .before .before .before .before .locate .ensures) _ (c .before .before .before .merge-piece .ensures .fits)
+set-count-requires c κs =
+    let at-merge-piece = c .before .before .before in let at-locate = at-merge-piece .before .before in
+    let at-entry = at-locate .before .before .before in
+    count-fits (at-entry .pre .tiled .ready) (at-locate .locate .ensures) _ (at-merge-piece .merge-piece .ensures .fits)
 
 returns : tie.Need-returns
 returns c =
@@ -22,6 +25,5 @@ returns c =
     }
 
 pub merge-mip-spec : {M : Type 1} → statement M
-merge-mip-spec = tie.close (tie.spec (λ c κs. locates (c .before .before .pre .tiled .ready)) (λ c. search needs)
-    (λ c. search needs) (λ c. search needs) (λ c. search needs) merge-piece-requires set-count-requires
-    (λ c. search needs) returns)
+merge-mip-spec = tie.close (tie.spec (λ c κs. locates (c .before .before .pre .tiled .ready)) (λ c. search needs) (λ c. search needs)
+    (λ c. search needs) (λ c. search needs) merge-piece-requires set-count-requires (λ c. search needs) returns)

@@ -9,7 +9,10 @@ update-requires : tie.Need-update-requires
 update-requires c κs = let p = c .before .before .before .before .pre in lent-room (p .tiled) (c .before .locate .ensures) _ _ _ (p .order) (p .inside)
 
 set-count-requires : tie.Need-set-count-requires
-set-count-requires c κs = count-fits (c .before .before .before .before .before .before .before .before .pre .tiled .ready) (c .before .before .before .before .before .locate .ensures) _ (c .before .before .before .update .ensures .fits)
+set-count-requires c κs =
+    let at-update = c .before .before .before in let at-locate = at-update .before .before in
+    let at-entry = at-locate .before .before .before in
+    count-fits (at-entry .pre .tiled .ready) (at-locate .locate .ensures) _ (at-update .update .ensures .fits)
 
 returns : tie.Need-returns
 returns c =
@@ -19,6 +22,5 @@ returns c =
     rw (c .set-count .ensures) (mip-left ((q .tiled) .ready) l _ _ _ (u .long) (u .fits) (rw (lent-is (q .tiled) l) at (u .seen)))
 
 pub update-mip-spec : {M : Type 1} → statement M
-update-mip-spec = tie.close (tie.spec (λ c κs. locates (c .before .before .pre .tiled .ready)) (λ c. search needs)
-    (λ c. search needs) (λ c. search needs) (λ c. search needs) update-requires set-count-requires (λ c. search needs)
-    returns)
+update-mip-spec = tie.close (tie.spec (λ c κs. locates (c .before .before .pre .tiled .ready)) (λ c. search needs) (λ c. search needs)
+    (λ c. search needs) (λ c. search needs) update-requires set-count-requires (λ c. search needs) returns)

@@ -18,5 +18,5 @@ returns-3 : tie.Need-returns-3
 returns-3 c = let p = (c .before .before .before .before .before .before .before .before .before .before .before .pre) in part-left (p .0) (p .1) _ (sym (rw ((c .before .before .before .before .before .before .before .u .given) .1) at (c .before .before .before .before .before .before .before .before .before .unite .ensures))) (c .before .before .before .before .before .if1 .left) (c .before .before .break-up .ensures)
 
 pub merge-single-use-spec : {M : Type 1} → statement M
-merge-single-use-spec = tie.close (tie.spec (λ c κs. search needs) (λ c. search needs) (λ c. search needs) returns
-    (λ c κs. search needs) returns-2 break-up-requires (λ c. search needs) returns-3)
+merge-single-use-spec = tie.close (tie.spec (λ c κs. search needs) (λ c. search needs) (λ c. search needs) returns (λ c κs. search needs)
+    returns-2 break-up-requires (λ c. search needs) returns-3)

@@ -24,6 +24,6 @@ returns-3 : tie.Need-returns-3
 returns-3 c = let p = (c .before .before .before .before .before .before .before .before .before .before .pre) in part-merged (p .0) (p .1) ((c .before .before .before .before .before .before .if1 .left)) (c .before .before .before .before .before .if2 .left) (c .before .before .merge-mips .ensures)
 
 pub merge-use-spec : {M : Type 1} → statement M
-merge-use-spec = tie.close (tie.spec (λ c. search needs) (λ c. search needs) (λ c. search needs)
-    merge-single-use-requires (λ c. search needs) returns (λ c κs. search needs) merge-every-mips-requires
-    (λ c. search needs) returns-2 merge-mips-requires (λ c. search needs) returns-3)
+merge-use-spec = tie.close (tie.spec (λ c. search needs) (λ c. search needs) (λ c. search needs) merge-single-use-requires
+    (λ c. search needs) returns (λ c κs. search needs) merge-every-mips-requires (λ c. search needs) returns-2 merge-mips-requires
+    (λ c. search needs) returns-3)

@@ -4,5 +4,4 @@ use Rattle.texture_mips.proofs.{Painted.paint-is, painting.paint.Statem
 use Rattle.texture_mips.proofs.painting.paint.Tie as tie
 
 pub paint-spec : {M : Type 1} → statement M
-paint-spec = tie.close (tie.spec (λ c κs. search needs) (λ c κs. search needs) (λ c. search needs)
-    (λ c. search paint-is))
+paint-spec = tie.close (tie.spec (λ c κs. search needs) (λ c κs. search needs) (λ c. search needs) (λ c. search paint-is))

@@ -4,7 +4,10 @@ use Rattle.texture_mips.proofs.{Painted.update-is, painting.update.Stat
 use Rattle.texture_mips.proofs.painting.update.Tie as tie
 
 returns : tie.Need-returns
-returns c = update-is (c .before .before .before .before .before .before .before .before .before .args .start) (c .before .before .before .before .before .before .before .before .before .args .end) (c .before .before .before .before .before .before .before .before .before .args .unknown) (c .before .before .before .before .before .before .before .before .before .args .state) (c .before .before .before .before .before .before .before .before .before .args .len) (c .before .before .before .before .before .before .paint .ensures) (c .before .before .coalesce .ensures)
+returns c =
+    let at-paint = c .before .before .before .before .before .before in let at-entry = at-paint .before .before .before in
+    update-is (at-entry .args .start) (at-entry .args .end) (at-entry .args .unknown) (at-entry .args .state) (at-entry .args .len)
+    (at-paint .paint .ensures) (c .before .before .coalesce .ensures)
 
 pub update-spec : {M : Type 1} → statement M
 update-spec = tie.close (tie.spec (λ c κs. search needs) (λ c κs. search needs) (λ c. search needs) returns)

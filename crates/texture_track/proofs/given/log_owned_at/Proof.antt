@@ -6,8 +6,7 @@ use Rattle.texture_track.proofs.given.log_owned_at.Tie as tie
 
 log-given-at-requires : tie.Need-log-given-at-requires
 log-given-at-requires c κs =
-    let p = (c .before .before .before .before .before .before .before .before .pre) in
-    let o = (c .before .before .before .if1 .left) in
+    let p = (c .before .before .before .before .before .before .before .before .pre) in let o = (c .before .before .before .if1 .left) in
     (p .0 .ready (rw (ne-eqb _ _ o)), (p .0 .given (rw (ne-eqb _ _ o)), (p .1 .0, rw (ne-eqb _ _ o) at (p .1 .1))))
 
 pub log-owned-at-spec : {M : Type 1} → statement M

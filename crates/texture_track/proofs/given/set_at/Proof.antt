@@ -49,8 +49,8 @@ set-owned-at-requires-2 c κs =
     c .before .before .before .before .before .before .before .before .before .before .before .before .before .before .pre
 
 pub set-at-spec : {M : Type 1} → statement M
-set-at-spec = tie.close (tie.spec (λ c. search needs) (λ c. search needs) (λ c. search needs) returns
-    (λ c. search needs) (λ c. search needs) (λ c. search needs) set-owned-at-requires (λ c. search needs)
-    (λ c. search needs) (λ c. c .before .before .before .before .set-owned-at .ensures) both-single-requires
-    add-set-state mul-set-state element-copy-out-set-state set-state-requires returns-3 set-owned-at-requires-2
-    (λ c. search needs) (λ c. search needs) (λ c. c .before .before .before .before .set-owned-at2 .ensures))
+set-at-spec = tie.close (tie.spec (λ c. search needs) (λ c. search needs) (λ c. search needs) returns (λ c. search needs)
+    (λ c. search needs) (λ c. search needs) set-owned-at-requires (λ c. search needs) (λ c. search needs)
+    (λ c. c .before .before .before .before .set-owned-at .ensures) both-single-requires add-set-state mul-set-state
+    element-copy-out-set-state set-state-requires returns-3 set-owned-at-requires-2 (λ c. search needs) (λ c. search needs)
+    (λ c. c .before .before .before .before .set-owned-at2 .ensures))

@@ -37,6 +37,6 @@ returns-2 c =
     tracker-old (p .0) _ _ _ (at-if1 .if1 .left) (c .before .before .before .before .update-given .ensures)
 
 pub set-given-at-spec : {M : Type 1} → statement M
-set-given-at-spec = tie.close (tie.spec (λ c. search needs) (λ c. search needs) (λ c. search needs)
-    (λ c κs. search needs) insert-given-requires insert-given-requires-2 (λ c. search needs) (λ c. search needs) returns
-    update-given-requires (λ c. search needs) (λ c. search needs) returns-2)
+set-given-at-spec = tie.close (tie.spec (λ c. search needs) (λ c. search needs) (λ c. search needs) (λ c κs. search needs)
+    insert-given-requires insert-given-requires-2 (λ c. search needs) (λ c. search needs) returns update-given-requires
+    (λ c. search needs) (λ c. search needs) returns-2)

@@ -20,6 +20,6 @@ returns-2 c =
     rw (ne-eqb _ _ own) (tracker-named (only-owned given own) (c .before .before .before .before .set-given-at .ensures))
 
 pub set-owned-at-spec : {M : Type 1} → statement M
-set-owned-at-spec = tie.close (tie.spec (λ c. search needs) (λ c. search needs) (λ c. search needs) returns
-    (λ c. search needs) (λ c. search needs) (λ c. search needs) (λ c. search needs) (λ c. search needs)
-    (λ c. search needs) set-given-at-requires (λ c. search needs) (λ c. search needs) returns-2)
+set-owned-at-spec = tie.close (tie.spec (λ c. search needs) (λ c. search needs) (λ c. search needs) returns (λ c. search needs)
+    (λ c. search needs) (λ c. search needs) (λ c. search needs) (λ c. search needs) (λ c. search needs) set-given-at-requires
+    (λ c. search needs) (λ c. search needs) returns-2)

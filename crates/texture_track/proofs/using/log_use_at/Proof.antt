@@ -7,9 +7,7 @@ use Rattle.texture_track.proofs.using.log_use_at.Tie as tie
 
 barrier-use-requires : tie.Need-barrier-use-requires
 barrier-use-requires c κs =
-    let p = c .before .before .before .before .before .before .pre in
-    let o = c .before .if1 .left in
-    let u = p .1 .0 in
+    let p = c .before .before .before .before .before .before .pre in let o = c .before .if1 .left in let u = p .1 .0 in
     (half-held (p .0 .end) o, ((selector-within (u .selector), u .whole), (p .1 .1 .0, rw (ne-eqb _ _ o) at (p .1 .1 .1))))
 
 pub log-use-at-spec : {M : Type 1} → statement M

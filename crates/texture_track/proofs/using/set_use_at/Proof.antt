@@ -52,6 +52,5 @@ returns-3 c =
 
 pub set-use-at-spec : {M : Type 1} → statement M
 set-use-at-spec = tie.close (tie.spec (λ c. search needs) (λ c. search needs) (λ c. search needs) (λ c κs. search needs)
-    insert-use-requires insert-use-requires-2 (λ c. search needs) (λ c. search needs) returns update-state-requires
-    (λ c. search needs) (λ c. search needs) returns-2 update-use-requires (λ c. search needs) (λ c. search needs)
-    returns-3)
+    insert-use-requires insert-use-requires-2 (λ c. search needs) (λ c. search needs) returns update-state-requires (λ c. search needs)
+    (λ c. search needs) returns-2 update-use-requires (λ c. search needs) (λ c. search needs) returns-3)

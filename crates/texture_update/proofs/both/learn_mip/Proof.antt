@@ -16,6 +16,5 @@ returns c = let p = (c .before .before .before .before .before .before .before .
 
 pub learn-mip-spec : {M : Type 1} → statement M
 learn-mip-spec = tie.close (tie.spec (λ c κs. locates (c .before .before .before .pre .start .ready)) locate-requires-2
-    (λ c. search needs) (λ c. search needs) (λ c. search needs) (λ c. search needs) (λ c. search needs)
-    (λ c. search needs) (λ c. search needs) (λ c. search needs) learn-requires (λ c κs. search needs)
-    (λ c. search needs) returns)
+    (λ c. search needs) (λ c. search needs) (λ c. search needs) (λ c. search needs) (λ c. search needs) (λ c. search needs)
+    (λ c. search needs) (λ c. search needs) learn-requires (λ c κs. search needs) (λ c. search needs) returns)

@@ -24,5 +24,5 @@ returns : tie.Need-returns Inv-loop μ-loop
 returns c = let p = (c .before .before .before .before .pre) in lesson-end _ _ (p .0) (c .before .loop .inv .1) (omega (arith, (c .loop-test .left), p .1))
 
 pub learn-mips-spec : {M : Type 1} → statement M
-learn-mips-spec = tie.close (tie.spec Inv-loop μ-loop loop-holds learn-mip-requires (λ c. search needs)
-    (λ c. search needs) loop-again (λ c. search needs) returns)
+learn-mips-spec = tie.close (tie.spec Inv-loop μ-loop loop-holds learn-mip-requires (λ c. search needs) (λ c. search needs) loop-again
+    (λ c. search needs) returns)

@@ -24,5 +24,4 @@ returns c = let p = (c .before .before .before .before .before .before .pre) in 
 
 pub update-both-mips-spec : {M : Type 1} → statement M
 update-both-mips-spec = tie.close (tie.spec Inv-loop μ-loop (λ c κs. search needs) (λ c κs. search needs) loop-holds
-    update-both-mip-requires (λ c. search needs) (λ c. search needs) loop-again (λ c. search needs) (λ c. search needs)
-    returns)
+    update-both-mip-requires (λ c. search needs) (λ c. search needs) loop-again (λ c. search needs) (λ c. search needs) returns)

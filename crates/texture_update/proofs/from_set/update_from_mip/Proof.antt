@@ -30,6 +30,5 @@ returns : tie.Need-returns Inv-loop μ-loop
 returns c = let p = (c .before .before .before .before .before .pre) in let w = (c .before .loop .inv) in range-done (p .0) (p .1) (w .1) (c .loop-test .left)
 
 pub update-from-mip-spec : {M : Type 1} → statement M
-update-from-mip-spec = tie.close (tie.spec Inv-loop μ-loop loop-holds (λ c κs. search needs) piece-at-requires
-    update-piece-requires (λ c. search needs) (λ c. search needs) loop-again (λ c. search needs) (λ c. search needs)
-    returns)
+update-from-mip-spec = tie.close (tie.spec Inv-loop μ-loop loop-holds (λ c κs. search needs) piece-at-requires update-piece-requires
+    (λ c. search needs) (λ c. search needs) loop-again (λ c. search needs) (λ c. search needs) returns)

@@ -31,6 +31,6 @@ returns : tie.Need-returns Inv-loop μ-loop
 returns c = let p = (c .before .before .before .before .before .pre) in let w = (c .before .loop .inv) in mip-done (p .0) (p .1) (w .1) (c .loop-test .left)
 
 pub update-from-mips-spec : {M : Type 1} → statement M
-update-from-mips-spec = tie.close (tie.spec Inv-loop μ-loop loop-holds locate-requires (λ c. search needs)
-    (λ c. search needs) (λ c. search needs) (λ c. search needs) update-from-mip-requires (λ c. search needs)
-    (λ c. search needs) loop-again (λ c. search needs) (λ c. search needs) returns)
+update-from-mips-spec = tie.close (tie.spec Inv-loop μ-loop loop-holds locate-requires (λ c. search needs) (λ c. search needs)
+    (λ c. search needs) (λ c. search needs) update-from-mip-requires (λ c. search needs) (λ c. search needs) loop-again
+    (λ c. search needs) (λ c. search needs) returns)

@@ -7,28 +7,51 @@ use Rattle.texture_merge.proofs.Breaking.{break-every}
 use Rattle.texture_update.proofs.from_set.update_given.Tie as tie
 
 update-state-requires : tie.Need-update-state-requires
-update-state-requires c κs = from-use (c .before .before .before .before .before .before .before .before .before .pre) _ (c .before .before .before .if1 .taken)
+update-state-requires c κs =
+    let at-if1 = c .before .before .before in let at-entry = at-if1 .before .before .before .before .before .before in
+    from-use (at-entry .pre) _ (at-if1 .if1 .taken)
 
 returns : tie.Need-returns
-returns c = state-given (c .before .before .before .before .before .before .before .before .before .before .before .before .pre) (c .before .before .before .before .before .before .if1 .taken) (c .before .before .update-state .ensures)
+returns c =
+    let at-if1 = c .before .before .before .before .before .before in
+    let at-entry = at-if1 .before .before .before .before .before .before in
+    state-given (at-entry .pre) (at-if1 .if1 .taken) (c .before .before .update-state .ensures)
 
 update-from-mips-requires : tie.Need-update-from-mips-requires
-update-from-mips-requires c κs = rw ((c .before .before .before .before .before .before .wide .ensures) .0) (pieces-ready (c .before .before .before .before .before .before .before .before .before .before .before .before .before .pre) (c .before .before .before .before .before .before .before .if1 .left) (c .before .before .before .if2 .taken))
+update-from-mips-requires c κs =
+    let at-if2 = c .before .before .before in let at-wide = at-if2 .before .before .before in let at-if1 = at-wide .before in
+    let at-entry = at-if1 .before .before .before .before .before .before in
+    rw ((at-wide .wide .ensures) .0) (pieces-ready (at-entry .pre) (at-if1 .if1 .left) (at-if2 .if2 .taken))
 
 returns-2 : tie.Need-returns-2
-returns-2 c = pieces-done (c .before .before .before .before .before .before .before .before .before .before .before .before .before .before .before .before .before .before .pre) (c .before .before .before .before .before .before .before .before .before .before .before .before .if1 .left) (c .before .before .before .before .before .before .before .before .if2 .taken) (c .before .before .before .before .update-from-mips .ensures)
+returns-2 c =
+    let at-update-from-mips = c .before .before .before .before in let at-if2 = at-update-from-mips .before .before .before .before in
+    let at-if1 = at-if2 .before .before .before .before in let at-entry = at-if1 .before .before .before .before .before .before in
+    pieces-done (at-entry .pre) (at-if1 .if1 .left) (at-if2 .if2 .taken) (at-update-from-mips .update-from-mips .ensures)
 
 fresh-mips-requires : tie.Need-fresh-mips-requires
-fresh-mips-requires c κs = rw ((c .before .before .set-state .ensures), (c .before .before .before .before .before .before .before .wide .ensures) .0) (break-every ((c .before .before .before .before .before .before .before .before .before .before .before .before .before .before .pre) .end .ready) ((c .before .before .before .before .before .before .before .before .before .before .before .before .before .before .pre) .flags))
+fresh-mips-requires c κs =
+    let at-wide = c .before .before .before .before .before .before .before in
+    let at-entry = at-wide .before .before .before .before .before .before .before in
+    rw ((c .before .before .set-state .ensures), (at-wide .wide .ensures) .0) (break-every ((at-entry .pre) .end .ready) ((at-entry .pre) .flags))
 
 give-mips-requires : tie.Need-give-mips-requires
-give-mips-requires c κs = rw ((c .before .before .before .before .before .before .before .before .before .before .before .before .wide .ensures) .0) (cover-ready (c .before .before .before .before .before .before .before .before .before .before .before .before .before .before .before .before .before .before .before .pre) (c .before .before .before .before .before .before .before .before .before .before .before .before .before .if1 .left) refl (c .before .before .before .before .before .before .before .before .before .if2 .left) (rw ((c .before .before .before .before .before .before .before .set-state .ensures), (c .before .before .before .before .before .before .before .before .before .before .before .before .wide .ensures) .0) at (c .before .before .before .before .fresh-mips .ensures)))
+give-mips-requires c κs =
+    let at-fresh-mips = c .before .before .before .before in let at-set-state = at-fresh-mips .before .before .before in
+    let at-if2 = at-set-state .before .before in let at-wide = at-if2 .before .before .before in let at-if1 = at-wide .before in
+    let at-entry = at-if1 .before .before .before .before .before .before in
+    rw ((at-wide .wide .ensures) .0) (cover-ready (at-entry .pre) (at-if1 .if1 .left) refl (at-if2 .if2 .left) (rw ((at-set-state .set-state .ensures), (at-wide .wide .ensures) .0) at (at-fresh-mips .fresh-mips .ensures)))
 
 returns-3 : tie.Need-returns-3
-returns-3 c = cover-done (c .before .before .before .before .before .before .before .before .before .before .before .before .before .before .before .before .before .before .before .before .before .before .pre) (c .before .before .before .before .before .before .before .before .before .before .before .before .before .before .before .before .if1 .left) refl (c .before .before .before .before .before .before .before .before .before .before .before .before .if2 .left) (rw ((c .before .before .before .before .before .before .before .before .before .before .set-state .ensures), (c .before .before .before .before .before .before .before .before .before .before .before .before .before .before .before .wide .ensures) .0) at (c .before .before .before .before .before .before .before .fresh-mips .ensures)) (c .before .before .give-mips .ensures)
+returns-3 c =
+    let at-fresh-mips = c .before .before .before .before .before .before .before in
+    let at-set-state = at-fresh-mips .before .before .before in let at-if2 = at-set-state .before .before in
+    let at-wide = at-if2 .before .before .before in let at-if1 = at-wide .before in
+    let at-entry = at-if1 .before .before .before .before .before .before in
+    cover-done (at-entry .pre) (at-if1 .if1 .left) refl (at-if2 .if2 .left) (rw ((at-set-state .set-state .ensures), (at-wide .wide .ensures) .0) at (at-fresh-mips .fresh-mips .ensures)) (c .before .before .give-mips .ensures)
 
 pub update-given-spec : {M : Type 1} → statement M
-update-given-spec = tie.close (tie.spec (λ c. search needs) (λ c. search needs) (λ c. search needs)
-    update-state-requires (λ c. search needs) (λ c. search needs) returns (λ c κs. search needs) (λ c. search needs)
-    (λ c. search needs) (λ c. search needs) update-from-mips-requires (λ c. search needs) (λ c. search needs) returns-2
-    (λ c κs. search needs) fresh-mips-requires give-mips-requires (λ c. search needs) returns-3)
+update-given-spec = tie.close (tie.spec (λ c. search needs) (λ c. search needs) (λ c. search needs) update-state-requires
+    (λ c. search needs) (λ c. search needs) returns (λ c κs. search needs) (λ c. search needs) (λ c. search needs) (λ c. search needs)
+    update-from-mips-requires (λ c. search needs) (λ c. search needs) returns-2 (λ c κs. search needs) fresh-mips-requires
+    give-mips-requires (λ c. search needs) returns-3)

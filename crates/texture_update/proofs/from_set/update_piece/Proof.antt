@@ -11,15 +11,20 @@ update-mips-requires : tie.Need-update-mips-requires
 update-mips-requires c κs = let p = (c .before .before .before .before .before .before .before .before .before .pre) in (end-ready (p .0), p .1)
 
 returns-2 : tie.Need-returns-2
-returns-2 c = piece-kept ((c .before .before .before .before .before .before .before .before .before .before .before .before .pre) .0) _ (c .before .before .before .before .before .before .before .before .if1 .left) (c .before .before .before .before .before .if2 .taken) (c .before .before .update-mips .ensures)
+returns-2 c =
+    let at-if2 = c .before .before .before .before .before in let at-if1 = at-if2 .before .before .before in
+    let at-entry = at-if1 .before .before .before .before in
+    piece-kept ((at-entry .pre) .0) _ (at-if1 .if1 .left) (at-if2 .if2 .taken) (c .before .before .update-mips .ensures)
 
 update-both-mips-requires : tie.Need-update-both-mips-requires
 update-both-mips-requires c κs = let p = (c .before .before .before .before .before .before .before .before .before .before .pre) in (both-ready (p .0) (c .before .before .before .if2 .left), p .1)
 
 returns-3 : tie.Need-returns-3
-returns-3 c = piece-learnt ((c .before .before .before .before .before .before .before .before .before .before .before .before .before .before .before .pre) .0) _ (c .before .before .before .before .before .before .before .before .before .before .before .if1 .left) (c .before .before .before .before .before .before .before .before .if2 .left) (c .before .before .before .before .update-both-mips .ensures)
+returns-3 c =
+    let at-update-both-mips = c .before .before .before .before in let at-if2 = at-update-both-mips .before .before .before .before in
+    let at-if1 = at-if2 .before .before .before in let at-entry = at-if1 .before .before .before .before in
+    piece-learnt ((at-entry .pre) .0) _ (at-if1 .if1 .left) (at-if2 .if2 .left) (at-update-both-mips .update-both-mips .ensures)
 
 pub update-piece-spec : {M : Type 1} → statement M
-update-piece-spec = tie.close (tie.spec returns (λ c. search needs) (λ c. search needs) (λ c. search needs)
-    update-mips-requires (λ c. search needs) returns-2 update-both-mips-requires (λ c. search needs) (λ c. search needs)
-    returns-3)
+update-piece-spec = tie.close (tie.spec returns (λ c. search needs) (λ c. search needs) (λ c. search needs) update-mips-requires
+    (λ c. search needs) returns-2 update-both-mips-requires (λ c. search needs) (λ c. search needs) returns-3)

@@ -24,6 +24,6 @@ returns-3 : tie.Need-returns-3
 returns-3 c = let p = (c .before .before .before .before .before .before .before .before .before .before .before .before .before .before .before .before .pre) in part-learnt (p .0) (p .1) (c .before .before .before .before .before .before .before .before .before .before .if1 .left) (c .before .before .before .before .before .before .before .before .if2 .left) (c .before .before .before .before .update-both-mips .ensures)
 
 pub update-use-spec : {M : Type 1} → statement M
-update-use-spec = tie.close (tie.spec (λ c. search needs) (λ c. search needs) (λ c. search needs) (λ c. search needs)
-    (λ c. search needs) (λ c. search needs) break-up-requires (λ c. search needs) returns update-mips-requires
-    (λ c. search needs) returns-2 update-both-mips-requires (λ c. search needs) (λ c. search needs) returns-3)
+update-use-spec = tie.close (tie.spec (λ c. search needs) (λ c. search needs) (λ c. search needs) (λ c. search needs) (λ c. search needs)
+    (λ c. search needs) break-up-requires (λ c. search needs) returns update-mips-requires (λ c. search needs) returns-2
+    update-both-mips-requires (λ c. search needs) (λ c. search needs) returns-3)

@@ -7,8 +7,9 @@ returns-2 : tie.Need-returns-2
 returns-2 c = let m = sym (c .before .meets .ensures) ∙ (c .if2 .taken) in search (tests, m)
 
 returns-3 : tie.Need-returns-3
-returns-3 c = let m = sym (c .before .before .meets .ensures) ∙ (c .before .if2 .left) in rw (ne-eqb _ _ (c .before .before .before .if1 .left), m) (c .meets2 .ensures)
+returns-3 c =
+    let at-if1 = c .before .before .before in
+    let m = sym (c .before .before .meets .ensures) ∙ (c .before .if2 .left) in rw (ne-eqb _ _ (at-if1 .if1 .left), m) (c .meets2 .ensures)
 
 pub state-reserved-spec : {M : Type 1} → statement M
-state-reserved-spec = tie.close (tie.spec (λ c. search tests) (λ c κs. search needs) returns-2 (λ c κs. search needs)
-    returns-3)
+state-reserved-spec = tie.close (tie.spec (λ c. search tests) (λ c κs. search needs) returns-2 (λ c κs. search needs) returns-3)
