@@ -8,7 +8,7 @@ import glob
 import re
 import sys
 
-WIDTH = 138
+WIDTH = 140
 LITTLE = 48
 
 
@@ -54,9 +54,9 @@ def laid_out(text):
 
 
 for path in sys.argv[1:] or glob.glob('crates/*/proofs/**/Proof.antt', recursive=True):
-    with open(path) as file:
+    with open(path, encoding='utf8') as file:
         before = file.read()
     after = laid_out(inlined(before))
     if after != before:
-        with open(path, 'w') as file:
+        with open(path, 'w', encoding='utf8') as file:
             file.write(after)

@@ -7,12 +7,15 @@
 - Imports of a crate stand together: `use Rattle.model.specs.{Sets.{Slot, Set}, Base.Stop}`.
 - In a need's proof with a line that is too long, chains of `c .before` get a name by `let`.
 - A line over 140 characters is broken: an import into two, a signature at its arrows, a comment between words, a term where the fewest
-  brackets are open. rt fmt lays a bracketed list that is broken one element a line, so a break inside one comes last.
+  brackets are open. rt fmt lays a bracketed list that is broken one element a line, so a break inside one comes last. A chain of
+  `.before` is never broken: what is too long still needs a name by hand.
 """
 import re
 import sys
 
 WIDTH = 140
+LEAST = 24  # characters that stay on a line that is broken
+SHORT = 30  # a rest that is shorter is better longer
 OPEN, CLOSE = "([{⌜", ")]}⌝"
 
 
@@ -59,7 +62,7 @@ def import_lines(crate, modules, width=WIDTH):
         if line and len(import_line(crate, line + [(module, names)])) > width:
             lines.append(import_line(crate, line))
             line = []
-        while len(import_line(crate, [(module, names)])) > width:
+        while len(names) > 1 and len(import_line(crate, [(module, names)])) > width:
             k = len(names)
             while k > 1 and len(import_line(crate, [(module, names[:k])])) > width:
                 k -= 1
@@ -102,7 +105,7 @@ CHAIN = re.compile(r"(?<![\w·-])c((?: \.before){3,})(?: \.([^\s()\[\]{},;]+))?"
 
 def chain_names(text):
     """Chains by their length, named after what is read at their end; none where some have names already."""
-    if all(len(line) <= WIDTH for line in text.split("\n")) or re.search(r"let \S+ = \(?c \.before", text):
+    if all(len(line) <= WIDTH for line in text.split("\n")) or re.search(r"let \S+ =\s+\(?c \.before", text):
         return {}
     found = {}
     for m in CHAIN.finditer(text):
@@ -120,35 +123,36 @@ def chain_names(text):
     return names
 
 
+def with_names(head, body, names):
+    """A need whose chains have names: the shorter ones first, each from the one before it."""
+    lets, last, reached = "", "c", 0
+    for length, name in sorted(names.items()):
+        one = "let %s = %s in" % (name, last + " .before" * (length - reached))
+        lets += (" " if lets and len(lets.split("\n")[-1]) + len(one) < WIDTH - 4 else "\n") + one
+        last, reached = name, length
+    read = lambda c: names.get(c[1].count(".before"), "c" + c[1]) + (" ." + c[2] if c[2] else "")
+    body = [CHAIN.sub(read, line) for line in body if line]
+    return [head + " ="] + ["    " + l for l in lets.strip().split("\n")] + [l if l.startswith(" ") else "    " + l for l in body]
+
+
 def named(lines):
     out, i = [], 0
     while i < len(lines):
         m, j = NEED.match(lines[i]), i + 1
         while j < len(lines) and lines[j].startswith(" "):
             j += 1
-        text = "\n".join([lines[i]] + lines[i + 1:j])
+        text = "\n".join(lines[i:j])
         names = chain_names(text) if m and "λ c" not in text else {}
-        if not names:
-            out += lines[i:j]
-        else:
-            lets, last, reached = "", "c", 0
-            for length, name in sorted(names.items()):
-                one = "let %s = %s in" % (name, last + " .before" * (length - reached))
-                lets += (" " if lets and len(lets.split("\n")[-1]) + len(one) < WIDTH - 4 else "\n") + one
-                last, reached = name, length
-            body = "\n".join([m[2].strip()] + lines[i + 1:j])
-            body = CHAIN.sub(lambda c: names.get(c[1].count(".before"), "c" + c[1]) + (" ." + c[2] if c[2] else ""), body)
-            out += [m[1] + " ="] + ["    " + l for l in lets.strip().split("\n")]
-            out += [l if l.startswith(" ") else "    " + l for l in body.split("\n") if l]
+        out += with_names(m[1], [m[2].strip()] + lines[i + 1:j], names) if names else lines[i:j]
         i = j
     return out
 
 
 # ---- Long lines
 
-BEFORE = ("in ", "where", ".", ": ", "= ", "then ", "else ")
-AFTER = ("λ", "let", " as", "→", "∙", "≡", "×", "++", ":", "+", "-", "*", "/", "≤", "<", "&&", "||", "⊎", "∷")
-OPERATORS = ("→ ", "∙ ", "≡ ", "× ", "⊎ ", "++ ", "&& ", "|| ", "∷ ")
+BEFORE = ("in ", "where", ".", ": ", "= ", "- ", "+ ", "* ", "/ ", "≤ ", "< ")
+AFTER = ("λ", "let", " as", "→", "∙", "≡", "×", "++", ":", "+", "-", "*", "/", "≤", "<", "&&", "||", "⊎", "∷", "then", "else", "Type")
+OPERATORS = ("→ ", "∙ ", "≡ ", "× ", "⊎ ", "++ ", "&& ", "|| ", "∷ ", "then ", "else ")
 
 
 def levels(s):
@@ -164,7 +168,7 @@ def levels(s):
             stack.pop()
         elif ch in ",;":
             lists.add(stack[-1])
-        elif ch == " " and s[i + 1:].startswith(OPERATORS):
+        elif ch == " " and s[i + 1:].startswith(OPERATORS + ("- ", "+ ", "* ")):
             infix.add(stack[-1])
     return opened, lists - {-1}, infix
 
@@ -183,17 +187,18 @@ def breaks(s):
         elif b.startswith("∙ ") or a.endswith(" ="):
             cost = 1
         elif b.startswith(OPERATORS) or a.endswith((",", ".")):
-            cost = 3
+            cost = 2
         else:
             cost = (4 if b[:1] in "({" else 6) + (6 if stack[-1] in infix else 0)
-        yield i + 1, 4 * len(stack) - 4 + cost + (12 if lists & set(stack) else 0)
+        short = 6 if len(b) < SHORT and not a.endswith((" in", ";")) else 0
+        yield i + 1, 4 * len(stack) - 4 + cost + short + (12 if lists & set(stack) else 0)
 
 
 def filled(line, indent):
     out = []
     while len(line) > WIDTH:
         lead = len(line) - len(line.lstrip())
-        places = [(at, cost) for at, cost in breaks(line) if lead + 24 < at <= WIDTH + 1]
+        places = [(at, cost) for at, cost in breaks(line) if lead + LEAST < at <= WIDTH + 1]
         if not places:
             break
         at = min(places, key=lambda p: (p[1] + (WIDTH - p[0]) // 16, -p[0]))[0]
@@ -234,8 +239,8 @@ def broken(line):
         return [line]
     if text.startswith("--"):
         out = [" " * indent + "--"]
-        for word in text[3:].split(" "):
-            if len(out[-1]) + 1 + len(word) > WIDTH:
+        for word in text[2:].split():
+            if len(out[-1]) + 1 + len(word) > WIDTH and out[-1].strip() != "--":
                 out.append(" " * indent + "--")
             out[-1] += " " + word
         return out
@@ -267,21 +272,32 @@ def laid(text):
     return "\n".join(part for line in lines for part in broken(line))
 
 
+def too_long(path, text):
+    """Tells the lines of a file that are too long, and how many there are."""
+    found = [(number, len(line)) for number, line in enumerate(text.split("\n"), 1) if len(line) > WIDTH]
+    for number, length in found:
+        print("%s:%d: %d characters" % (path, number, length))
+    return len(found)
+
+
 def main():
     check = sys.argv[1:2] == ["--check"]
+    files = sys.argv[1 + check:]
+    if not files or any(f.startswith("-") or not (check or f.endswith(".antt")) for f in files):
+        sys.exit(__doc__)
     long = 0
-    for path in sys.argv[1 + check:]:
+    for path in files:
         with open(path, encoding="utf8") as f:
             text = f.read()
         if check:
-            for number, line in enumerate(text.split("\n"), 1):
-                if len(line) > WIDTH:
-                    print("%s:%d: %d characters" % (path, number, len(line)))
-                    long += 1
-        elif laid(text) != text:
+            long += too_long(path, text)
+            continue
+        new = laid(text)
+        if new != text:
             with open(path, "w", encoding="utf8") as f:
-                f.write(laid(text))
+                f.write(new)
     sys.exit(1 if long else 0)
 
 
-main()
+if __name__ == "__main__":
+    main()
