@@ -96,8 +96,8 @@ fn table(rounds: usize) {
 }
 
 fn count(words: &[String]) {
-    let [call, kind, textures, layers, part, laps] = words else {
-        panic!("count CALL HELD TEXTURES LAYERS rust|port|test LAPS");
+    let [call, kind, textures, layers, part, calls] = words else {
+        panic!("count CALL HELD TEXTURES LAYERS rust|port|test CALLS");
     };
     let kind = match kind.as_str() {
         "Single" => Kind::Single,
@@ -112,10 +112,11 @@ fn count(words: &[String]) {
         layers: number(layers),
     };
     let mut case = case(call, shape);
+    let laps = number(calls) / case.calls();
     match part.as_str() {
-        "rust" => case.rust(number(laps)),
-        "port" => case.port(number(laps)),
-        "test" => case.test(number(laps)),
+        "rust" => case.rust(laps),
+        "port" => case.port(laps),
+        "test" => case.test(laps),
         _ => panic!("no such part: {part}"),
     }
 }
