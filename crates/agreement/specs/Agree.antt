@@ -85,8 +85,7 @@ textures = record {
   used = λ h i sh sel st z w e. let c = passed _ e in
       let t = all-left _ (textureChecks h i sh ++ selectorChecks sh sel) (stateChecks (h .flags) st) c in (
         measured h i sh (all-left _ (textureChecks h i sh) (selectorChecks sh sel) t),
-        use-gives sh sel st
-            (all-right _ (textureChecks h i sh) (selectorChecks sh sel) t),
+        use-gives sh sel st (all-right _ (textureChecks h i sh) (selectorChecks sh sel) t),
       );
   passed-on = λ p sh h f. held-gives sh h f;
   inserted = λ p sh g n r. inserted p sh g n (r .0) (r .1);
@@ -231,8 +230,8 @@ sees-t : (s : List (Tracker Held))
 sees-t [] = refl
 sees-t (x ∷ s) = rw (sees-t s, seen-map gridEnds (x .set .slots))
 
-abbrev StepS : CallResult InvalidUse (List Entry) (Sets ranged) → CallResult SubresourceConflict (List (List (Option Move))) (Sets grid)
-    → Type 0
+abbrev StepS : CallResult InvalidUse (List Entry) (Sets ranged)
+    → CallResult SubresourceConflict (List (List (Option Move))) (Sets grid) → Type 0
 StepS = Stepped ranged grid gridOf firstOf WordP WordP FitS FitEnds GivesC Pairs entriesAt gridAt
 
 same-answer : (a : Answer InvalidUse) → seenAnswer a ≡ mapAnswer firstOf a
@@ -241,8 +240,7 @@ same-answer (refused x) = refl
 same-answer (inConflict c) = refl
 
 pub shares : (r : CallResult InvalidUse (List Entry) (Sets ranged)) (u : CallResult SubresourceConflict (List (List (Option Move)))
-    (Sets grid))
-    → StepS r u → Shares r u
+    (Sets grid)) → StepS r u → Shares r u
 shares r u m = record {
   answer = same-answer (r .answer) ∙ m .answer;
   scopes = sees (r .after .scopes) ∙ ap (λ (k : Sets grid). map (seen itself) (k .scopes)) (m .after);
@@ -264,8 +262,8 @@ no-word (callSetFromTracker n m) = tt
 no-word (callSetAndRemoveSparse n m is) = tt
 
 pub one-step : (c : Call) (k : Sets ranged) → GoodSets k → StepS (step ranged c k) (step grid c (toGrids k))
-one-step c k ok = stepped ranged grid gridOf firstOf WordP WordP FitS FitEnds GivesC Pairs entriesAt gridAt scope-facts tracker-facts c k
-    (no-word c) ok
+one-step c k ok = stepped ranged grid gridOf firstOf WordP WordP FitS FitEnds GivesC Pairs entriesAt gridAt scope-facts
+    tracker-facts c k (no-word c) ok
 
 pub from-here : (cs : List Call) (k : Sets ranged) → GoodSets k → Agree k (toGrids k) cs
 from-here [] k ok = tt
@@ -274,5 +272,5 @@ from-here (c ∷ cs) k ok = let m = one-step c k ok in
 
 -- newly opened sets of the two are each other's image
 pub opened-grids : (os ts : List Opening) → toGrids (newly ranged os ts) ≡ newly grid os ts
-opened-grids os ts = opened ranged grid gridOf firstOf WordP WordP FitS FitEnds GivesC Pairs entriesAt gridAt scope-facts tracker-facts os
-    ts .1
+opened-grids os ts = opened ranged grid gridOf firstOf WordP WordP FitS FitEnds GivesC Pairs entriesAt gridAt
+    scope-facts tracker-facts os ts .1

@@ -69,13 +69,13 @@ set-holds t i sh sel st word w =
     (slot-fits FitEW (t .set) (noEnds ranged) i w) (single-at (t .set) (noEnds ranged) i sh (some sel) st e))
 
 -- ---- every index that a given set owns
-module _ {H G : Type 0} (P : UsageFlags → Extent → H → Type 0) (Q : UsageFlags → Extent → G → Type 0) (s : Set H) (g : Set G) (f : Slot H
-    → Slot G → Bool)
+module _ {H G : Type 0} (P : UsageFlags → Extent → H → Type 0) (Q : UsageFlags → Extent → G → Type 0) (s : Set H)
+    (g : Set G) (f : Slot H → Slot G → Bool)
     (one : (x : Slot H) (y : Slot G) → SlotFits P (s .numbers) (s .flags) x → SlotFits Q (g .numbers) (s .flags) y → y .owned ≡ true
     → At (s .numbers) x (y .extent) → f x y ≡ true) where
   -- past the set's own slots none is owned
-  none-owned : (k : ℕ) (xs : List (Slot G)) → Passed (eachAt (ownedChecks (headOf s)) k (map ownExtent xs)) → s .numbers .textures ≤ k
-      → eachOwned f [] xs ≡ true
+  none-owned : (k : ℕ) (xs : List (Slot G)) → Passed (eachAt (ownedChecks (headOf s)) k (map ownExtent xs))
+      → s .numbers .textures ≤ k → eachOwned f [] xs ≡ true
   none-owned k [] c n = refl
   none-owned k (x ∷ xs) c n = both (go (x .owned) (all-left _ (ownedChecks (headOf s) k (ownExtent x)) _ c))
       (none-owned (suc k) xs (all-right _ (ownedChecks (headOf s) k (ownExtent x)) _ c) (omega arith))
@@ -89,12 +89,12 @@ module _ {H G : Type 0} (P : UsageFlags → Extent → H → Type 0) (Q : UsageF
       each-owned s g e (SlotFits P (s .numbers) (s .flags)) (SlotFits Q (g .numbers) (s .flags))
       (λ k l xs. s .numbers .textures ≤ k + length l → eachOwned f l xs ≡ true)
       (λ k xs c n. none-owned k xs c (omega arith)) (λ k l a n. refl)
-      (λ k x l y ys a b c h ih n. both (by-test (λ (b : Bool). b ≡ true) (y .owned) (λ o. one x y a c o (h o)) (λ o. refl))
-      (ih (omega arith)))
+      (λ k x l y ys a b c h ih n.
+      both (by-test (λ (b : Bool). b ≡ true) (y .owned) (λ o. one x y a c o (h o)) (λ o. refl)) (ih (omega arith)))
       (t .slots) (rw (flags-same s g e) (u .slots)) (omega (arith, t .room))
 
-module _ {H : Type 0} {H′ : Type 0} (u : Extent → H → H′) (Good : UsageFlags → Extent → H → Type 0) (from to : H → Given) (from′ to′ : H′
-    → Named)
+module _ {H : Type 0} {H′ : Type 0} (u : Extent → H → H′) (Good : UsageFlags → Extent → H → Type 0) (from to : H
+    → Given) (from′ to′ : H′ → Named)
     (hands : (p : UsageFlags) (sh : Extent) (h : H) → Good p sh h → PairsW p sh (from h) (from′ (u sh h)) (to h) (to′ (u sh h))) where
   from-holds : (t : Tracker Held) (x : Set H) → WellTracker t → SetFits Good x → setAsserts from to t x ≡ true
   from-holds t x w y =
@@ -106,8 +106,8 @@ module _ {H : Type 0} {H′ : Type 0} (u : Extent → H → H′) (Good : UsageF
 abbrev Listed : List ℕ → Tracker Held → Set Held → Type 0
 Listed is t s = sparseAsserts is (t, s) ≡ true
 
-take-holds : (i : ℕ) (is : List ℕ) (t : Tracker Held) (s : Set Held) → TakenW t s i → Listed is (trackerAfter t s i) (scopeAfter t s i)
-    → Listed (i ∷ is) t s
+take-holds : (i : ℕ) (is : List ℕ) (t : Tracker Held) (s : Set Held) → TakenW t s i
+    → Listed is (trackerAfter t s i) (scopeAfter t s i) → Listed (i ∷ is) t s
 take-holds i is t s k ih =
     let x = slotAt (ranged .fresh 0) s i in let n = namedAll (gridOf (x .extent) (x .held)) in
     rw (
@@ -146,8 +146,8 @@ both-there : {X Y : Type 0} (P : X → Type 0) (Q : Y → Type 0) (l : List X) (
     → ((x : X) (y : Y) → P x → Q y → f x y ≡ true)
     → ifBoth (getElem? l n) (getElem? m j) f ≡ true
 both-there P Q l m n j f t u h =
-    elem-of P l n (λ o. ifBoth o (getElem? m j) f ≡ true) t refl (λ x p. elem-of Q m j (λ o. ifBoth (some x) o f ≡ true) u refl
-    (λ y q. h x y p q))
+    elem-of P l n (λ o. ifBoth o (getElem? m j) f ≡ true) t refl
+    (λ x p. elem-of Q m j (λ o. ifBoth (some x) o f ≡ true) u refl (λ y q. h x y p q))
 
 pub calls-assert : (c : Call) (k : Sets ranged) → GivenWord c → SetsFit k → callAsserts c k ≡ true
 calls-assert (callMergeSingle n i sh sel st) k word well = there WellScope (k .scopes) n _ (well-good k well .0)
@@ -157,8 +157,8 @@ calls-assert (callMergeUsageScope n m) k word well =
     by-test (λ (b : Bool). b ≡ true) (eqb n m) (λ e. refl)
     (λ e. both-there WellScope WellScope (k .scopes) (k .scopes) n m _ g g
     (λ s g q r. each-holds FitW FitW s g (λ x y. scopeAsserts (s .flags) (y .extent) (fromHeld (y .held)) x)
-    (λ x y f k o h. scope-holds (s .numbers) (s .flags) (y .extent) _ _ x (scopes-well .passed-on (s .flags) (y .extent) (y .held)
-    (k .held o)) f h) q r))
+    (λ x y f k o h. scope-holds (s .numbers) (s .flags) (y .extent) _ _ x
+    (scopes-well .passed-on (s .flags) (y .extent) (y .held) (k .held o)) f h) q r))
 calls-assert (callSetSingle n i sh sel st) k word well = there WellTracker (k .trackers) n _ (well-good k well .1)
     (λ t q. set-holds t (i .0) sh sel st word q)
 calls-assert (callSetFromUsageScope n m) k word well =

@@ -49,20 +49,19 @@ pieces-of p sh k (s ∷ ss) t f =
     row [] t = tt
     row (r ∷ s) t = (t .0, row s (t .1))
 
-pieces-fit : (p : UsageFlags) (sh : Extent) (qs : List Piece) (n : Named) → Gives sh (givenMany qs) n → NamedFit p (n .states)
-    → All (PieceFits p) qs
+pieces-fit : (p : UsageFlags) (sh : Extent) (qs : List Piece) (n : Named) → Gives sh (givenMany qs) n
+    → NamedFit p (n .states) → All (PieceFits p) qs
 pieces-fit p sh qs n (gives-place {q} a b c d) f =
     (first-of (AllO (StateFits p)) (some (q .state)) (layerEnd (q .selector) - layerStart (q .selector)) (omega arith) row, tt)
   where
     here : All (AllO (StateFits p)) (namedRow sh (q .selector) (q .state) (mipStart (q .selector)))
-    here = tab-at (All (AllO (StateFits p))) (namedRow sh (q .selector) (q .state)) 0 (sh .mips) (mipStart (q .selector)) f (omega arith)
-        (omega arith)
+    here = tab-at (All (AllO (StateFits p))) (namedRow sh (q .selector) (q .state)) 0 (sh .mips)
+        (mipStart (q .selector)) f (omega arith) (omega arith)
 
     inside : inMips (q .selector) (mipStart (q .selector)) ≡ true
     inside = rw (
       le-leb (mipStart (q .selector)) (mipStart (q .selector)) (omega arith),
-      lt-ltb (mipStart (q .selector))
-          (mipEnd (q .selector)) c,
+      lt-ltb (mipStart (q .selector)) (mipEnd (q .selector)) c,
     )
 
     row : All (AllO (StateFits p)) (replicate (layerEnd (q .selector) - layerStart (q .selector)) (some (q .state)))
@@ -78,8 +77,8 @@ valid : (p : UsageFlags) (st : ℕ) → StateFits p st → not (invalidState p s
 unfolding invalidState incompatible
 valid p st f = rw (f .compatible)
 
-pub insert-holds : (p : UsageFlags) (sh : Extent) (g : Given) (n : Named) → Measured sh → Gives sh g n → NamedFit p (n .states)
-    → insertAsserts p sh g ≡ true
+pub insert-holds : (p : UsageFlags) (sh : Extent) (g : Given) (n : Named) → Measured sh → Gives sh g n
+    → NamedFit p (n .states) → insertAsserts p sh g ≡ true
 insert-holds p sh (givenSingle st) n e gives-one f =
     valid p st (first-of (AllO (StateFits p)) (some st) (sh .layers) (e .1)
     (first-of (All (AllO (StateFits p))) (replicate (sh .layers) (some st)) (sh .mips) (e .0) f))
@@ -179,17 +178,17 @@ every-safe u new sh k (t ∷ l) o a =
 piece-safe : (u : ℕ) (sh : Extent) (q : Piece) (k : ℕ) (t : Two) → PieceIn sh q → Ok sh t → UnderAll u t
     → learnAsserts u (q .state) (metBy u q k (t .end)) (t .start) ≡ true
 unfolding learnAsserts
-piece-safe u sh q k t i o a = by-test (λ (s : List Range). learnAsserts u (q .state) s (t .start) ≡ true) (inMips (q .selector) k)
-    (λ b. met) (λ b. refl)
+piece-safe u sh q k t i o a = by-test (λ (s : List Range). learnAsserts u (q .state) s (t .start) ≡ true)
+    (inMips (q .selector) k) (λ b. met) (λ b. refl)
   where
     met : learnAsserts u (q .state) ((isolate (q .selector .layers .start .0) (q .selector .layers .end .0) u (t .end)) .run) (t .start)
         ≡ true
     met =
         let A = q .selector .layers .start .0 in let E = q .selector .layers .end .0 in let in₂ = i .2 in let in₃ = i .3 in
         let ls = tiles-length (t .start) 0 (sh .layers) (o .1) in
-        let d = thirds (layerStates (t .start)) A E (omega arith) (omega arith) in let X = d .before in let Y = d .run in let Z =
-        d .after in
-        let cuts = isolate-cuts (t .end) 0 A E u (sh .layers) (omega arith) in₂ in₃ (o .0) in let c = isolate A E u (t .end) in
+        let d = thirds (layerStates (t .start)) A E (omega arith) (omega arith) in let X = d .before in let Y = d .run in
+        let Z = d .after in let cuts = isolate-cuts (t .end) 0 A E u (sh .layers) (omega arith) in₂ in₃ (o .0) in
+        let c = isolate A E u (t .end) in
         let lb : length (layerStates (c .before)) ≡ length X = omega (arith, d .first, tiles-length (c .before) 0 A (cuts .before)) in
         let lr : length (layerStates (c .run)) ≡ length Y = omega (arith, d .middle, tiles-length (c .run) A E (cuts .run)) in
         let all : All (Under u) (zip₂ pair (layerStates (c .before) ++ (layerStates (c .run) ++ layerStates (c .after))) (X ++ (Y ++ Z))) =
@@ -270,8 +269,8 @@ none-met : (u : ℕ) (sh : Extent) (q : Piece) (k : ℕ) (s : List Range) → Pi
     → All (Known u) (layerStates s) → every (λ (x : Range). not (eqb (x .state) u)) (metBy u q k s) ≡ true
 none-met u sh q k s i t a = by-test (λ (r : List Range). every (λ (x : Range). not (eqb (x .state) u)) r ≡ true) (inMips (q .selector) k)
     (λ b.
-    let cuts = isolate-cuts s 0 (q .selector .layers .start .0) (q .selector .layers .end .0) u (sh .layers) (omega arith) (i .2)
-    (i .3) t in
+    let cuts = isolate-cuts s 0 (q .selector .layers .start .0) (q .selector .layers .end .0) u (sh .layers)
+    (omega arith) (i .2) (i .3) t in
     let c = isolate (q .selector .layers .start .0) (q .selector .layers .end .0) u s in
     let all : All (Known u) (layerStates (c .before) ++ (layerStates (c .run) ++ layerStates (c .after))) = rw (cuts .same) a in
     let run = all-left (Known u) (layerStates (c .run)) (layerStates (c .after)) (all-right (Known u) (layerStates (c .before)) _ all) in
@@ -309,8 +308,8 @@ mips-known u sh q k [] i n t a = (tt, tt)
 mips-known u sh q k (s ∷ ss) i n t a =
     let r = mips-known u sh q (suc k) ss i n (t .1) (a .1) in let m = painted-known u sh q s i n (t .0) (a .0) in
     let here = by-test (λ (x : List Range). Tiles 0 x (sh .layers) × All (Known u) (layerStates x)) (inMips (q .selector) k)
-    {x = coalesce (paint u (q .selector .layers .start .0) (q .selector .layers .end .0) (q .state) s)} {y = s} (λ b. m)
-    (λ b. (t .0, a .0)) in
+    {x = coalesce (paint u (q .selector .layers .start .0) (q .selector .layers .end .0) (q .state) s)} {y = s}
+    (λ b. m) (λ b. (t .0, a .0)) in
     ((here .0, r .0), (here .1, r .1))
 
 single-safe : (u : ℕ) (sh : Extent) (qs : List Piece) (ss : List (List Range)) (st : ℕ) → All (PieceIn sh) qs → Tiled sh ss

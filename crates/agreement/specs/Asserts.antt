@@ -134,8 +134,8 @@ abbrev pub sparseAsserts : List ℕ → Tracker Held × Set Held → Bool
 sparseAsserts [] ts = true
 sparseAsserts (i ∷ is) ts =
     let g = slotAt (ranged .fresh 0) (ts .1) i in
-    (if g .owned then trackerAsserts (ts .0 .set .flags) (g .extent) (fromHeld (g .held)) (fromHeld (g .held))
-    (slotAt (noEnds ranged) (ts .0 .set) i) else true)
+    (if g .owned then trackerAsserts (ts .0 .set .flags) (g .extent) (fromHeld (g .held)) (fromHeld (g .held)) (slotAt
+    (noEnds ranged) (ts .0 .set) i) else true)
     && sparseAsserts is (sparseOne ranged i ts .after)
 
 -- with the sets that a call names, if they are there
@@ -155,8 +155,8 @@ callAsserts (callMergeSingle n i sh sel st) k =
     ifThere (getElem? (k .scopes) n) (λ s. unlessRefused (singleRefusal (headOf s) (i .0) sh sel st)
     (inBounds (i .0) (s .slots) && scopeAsserts (s .flags) sh (fromUse sh sel st) (slotAt (ranged .fresh 0) s (i .0))))
 callAsserts (callMergeUsageScope n m) k =
-    if eqb n m then true else ifBoth (getElem? (k .scopes) n) (getElem? (k .scopes) m)
-    (λ s g. unlessRefused (setRefusal (headOf s) (headOf g))
+    if eqb n m then true else ifBoth (getElem? (k .scopes) n) (getElem? (k .scopes) m) (λ s g.
+    unlessRefused (setRefusal (headOf s) (headOf g))
     (eachOwned (λ x y. scopeAsserts (s .flags) (y .extent) (fromHeld (y .held)) x) (s .slots) (g .slots)))
 callAsserts (callSetSingle n i sh sel st) k =
     ifThere (getElem? (k .trackers) n) (λ t. unlessRefused (singleRefusal (headOf (t .set)) (i .0) sh (some sel) st)

@@ -146,8 +146,8 @@ held-look : (sh : Extent) (f : ℕ → List Move) (m l : ℕ) (ts : List (List R
 unfolding layerStates
 held-look sh f m l ts t =
     rw (rows-some ts m) (all-getD (λ (s : List Range). held f l s ≡ orNone f (getD (map some (layerStates s)) l none)) ts m [] refl
-    (all-weak (λ (s : List Range). Tiles 0 s (sh .layers))
-    (λ (s : List Range). held f l s ≡ orNone f (getD (map some (layerStates s)) l none)) (held-some (sh .layers) f l) ts t))
+    (all-weak (λ (s : List Range). Tiles 0 s (sh .layers)) (λ (s : List Range). held f l s
+    ≡ orNone f (getD (map some (layerStates s)) l none)) (held-some (sh .layers) f l) ts t))
 
 lookup-set : (sh : Extent) (f : ℕ → List Move) (m l : ℕ) (ts : List (List Range)) → Tiled sh ts
     → givenState f m l (piecesOf ts) ≡ orNone f (look (map layerStates ts) m l)
@@ -202,8 +202,8 @@ none-if : (f : ℕ → List Move) (b : Bool) (st : ℕ) → (if b then f st else
 none-if f true st = append-nil (f st)
 none-if f false st = refl
 
-pub lookup-place : (sh : Extent) (f : ℕ → List Move) (m l : ℕ) (q : Selector) (st : ℕ) → q .layers .start .0 < q .layers .end .0
-    → q .mips .end .0 ≤ sh .mips
+pub lookup-place : (sh : Extent) (f : ℕ → List Move) (m l : ℕ) (q : Selector) (st : ℕ)
+    → q .layers .start .0 < q .layers .end .0 → q .mips .end .0 ≤ sh .mips
     → (if holds q m l then f st else []) ++ [] ≡ orNone f (getD (getD (tab (namedRow sh q st) 0 (sh .mips)) m []) l none)
 lookup-place sh f m l q st h g = go (decLt m (sh .mips))
   where
@@ -213,8 +213,8 @@ lookup-place sh f m l q st h g = go (decLt m (sh .mips))
     go (yes d) = rw (getD-tab (namedRow sh q st) 0 (sh .mips) m [] d, zero-add) (row (inMips q m))
       where
         row : (b : Bool) → (if b && leb (q .layers .start .0) l && ltb l (q .layers .end .0) then f st else []) ++ []
-            ≡ orNone f (getD (if b then band (q .layers .start .0) (q .layers .end .0) (sh .layers) (some st) none else replicate
-            (sh .layers) none) l none)
+            ≡ orNone f (getD (if b then band (q .layers .start .0) (q .layers .end .0) (sh .layers) (some st) none
+            else replicate (sh .layers) none) l none)
         row true = rw (getD-band (q .layers .start .0) (q .layers .end .0) (sh .layers) st l (omega arith))
             (none-if f (leb (q .layers .start .0) l && ltb l (q .layers .end .0)) st)
         row false = rw getD-blank
@@ -252,8 +252,8 @@ unlike : (st : ℕ) → none ≡ some st → ⊥
 unlike st e = let h : _≡_ {A = ℕ} 0 1 = cc in omega arith
 
 -- a named subresource is one of the extent
-named-inside : (sh : Extent) (n : List (List (Option ℕ))) (m l st : ℕ) → Fills sh n → getD (getD n m []) l none ≡ some st
-    → holds (full sh) m l ≡ true
+named-inside : (sh : Extent) (n : List (List (Option ℕ))) (m l st : ℕ) → Fills sh n
+    → getD (getD n m []) l none ≡ some st → holds (full sh) m l ≡ true
 named-inside sh n m l st f e =
     by-lt m (sh .mips)
     (λ a. let r = all-at (λ (r : List (Option ℕ)). length r ≡ sh .layers) n m [] (f .1) (omega arith) in by-lt l (sh .layers)
@@ -271,8 +271,9 @@ in-pieces m l f (q ∷ qs) =
 
 -- one piece on the mips: what mip m has of it
 abbrev pieceLog : UsageFlags → ℕ → Piece → ℕ → List Range → List Entry
-pieceLog p mask q k s = if inMips (q .selector) k then mipEntries (λ cur. moveOf (p .unknown) mask cur (q .state)) k
-    (iterFilter (q .selector .layers .start .0) (q .selector .layers .end .0) s) else []
+pieceLog p mask q k s = if inMips (q .selector) k
+    then mipEntries (λ cur. moveOf (p .unknown) mask cur (q .state)) k (iterFilter (q .selector .layers .start .0)
+    (q .selector .layers .end .0) s) else []
 
 off-piece : (p : UsageFlags) (mask l : ℕ) (q : Piece) (m k : ℕ) (s : List Range) → (m ≡ k → ⊥) → entriesAt m l (pieceLog p mask q k s) ≡ []
 off-piece p mask l q m k s h =
@@ -310,8 +311,8 @@ on-piece p mask l q m s = go (inMips (q .selector) m)
         in-ranges m l (λ cur. moveOf (p .unknown) mask cur (q .state)) (iterFilter a e s)
         ∙ by-test (λ (x : List Move). held (λ c. toList (moveOf (p .unknown) mask c (q .state))) l (iterFilter a e s) ≡ x) (leb a l
         && ltb l e)
-        (λ b. let h = and-eq-true-iff (leb a l) (ltb l e) .0 b in held-filter _ l a e s (leb-true _ _ (h .0)) (ltb-true _ _ (h .1)))
-        (λ b. filter-out _ l a e s b)
+        (λ b. let h = and-eq-true-iff (leb a l) (ltb l e) .0 b in
+        held-filter _ l a e s (leb-true _ _ (h .0)) (ltb-true _ _ (h .1))) (λ b. filter-out _ l a e s b)
 
 module _ (p : UsageFlags) (mask : ℕ) (sh : Extent) (m l : ℕ) where
   -- the pieces on a Many texture
@@ -324,13 +325,13 @@ module _ (p : UsageFlags) (mask : ℕ) (sh : Extent) (m l : ℕ) where
       let past : entriesAt m l (pieceLog p mask q m []) ≡ [] =
       by-test (λ (x : List Entry). entriesAt m l x ≡ []) (inMips (q .selector) m) (λ b. refl) (λ b. refl) in
       let x : entriesAt m l (eachAt (pieceLog p mask q) 0 ss)
-      ≡ (if holds (q .selector) m l then orNone (λ c. toList (moveOf (p .unknown) mask c (q .state)))
-      (look (map layerStates ss) m l) else []) =
+      ≡ (if holds (q .selector) m l then orNone (λ c. toList (moveOf (p .unknown) mask c (q .state))) (look (map layerStates ss) m l)
+      else []) =
       at-mip (λ (e : Entry). if holds (e .selector) m l then e .move ∷ [] else []) (pieceLog p mask q) m []
       (λ j s e. off-piece p mask l q m j s e) past ss
       ∙ on-piece p mask l q m (getD ss m [])
-      ∙ ap (λ (y : List Move). if holds (q .selector) m l then y else []) (held-look sh
-      (λ c. toList (moveOf (p .unknown) mask c (q .state))) m l ss t) in
+      ∙ ap (λ (y : List Move). if holds (q .selector) m l then y
+      else []) (held-look sh (λ c. toList (moveOf (p .unknown) mask c (q .state))) m l ss t) in
       rw (in-append m l (eachAt (pieceLog p mask q) 0 ss), x, in-many ss qs t)
 
   -- a state that is there, and one that is given, in either order

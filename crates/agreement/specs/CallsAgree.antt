@@ -105,8 +105,8 @@ always-fit os ts cs w = calls-keep cs (newly ranged os ts) w (opened-fits os ts)
 good-weak : (k : Sets ranged) → WellSets k → GoodSets k
 good-weak k g = (
   all-weak WellScope (SetFits FitS) (λ s f. fits-weak FitW FitS s f (λ sh h x w. w .base)) (k .scopes) (g .0),
-  all-weak WellTracker (λ (t : Tracker Held). SetFits FitEnds (t .set)) (λ t f. fits-weak FitEW FitEnds (t .set) f (λ sh e x w. w .base))
-      (k .trackers) (g .1),
+  all-weak WellTracker (λ (t : Tracker Held). SetFits FitEnds (t .set))
+      (λ t f. fits-weak FitEW FitEnds (t .set) f (λ sh e x w. w .base)) (k .trackers) (g .1),
 )
 
 pub call-shares : (c : Call) (k : Sets ranged) → wellFormed k ≡ true → Shares (step ranged c k) (step grid c (toGrids k))

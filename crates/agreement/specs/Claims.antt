@@ -33,8 +33,8 @@ grid-agrees-from = agrees-from
 
 -- ---- Texture by texture: insert, merge, barrier and update agree, for every use that passes its checks and every well-formed texture, and
 -- keep it so
-pub by-texture : (p : UsageFlags) (sh : Extent) → flagsFit p ≡ true → 0 < sh .mips → 0 < sh .layers → (u : Use) → useFits p sh u ≡ true
-    → TextureShares p sh u
+pub by-texture : (p : UsageFlags) (sh : Extent) → flagsFit p ≡ true → 0 < sh .mips → 0 < sh .layers → (u : Use)
+    → useFits p sh u ≡ true → TextureShares p sh u
 by-texture = texture-shares
 
 -- ---- Call by call, from any well-formed sets (EachCall has `kept`, `within-owned` and `within-capacity` for each of the six calls by
@@ -80,8 +80,8 @@ adds-up = scope-adds-up
 
 -- and in a tracker
 pub tracker-adds : (t : Tracker Held) → trackerFits t ≡ true
-    → All (λ (x : Slot (Ends Held)). x .owned ≡ true
-    → AddUp (x .extent) (x .held .start) × AddUp (x .extent) (x .held .end)) (t .set .slots)
+    → All (λ (x : Slot (Ends Held)). x .owned ≡ true → AddUp (x .extent) (x .held .start)
+    × AddUp (x .extent) (x .held .end)) (t .set .slots)
 tracker-adds = tracker-adds-up
 
 -- of a list that tiles w layers, also between `isolate` and `coalesce`

@@ -145,8 +145,8 @@ single-any : (p : UsageFlags) (g : List (List History)) (n : List (List (Option 
     → GridAll (AllO (TiedClear p)) n → has (takeStates (singleUnion p) g n .conflict) ≡ anyUnfit p g n
 single-any p g n x y =
     walk-any (λ m. walk₂ (takeState (singleUnion p) m) 0) (any₂ (unfit p)) (All (TiedClear p)) (All (AllO (TiedClear p)))
-    (λ k r q a b. walk-any (takeState (singleUnion p) k) (unfit p) (TiedClear p) (AllO (TiedClear p)) (single-unfit p k) 0 r q a b) 0 g n x
-    y
+    (λ k r q a b. walk-any (takeState (singleUnion p) k) (unfit p) (TiedClear p) (AllO (TiedClear p))
+    (single-unfit p k) 0 r q a b) 0 g n x y
 
 many-any : (p : UsageFlags) (g : List (List History)) (n : List (List (Option History))) → GridAll (Tied p) g → GridAll (AllO (Tied p)) n
     → has (takeStates (manyUnion p) g n .conflict) ≡ anyUnfit p g n
@@ -201,8 +201,8 @@ Good-selector sh sel = Passed (selectorChecks sh sel)
 
 inner : (sh : Extent) (q : Selector) → Good-selector sh (some q) → (q .layers .start .0 < q .layers .end .0) × (q .mips .end .0 ≤ sh .mips)
 inner sh q t =
-    let a = and-eq-true-iff (ltb (q .mips .start .0) (q .mips .end .0)) (ltb (q .layers .start .0) (q .layers .end .0)) .0
-    (not-false _ (t .0)) in
+    let a = and-eq-true-iff (ltb (q .mips .start .0) (q .mips .end .0))
+    (ltb (q .layers .start .0) (q .layers .end .0)) .0 (not-false _ (t .0)) in
     let b = neither (ltb (sh .mips) (q .mips .end .0)) (ltb (sh .layers) (q .layers .end .0)) (t .1 .0) in
     (ltb-true _ _ (a .1), ltb-false _ _ (b .0))
 
@@ -225,8 +225,7 @@ names-named sh (some q) st m l t e =
       le-leb (q .mips .start .0) m (e .0),
       lt-ltb m (q .mips .end .0) (e .1),
       le-leb (q .layers .start .0) l (e .2),
-      lt-ltb l
-          (q .layers .end .0) (e .3),
+      lt-ltb l (q .layers .end .0) (e .3),
     ))
 
 -- ---- positions
@@ -270,8 +269,8 @@ unfit-any : (p : UsageFlags) (g : List (List History)) (sh : Extent) (sel : Opti
 unfit-any p g sh sel st t ok u =
     any-of (any₂ (unfit p)) [] [] (λ (r : List (Option History)). Unit {0}) (λ b q. refl) no-right g (handUse sh sel st .states) (u .mip)
     (all-of _ (λ r. tt) (handUse sh sel st .states))
-    (any-of (unfit p) noHistory none Q (λ b q. lone b q) (λ a. refl) (getD g (u .mip) []) (getD (handUse sh sel st .states) (u .mip) [])
-    (u .layer)
+    (any-of (unfit p) noHistory none Q (λ b q. lone b q) (λ a. refl) (getD g (u .mip) [])
+    (getD (handUse sh sel st .states) (u .mip) []) (u .layer)
     (all-getD (All Q) (handUse sh sel st .states) (u .mip) [] tt (hand-all (λ (x : ℕ). x ≡ st) (λ (c : History). usesFit p (c .uses) ≡ true)
     (λ x e. rw e ok) (namedUse sh sel st .states) (use-all (λ (x : ℕ). x ≡ st) sh sel st refl)))
     (rw (handed-at (namedUse sh sel st .states) (u .mip) (u .layer))
@@ -295,8 +294,8 @@ unfit-any p g sh sel st t ok u =
     go (some x) v e = rw (v, u .unfit)
 
 -- ---- the call
-conflicted-has : {C : Type 0} (i : ℕ) (o : Option C) → InConflict (answer (Option·map (λ (c : C). record { index = i; what = c }) o))
-    → has o ≡ true
+conflicted-has : {C : Type 0} (i : ℕ) (o : Option C)
+    → InConflict (answer (Option·map (λ (c : C). record { index = i; what = c }) o)) → has o ≡ true
 conflicted-has i none t = absurd t
 conflicted-has i (some c) t = refl
 

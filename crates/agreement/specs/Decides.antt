@@ -138,8 +138,8 @@ extent-from : (n : Numbers) (sh : Extent) → ExtentFits n sh → not (extentOut
 extent-from n sh f = rw (not-outside _ _ (f .mip) (f .mips), not-outside _ _ (f .layer) (f .layers))
 
 module _ {H : Type 0} (fits : UsageFlags → Extent → H → Bool) (P : UsageFlags → Extent → H → Type 0)
-    (to : (p : UsageFlags) (sh : Extent) (h : H) → fits p sh h ≡ true → P p sh h) (from : (p : UsageFlags) (sh : Extent) (h : H) → P p sh h
-    → fits p sh h ≡ true) where
+    (to : (p : UsageFlags) (sh : Extent) (h : H) → fits p sh h ≡ true → P p sh h) (from : (p : UsageFlags) (sh : Extent) (h : H)
+    → P p sh h → fits p sh h ≡ true) where
   slot-to : (n : Numbers) (p : UsageFlags) (x : Slot H) → slotFits fits n p x ≡ true → SlotFits P n p x
   slot-to n p x e = record {
     extent = λ o. extent-to n (x .extent) (and-left _ (fits p (x .extent) (x .held)) (rw o at e));
@@ -157,15 +157,15 @@ module _ {H : Type 0} (fits : UsageFlags → Extent → H → Bool) (P : UsageFl
         numbers = c .0;
         flags = c .1;
         room = eqb-true _ _ (b .1);
-        slots = every-all (SlotFits P (s .numbers) (s .flags)) (slotFits fits (s .numbers) (s .flags)) (slot-to (s .numbers) (s .flags))
-            (s .slots) (a .1);
+        slots = every-all (SlotFits P (s .numbers) (s .flags)) (slotFits fits (s .numbers) (s .flags))
+            (slot-to (s .numbers) (s .flags)) (s .slots) (a .1);
       }
 
   set-from : (s : Set H) → SetFits P s → setFits fits s ≡ true
   set-from s f =
       both (both (both (f .numbers) (f .flags)) (eq-eqb _ _ (f .room)))
-      (all-every (SlotFits P (s .numbers) (s .flags)) (slotFits fits (s .numbers) (s .flags)) (slot-from (s .numbers) (s .flags)) (s .slots)
-      (f .slots))
+      (all-every (SlotFits P (s .numbers) (s .flags)) (slotFits fits (s .numbers) (s .flags))
+      (slot-from (s .numbers) (s .flags)) (s .slots) (f .slots))
 
 -- ---- the two claims
 pub scope-to : (s : Set Held) → scopeFits s ≡ true → SetFits HeldFits s

@@ -33,8 +33,8 @@ module _ (t : Tracker Held) (fits : trackerFits t ≡ true) where
   pub set-from-usage-scope-fits : (g : Set Held) → scopeFits g ≡ true → trackerFits (setFromUsageScope ranged t g .after) ≡ true
   unfolding step
   set-from-usage-scope-fits g e =
-      and-left _ true (and-right (scopeFits g && true) _ (call-keeps (callSetFromUsageScope 0 0) (handed (g ∷ []) (t ∷ [])) tt
-      (rw (fits, e))))
+      and-left _ true (and-right (scopeFits g && true) _
+      (call-keeps (callSetFromUsageScope 0 0) (handed (g ∷ []) (t ∷ [])) tt (rw (fits, e))))
 
   pub set-from-tracker-fits : (g : Tracker Held) → trackerFits g ≡ true → trackerFits (setFromTracker ranged t g .after) ≡ true
   unfolding step

@@ -145,8 +145,8 @@ module _ (p : UsageFlags) (bit : Usage → ℕ) (R : Renders p bit) where
   all-read u r [] e = refl
   all-read u r (w ∷ us) e =
       let h = and-eq-true-iff (eqb (bit w) (bit u)) (every (λ x. eqb x (bit u)) (map bit us)) .0 e in
-      let a : reads w ≡ true = sym (exclusive-bit w) ∙ ap (λ (s : ℕ). not (meets s (p .exclusive))) (eqb-true (bit w) (bit u) (h .0))
-      ∙ exclusive-bit u ∙ r in
+      let a : reads w ≡ true = sym (exclusive-bit w)
+      ∙ ap (λ (s : ℕ). not (meets s (p .exclusive))) (eqb-true (bit w) (bit u) (h .0)) ∙ exclusive-bit u ∙ r in
       rw (a, all-read u r us (h .1))
 
   or-idle : (a b c : Bool) → (b ≡ true → a ≡ true) → a || (c && b) ≡ a || false || false || false

@@ -19,8 +19,8 @@ all-zip P Q R f h (x ∷ s) (y ∷ t) a b = (h x y (a .0) (b .0), all-zip P Q R 
 abbrev pub GridAll : {A : Type 0} → (A → Type 0) → List (List A) → Type 0
 GridAll P g = All (All P) g
 
-pub grid-map : {A B : Type 0} (P : A → Type 0) (Q : B → Type 0) (f : A → B) → ((a : A) → P a → Q (f a)) → (g : List (List A)) → GridAll P g
-    → GridAll Q (map (map f) g)
+pub grid-map : {A B : Type 0} (P : A → Type 0) (Q : B → Type 0) (f : A → B) → ((a : A) → P a → Q (f a)) → (g : List (List A))
+    → GridAll P g → GridAll Q (map (map f) g)
 grid-map P Q f h = all-map (All P) (All Q) (map f) (all-map P Q f h)
 
 pub grid-everywhere : {A : Type 0} (P : A → Type 0) (sh : Extent) (x : A) → P x → GridAll P (everywhere sh x)

@@ -85,8 +85,8 @@ joined-union p c g x y = without-or (p .unknown) (c .state) (g .state) ∙ rw (x
 abbrev pub after : History → History → ℕ → History
 after c g u = record { state = u; uses = c .uses ++ g .uses }
 
-single-tied : (p : UsageFlags) (c g : History) (u : ℕ) → Tied p c → Tied p g → singleUnion p (c .state) (g .state) ≡ some u
-    → Tied p (after c g u)
+single-tied : (p : UsageFlags) (c g : History) (u : ℕ) → Tied p c → Tied p g
+    → singleUnion p (c .state) (g .state) ≡ some u → Tied p (after c g u)
 unfolding singleUnion
 single-tied p c g u x y e = go (incompatible p (bitOr (c .state) (g .state))) e
   where
@@ -95,8 +95,8 @@ single-tied p c g u x y e = go (incompatible p (bitOr (c .state) (g .state))) e
     go false e = let h : bitOr (c .state) (g .state) ≡ u = cc in
         record { union = rw (← h) (joined-union p c g x y); uses = all-join _ (c .uses) (g .uses) (x .uses) (y .uses) }
 
-single-clear : (p : UsageFlags) (c g : History) (u : ℕ) → Clear p c → Clear p g → singleUnion p (c .state) (g .state) ≡ some u
-    → bitAnd u (p .unknown) ≡ 0
+single-clear : (p : UsageFlags) (c g : History) (u : ℕ) → Clear p c → Clear p g
+    → singleUnion p (c .state) (g .state) ≡ some u → bitAnd u (p .unknown) ≡ 0
 unfolding singleUnion
 single-clear p c g u x y e = go (incompatible p (bitOr (c .state) (g .state))) e
   where
@@ -104,8 +104,8 @@ single-clear p c g u x y e = go (incompatible p (bitOr (c .state) (g .state))) e
     go true e = absurd (let z : _≡_ {A = ℕ} 0 1 = cc in omega arith)
     go false e = let h : bitOr (c .state) (g .state) ≡ u = cc in rw (← h) (and-or (c .state) (g .state) (p .unknown) ∙ rw (x, y))
 
-many-tied : (p : UsageFlags) (c g : History) (u : ℕ) → Tied p c → Tied p g → manyUnion p (c .state) (g .state) ≡ some u
-    → Tied p (after c g u)
+many-tied : (p : UsageFlags) (c g : History) (u : ℕ) → Tied p c → Tied p g
+    → manyUnion p (c .state) (g .state) ≡ some u → Tied p (after c g u)
 unfolding manyUnion
 many-tied p c g u x y e = go (incompatible p w) (eqb w 0) refl e
   where
@@ -119,16 +119,16 @@ many-tied p c g u x y e = go (incompatible p w) (eqb w 0) refl e
     go true z q e = absurd (let z : _≡_ {A = ℕ} 0 1 = cc in omega arith)
     go false true q e =
         let h : c .state ≡ u = cc in let zero = eqb-true w 0 q in
-        let both = or-zero (unionOf (c .uses)) (unionOf (g .uses)) (sym (union-append (c .uses) (g .uses)) ∙ sym (joined-union p c g x y)
-        ∙ zero) in
+        let both = or-zero (unionOf (c .uses)) (unionOf (g .uses)) (sym (union-append (c .uses) (g .uses))
+        ∙ sym (joined-union p c g x y) ∙ zero) in
         record { union = rw (← h) (x .union ∙ both .0 ∙ sym zero ∙ joined-union p c g x y); uses = all }
     go false false q e =
         let h : w ≡ u = cc in
         record { union = rw (← h) (without-twice (p .unknown) (bitOr (c .state) (g .state)) ∙ joined-union p c g x y); uses = all }
 
 -- ---- walks
-module _ (P : History → Type 0) (f : ℕ → ℕ → Option ℕ) (keeps : (c g : History) (u : ℕ) → P c → P g → f (c .state) (g .state) ≡ some u
-    → P (after c g u)) where
+module _ (P : History → Type 0) (f : ℕ → ℕ → Option ℕ) (keeps : (c g : History) (u : ℕ) → P c → P g → f (c .state) (g .state)
+    ≡ some u → P (after c g u)) where
   take-keeps : (m l : ℕ) (c : History) (o : Option History) → P c → AllO P o → P (takeState f m l c o .value)
   take-keeps m l c none x y = x
   take-keeps m l c (some g) x y = go (f (c .state) (g .state)) refl
@@ -207,8 +207,8 @@ pub record TiedGiven (p : UsageFlags) (sh : Extent) (g : HandedIn) (n : Named) :
   pub single : g .single ≡ true → GridAll (λ (o : Option History). o ≡ none → ⊥) (g .states)
 
 history-merged : (p : UsageFlags) (sh : Extent) (h : Histories) (g : HandedIn) (n : Named) → TiedGiven p sh g n → TiedHeld p sh h
-    → TiedHeld p sh (historyMerge p sh h g .value) × Sim statesOf (λ (c : SubresourceConflict). c) (historyMerge p sh h g) (gridMerge p sh
-    (statesOf h) n)
+    → TiedHeld p sh (historyMerge p sh h g .value)
+    × Sim statesOf (λ (c : SubresourceConflict). c) (historyMerge p sh h g) (gridMerge p sh (statesOf h) n)
 unfolding historyMerge gridMerge
 history-merged p sh h g n r f =
     rw (← r .same) (by-test₂ (λ (w : Stop SubresourceConflict Histories) (v : Stop SubresourceConflict Grid). TiedHeld p sh (w .value)
@@ -259,8 +259,8 @@ grid-states = grid-back (Option·map oneUse) statesO one
     one (some x) = refl
 
 -- check 12, and the sixteen bits
-pub use-state : (h : Head) (i : ℕ) (sh : Extent) (sel : Option Selector) (st : ℕ) → Word st → singleRefusal h i sh sel st ≡ none
-    → UseFits (h .flags) st
+pub use-state : (h : Head) (i : ℕ) (sh : Extent) (sel : Option Selector) (st : ℕ) → Word st
+    → singleRefusal h i sh sel st ≡ none → UseFits (h .flags) st
 use-state h i sh sel st w e =
     let t = all-right _ (textureChecks h i sh ++ selectorChecks sh sel) (stateChecks (h .flags) st) (passed _ e) in
     let o = neither (eqb st 0 || meets st (h .flags .unknown)) (meets st (h .flags .complex)) (t .0) in
@@ -391,8 +391,8 @@ pass-same h = λ i. record { single = h .single; states = grid-pass (h .states) 
 pub history-trackers : Tracks histories grid plainView Word TiedHeld AnyEnds SameHanded gridAt gridAt
 history-trackers = record {
   fresh = λ n. refl;
-  used = λ h i sh sel st s w e. let r : named (handUse sh sel st) ≡ namedUse sh sel st =
-      λ i. record { single = namedUse sh sel st .single; states = grid-states (namedUse sh sel st .states) i } in (r, r);
+  used = λ h i sh sel st s w e. let r : named (handUse sh sel st) ≡ namedUse sh sel st = λ i.
+      record { single = namedUse sh sel st .single; states = grid-states (namedUse sh sel st .states) i } in (r, r);
   passed-on = λ p sh h f. (pass-same h, pass-same h);
   joined = λ p sh e f. (pass-same (e .start), pass-same (e .end));
   inserted = λ p sh a b c d r. (tt, insert-states p sh a b (r .0), insert-states p sh c d (r .1));
@@ -404,7 +404,6 @@ history-trackers = record {
       );
   logged = λ p mask sh e a b c d r f m l. (
     ap (λ (n : Named). gridAt m l (gridBarrier p mask sh (statesOf (e .end)) n)) (r .0),
-    at-most-one
-        (getD (getD (gridBarrier p mask sh (statesOf (e .end)) (named a)) m []) l none),
+    at-most-one (getD (getD (gridBarrier p mask sh (statesOf (e .end)) (named a)) m []) l none),
   );
 }

@@ -35,8 +35,8 @@ new-sets {A} {B} P F a b h (o ∷ os) =
 
 module _ (K L : Representation) (v : Extent → K .Held → L .Held) (cl : K .Conflict → L .Conflict) (W N : ℕ → Type 0)
     (Fit : UsageFlags → Extent → K .Held → Type 0) (FitE : UsageFlags → Extent → Ends (K .Held) → Type 0)
-    (Gives : UsageFlags → Extent → K .Given → L .Given → Type 0) (Pairs : UsageFlags → Extent → K .Given → L .Given → K .Given → L .Given
-    → Type 0)
+    (Gives : UsageFlags → Extent → K .Given → L .Given → Type 0) (Pairs : UsageFlags → Extent → K .Given → L .Given
+    → K .Given → L .Given → Type 0)
     (f : ℕ → ℕ → K .Log → List Move) (g : ℕ → ℕ → L .Log → List Move) where
   abbrev GoodTracker : Tracker (K .Held) → Type 0
   GoodTracker t = SetFits FitE (t .set)
@@ -66,9 +66,8 @@ module _ (K L : Representation) (v : Extent → K .Held → L .Held) (cl : K .Co
     idle k t = record { good = t; after = refl; answer = refl; moves = λ i m l. refl; once = λ i m l. omega arith }
 
     -- a call's result put back among the sets
-    put-scope : (k : Sets K) (n : ℕ) (r : CallResult (K .Conflict) (K .Log) (Set (K .Held)))
-        (u : CallResult (L .Conflict) (L .Log) (Set (L .Held)))
-        → Good k
+    put-scope : (k : Sets K) (n : ℕ) (r : CallResult (K .Conflict) (K .Log) (Set (K .Held))) (u : CallResult (L .Conflict)
+        (L .Log) (Set (L .Held))) → Good k
         → Matches K L v cl W Fit Gives r u
         → Stepped (into K r (λ x. withScopes K k (set (k .scopes) n x))) (into L u
         (λ x. withScopes L (imageSets k) (set (map (imageSet v) (k .scopes)) n x)))
@@ -81,17 +80,16 @@ module _ (K L : Representation) (v : Extent → K .Held → L .Held) (cl : K .Co
       once = λ i j l. rw (m .quiet .0) (omega arith);
     }
 
-    plain-answer : (a : Answer (K .Conflict)) (b : Answer (L .Conflict)) → (o : Option Refusal) × (a ≡ plain o) × (b ≡ plain o)
-        → mapAnswer cl a ≡ b
+    plain-answer : (a : Answer (K .Conflict)) (b : Answer (L .Conflict))
+        → (o : Option Refusal) × (a ≡ plain o) × (b ≡ plain o) → mapAnswer cl a ≡ b
     plain-answer a b m = rw (m .1, m .2) (go (m .0))
       where
         go : (o : Option Refusal) → mapAnswer cl (plain o) ≡ plain o
         go none = refl
         go (some r) = refl
 
-    put-tracker : (k : Sets K) (n : ℕ) (r : CallResult (K .Conflict) (K .Log) (Tracker (K .Held)))
-        (u : CallResult (L .Conflict) (L .Log) (Tracker (L .Held)))
-        → Good k
+    put-tracker : (k : Sets K) (n : ℕ) (r : CallResult (K .Conflict) (K .Log) (Tracker (K .Held))) (u : CallResult (L .Conflict)
+        (L .Log) (Tracker (L .Held))) → Good k
         → MatchesT K L v N Fit FitE Pairs f g (λ j. true) r u
         → Stepped (into K r (λ x. withTrackers K k (set (k .trackers) n x))) (into L u
         (λ x. withTrackers L (imageSets k) (set (map (imageTracker v) (k .trackers)) n x)))
@@ -136,8 +134,8 @@ module _ (K L : Representation) (v : Extent → K .Held → L .Held) (cl : K .Co
         go none p = idle k t
         go (some x) p = h x p
 
-    with-two : {A B C D : Type 0} (P : A → Type 0) (Q : C → Type 0) (F : A → B) (G : C → D) (k : Sets K) (l : List A) (n : ℕ) (l′ : List C)
-        (n′ : ℕ)
+    with-two : {A B C D : Type 0} (P : A → Type 0) (Q : C → Type 0) (F : A → B) (G : C → D) (k : Sets K) (l : List A)
+        (n : ℕ) (l′ : List C) (n′ : ℕ)
         (r : A → C → ResultK) (u : B → D → ResultL) → Good k → All P l → All Q l′
         → ((x : A) (y : C) → P x → Q y → Stepped (r x y) (u (F x) (G y)))
         → Stepped (with₂ K k (getElem? l n) (getElem? l′ n′) r) (with₂ L (imageSets k) (getElem? (map F l) n) (getElem? (map G l′) n′) u)
@@ -164,13 +162,13 @@ module _ (K L : Representation) (v : Extent → K .Held → L .Held) (cl : K .Co
         (λ t w. put-tracker k n _ _ ok (single-set K L v N Fit FitE Pairs f g T t (i .0) sh sel st word w))
     stepped (callSetFromUsageScope n m) k word ok =
         with-two GoodTracker (SetFits Fit) (imageTracker v) (imageSet v) k (k .trackers) n (k .scopes) m _ _ ok (ok .1) (ok .0)
-        (λ t s w y. put-tracker k n _ _ ok (from-set K L v N Fit FitE Pairs f g T v Fit (K .pass) (K .pass) (L .pass) (L .pass)
-        (T .passed-on) t s w y))
+        (λ t s w y. put-tracker k n _ _ ok (from-set K L v N Fit FitE Pairs f g T v Fit (K .pass) (K .pass) (L .pass)
+        (L .pass) (T .passed-on) t s w y))
     stepped (callSetFromTracker n m) k word ok =
         by-test₂ Stepped (eqb n m) (λ e. idle k ok)
         (λ e. with-two GoodTracker GoodTracker (imageTracker v) (imageTracker v) k (k .trackers) n (k .trackers) m _ _ ok (ok .1) (ok .1)
-        (λ t s w y. put-tracker k n _ _ ok (from-set K L v N Fit FitE Pairs f g T (imageEnds v) FitE
-        (λ (e : Ends (K .Held)). K .pass (e .start)) (λ (e : Ends (K .Held)). K .pass (e .end))
+        (λ t s w y. put-tracker k n _ _ ok (from-set K L v N Fit FitE Pairs f g T (imageEnds v) FitE (λ (e : Ends (K .Held)).
+        K .pass (e .start)) (λ (e : Ends (K .Held)). K .pass (e .end))
         (λ (e : Ends (L .Held)). L .pass (e .start)) (λ (e : Ends (L .Held)). L .pass (e .end)) (T .joined) t (s .set) w y)))
     stepped (callSetAndRemoveSparse n m is) k word ok =
         with-two GoodTracker (SetFits Fit) (imageTracker v) (imageSet v) k (k .trackers) n (k .scopes) m _ _ ok (ok .1) (ok .0)

@@ -32,8 +32,8 @@ module _ (K L : Representation) (v : Extent → K .Held → L .Held) (cl : K .Co
         → Fit p sh (K .merge p sh h g .value) × Sim (v sh) cl (K .merge p sh h g) (L .merge p sh (v sh h) n)
 
   -- a call on a scope, and the same call on its image
-  pub record Matches (r : CallResult (K .Conflict) (K .Log) (Set (K .Held))) (u : CallResult (L .Conflict) (L .Log) (Set (L .Held))) : Type
-      0 where
+  pub record Matches (r : CallResult (K .Conflict) (K .Log) (Set (K .Held)))
+      (u : CallResult (L .Conflict) (L .Log) (Set (L .Held))) : Type 0 where
     pub fit : SetFits Fit (r .after)
     pub answer : mapAnswer cl (r .answer) ≡ u .answer
     pub after : imageSet v (r .after) ≡ u .after
@@ -50,8 +50,8 @@ module _ (K L : Representation) (v : Extent → K .Held → L .Held) (cl : K .Co
   index-map i (some c) = refl
 
   module _ (R : Textures) where
-    abbrev Slots : Numbers → UsageFlags → Stop (Indexed (K .Conflict)) (Slot (K .Held)) → Stop (Indexed (L .Conflict)) (Slot (L .Held))
-        → Type 0
+    abbrev Slots : Numbers → UsageFlags → Stop (Indexed (K .Conflict)) (Slot (K .Held))
+        → Stop (Indexed (L .Conflict)) (Slot (L .Held)) → Type 0
     Slots n p w u = SlotFits Fit n p (w .value) × Sim (imageSlot v) (mapConflict cl) w u
 
     slot-sim : (n : Numbers) (p : UsageFlags) (sh : Extent) (g : K .Given) (m : L .Given) (i : ℕ) (s : Slot (K .Held)) → Gives p sh g m
@@ -124,11 +124,11 @@ module _ (K L : Representation) (v : Extent → K .Held → L .Held) (cl : K .Co
 
         next : (k : ℕ) (x : Slot (K .Held)) (l : List (Slot (K .Held))) (y : Slot (K .Held)) (ys : List (Slot (K .Held)))
             → SlotFits Fit (s .numbers) (s .flags) x → All (SlotFits Fit (s .numbers) (s .flags)) l
-            → SlotFits Fit (g .numbers) (s .flags) y → (y .owned ≡ true → At (s .numbers) x (y .extent)) → All-sim (suc k) l ys
-            → All-sim k (x ∷ l) (y ∷ ys)
+            → SlotFits Fit (g .numbers) (s .flags) y → (y .owned ≡ true → At (s .numbers) x (y .extent))
+            → All-sim (suc k) l ys → All-sim k (x ∷ l) (y ∷ ys)
         next k x l y ys a b c h ih =
             let m = given-sim (s .numbers) (g .numbers) p k x y a c h in let w = mergeGiven K p k x y in (
               onward-all (SlotFits Fit (s .numbers) p) (w .value) (w .conflict) l (walk₂ (mergeGiven K p) (suc k) l ys) (m .0) b (ih .0),
-              onward-sim (imageSlot v) (mapConflict cl) (w .value) (w .conflict) l (walk₂ (mergeGiven K p) (suc k) l ys) _ _ _ (m .1 .0)
-                  (m .1 .1) (ih .1),
+              onward-sim (imageSlot v) (mapConflict cl) (w .value) (w .conflict) l (walk₂ (mergeGiven K p) (suc k) l ys) _ _
+                  _ (m .1 .0) (m .1 .1) (ih .1),
             )

@@ -101,8 +101,8 @@ module _ (K L : Representation) (v : Extent → K .Held → L .Held) (Word : ℕ
     pub logs : Logs f g has (r .log) (u .log)
 
   module _ (R : Tracks) where
-    module _ (n : Numbers) (p : UsageFlags) (sh : Extent) (a : K .Given) (b : L .Given) (c : K .Given) (d : L .Given) (i : ℕ)
-        (s : Slot (Ends (K .Held)))
+    module _ (n : Numbers) (p : UsageFlags) (sh : Extent) (a : K .Given) (b : L .Given) (c : K .Given) (d : L .Given)
+        (i : ℕ) (s : Slot (Ends (K .Held)))
         (r : Pairs p sh a b c d) (t : SlotFits FitE n p s) (h : At n s sh) where
       slot-set : SlotFits FitE n p (setSlot K p sh a c s) × (ends (setSlot K p sh a c s) ≡ setSlot L p sh b d (ends s))
       slot-set =
@@ -133,8 +133,8 @@ module _ (K L : Representation) (v : Extent → K .Held → L .Held) (Word : ℕ
     pub single-set : (t : Tracker (K .Held)) (i : ℕ) (sh : Extent) (sel : Selector) (st : ℕ) → Word st → SetFits FitE (t .set)
         → MatchesT any (setSingle K t i sh sel st) (setSingle L (imageTracker v t) i sh sel st)
     single-set t i sh sel st word w =
-        rw (extents-image (imageEnds v) (t .set .slots)) (unless-by₂ (MatchesT any) (singleRefusal (headOf (t .set)) i sh (some sel) st)
-        (λ r. away t r w) λ e.
+        rw (extents-image (imageEnds v) (t .set .slots))
+        (unless-by₂ (MatchesT any) (singleRefusal (headOf (t .set)) i sh (some sel) st) (λ r. away t r w) λ e.
         let p = t .set .flags in let a = K .use-of sh (some sel) st in let b = L .use-of sh (some sel) st in
         let slot = slotAt (noEnds K) (t .set) i in let r = R .used (headOf (t .set)) i sh (some sel) st (w .flags) word e in
         let x = slot-fits FitE (t .set) (noEnds K) i w in let y = single-at (t .set) (noEnds K) i sh (some sel) st e in
@@ -148,8 +148,8 @@ module _ (K L : Representation) (v : Extent → K .Held → L .Held) (Word : ℕ
         })
 
     -- every index of a given set; h is what that set holds, G what is said of it
-    module _ {H H′ : Type 0} (u : Extent → H → H′) (Good : UsageFlags → Extent → H → Type 0) (from to : H → K .Given) (from′ to′ : H′
-        → L .Given)
+    module _ {H H′ : Type 0} (u : Extent → H → H′) (Good : UsageFlags → Extent → H → Type 0) (from to : H
+        → K .Given) (from′ to′ : H′ → L .Given)
         (hands : (p : UsageFlags) (sh : Extent) (h : H) → Good p sh h → Pairs p sh (from h) (from′ (u sh h)) (to h) (to′ (u sh h))) where
       -- one index
       slot-given : (n l : Numbers) (p : UsageFlags) (mask i : ℕ) (s : Slot (Ends (K .Held))) (x : Slot H) → SlotFits FitE n p s
@@ -249,8 +249,7 @@ module _ (K L : Representation) (v : Extent → K .Held → L .Held) (Word : ℕ
           by-eq j i (λ e. rw e (λ o. absurd (false≢true (sym (left (s .slots) i _ refl) ∙ o))))
           (λ e. rw (
             getD-set-other (s .slots) i j _ (emptySlot (K .fresh 0)) e,
-            getD-set-other (t .set .slots) i j _
-                (emptySlot (noEnds K)) e,
+            getD-set-other (t .set .slots) i j _ (emptySlot (noEnds K)) e,
           ) h)
 
       fewer : (j : ℕ) → scopeSlot s j .owned ≡ false → scopeSlot s₁ j .owned ≡ false
@@ -266,10 +265,10 @@ module _ (K L : Representation) (v : Extent → K .Held → L .Held) (Word : ℕ
     -- one index after the other: by what holds of the sets after each that is taken, and of those that are passed over
     module _ (F : List ℕ → Tracker (K .Held) → Set (K .Held) → Type 0) (end : (t : Tracker (K .Held)) (s : Set (K .Held))
         → SetFits FitE (t .set) → SetFits Fit s → F [] t s)
-        (take : (i : ℕ) (is : List ℕ) (t : Tracker (K .Held)) (s : Set (K .Held)) → Taken t s i → F is (t₁ t s i) (s₁ t s i)
-        → F (i ∷ is) t s)
-        (skip : (i : ℕ) (is : List ℕ) (t : Tracker (K .Held)) (s : Set (K .Held)) → scopeSlot s i .owned ≡ false → F is t s
-        → F (i ∷ is) t s) where
+        (take : (i : ℕ) (is : List ℕ) (t : Tracker (K .Held)) (s : Set (K .Held)) → Taken t s i
+        → F is (t₁ t s i) (s₁ t s i) → F (i ∷ is) t s)
+        (skip : (i : ℕ) (is : List ℕ) (t : Tracker (K .Held)) (s : Set (K .Held)) → scopeSlot s i .owned ≡ false
+        → F is t s → F (i ∷ is) t s) where
       one-by-one : (is : List ℕ) (t : Tracker (K .Held)) (s : Set (K .Held)) → SetFits FitE (t .set) → SetFits Fit s
           → t .set .flags ≡ s .flags → All (Alike t s) is → F is t s
       one-by-one [] t s w y q h = end t s w y
@@ -277,8 +276,7 @@ module _ (K L : Representation) (v : Extent → K .Held → L .Held) (Word : ℕ
         where
           go : (b : Bool) → scopeSlot s i .owned ≡ b
               → ((t : Tracker (K .Held)) (s : Set (K .Held)) → SetFits FitE (t .set) → SetFits Fit s → t .set .flags ≡ s .flags
-              → All (Alike t s) is → F is t s)
-              → F (i ∷ is) t s
+              → All (Alike t s) is → F is t s) → F (i ∷ is) t s
           go false e ih = skip i is t s e (ih t s w y q (h .1))
           go true e ih =
               let fx : Fit (t .set .flags) (scopeSlot s i .extent) (scopeSlot s i .held) =
@@ -289,12 +287,12 @@ module _ (K L : Representation) (v : Extent → K .Held → L .Held) (Word : ℕ
               (givenL t s i) i (trackSlot t i) r x (h .0 e) in
               take i is t s (record { owned = e; pairs = r; slot = x; at = h .0 e })
               (ih (t₁ t s i) (s₁ t s i) (put-slot FitE (t .set) i _ w (m .0))
-              (put-slot Fit s i _ y (no-owner Fit (s .numbers) (s .flags) _ refl)) q (all-weak (Alike t s) (Alike (t₁ t s i) (s₁ t s i))
-              (still t s i) is (h .1)))
+              (put-slot Fit s i _ y (no-owner Fit (s .numbers) (s .flags) _ refl)) q
+              (all-weak (Alike t s) (Alike (t₁ t s i) (s₁ t s i)) (still t s i) is (h .1)))
 
       -- the checks passed: each listed index is alike
-      alike : (t : Tracker (K .Held)) (s : Set (K .Held)) (is : List ℕ) → Passed (each (sparseChecks (headOf (t .set)) (headOf s)) is)
-          → All (Alike t s) is
+      alike : (t : Tracker (K .Held)) (s : Set (K .Held)) (is : List ℕ)
+          → Passed (each (sparseChecks (headOf (t .set)) (headOf s)) is) → All (Alike t s) is
       alike t s [] c = tt
       alike t s (i ∷ is) c =
           let here = all-left _ (sparseChecks (headOf (t .set)) (headOf s) i) _ c in (
@@ -329,13 +327,14 @@ module _ (K L : Representation) (v : Extent → K .Held → L .Held) (Word : ℕ
     abbrev Owned : List ℕ → Tracker (K .Held) → Set (K .Held) → Type 0
     Owned is t s = MatchesB (λ j. scopeSlot s j .owned) (sparseAll K is (t, s)) (sparseAll L is (imageTracker v t, imageSet v s))
 
-    take-one : (i : ℕ) (is : List ℕ) (t : Tracker (K .Held)) (s : Set (K .Held)) → Taken t s i → Owned is (t₁ t s i) (s₁ t s i)
-        → Owned (i ∷ is) t s
+    take-one : (i : ℕ) (is : List ℕ) (t : Tracker (K .Held)) (s : Set (K .Held)) → Taken t s i
+        → Owned is (t₁ t s i) (s₁ t s i) → Owned (i ∷ is) t s
     take-one i is t s k ih =
         let p = t .set .flags in let x = scopeSlot s i in let y = trackSlot t i in
-        let m = slot-set (t .set .numbers) p (x .extent) (given t s i) (givenL t s i) (given t s i) (givenL t s i) i y (k .pairs) (k .slot)
-        (k .at) in
-        let tracker : imageTracker v (t₁ t s i) ≡ withTracker (imageTracker v t) (set (gridSlots (imageEnds v) (t .set .slots)) i
+        let m = slot-set (t .set .numbers) p (x .extent) (given t s i) (givenL t s i) (given t s i) (givenL t s i) i y
+        (k .pairs) (k .slot) (k .at) in
+        let tracker : imageTracker v (t₁ t s i)
+        ≡ withTracker (imageTracker v t) (set (gridSlots (imageEnds v) (t .set .slots)) i
         (setSlot L p (x .extent) (givenL t s i) (givenL t s i) (ends y))) =
         ap (withTracker (imageTracker v t)) (set-map ends (t .set .slots) i _
         ∙ ap (set (gridSlots (imageEnds v) (t .set .slots)) i) (m .1)) in
@@ -356,8 +355,8 @@ module _ (K L : Representation) (v : Extent → K .Held → L .Held) (Word : ℕ
               (k .at) (t .mask)) (ih .logs);
         }
 
-    skip-one : (i : ℕ) (is : List ℕ) (t : Tracker (K .Held)) (s : Set (K .Held)) → scopeSlot s i .owned ≡ false → Owned is t s
-        → Owned (i ∷ is) t s
+    skip-one : (i : ℕ) (is : List ℕ) (t : Tracker (K .Held)) (s : Set (K .Held)) → scopeSlot s i .owned ≡ false
+        → Owned is t s → Owned (i ∷ is) t s
     skip-one i is t s e ih =
         rw (scope-same s i, e) record
         { fit = ih .fit; fits = ih .fits; answer = (none, refl, refl); tracker = ih .tracker; scope = ih .scope; logs = ih .logs }

@@ -140,8 +140,8 @@ PieceIn sh q = In sh (q .selector)
 pub pieces-in : (sh : Extent) (qs : List Piece) (n : Named) → Gives sh (givenMany qs) n → All (PieceIn sh) qs
 pieces-in sh qs n (gives-place {q} a b c d) = ((c, d, a, b), tt)
 pieces-in sh qs n (gives-set ss h t) =
-    all-eachAt (λ (s : List Range). Tiles 0 s (sh .layers)) (PieceIn sh) (sh .mips) _ (λ k s e u. row k s e (tiles-in s 0 (sh .layers) u)) 0
-    ss (omega arith) t
+    all-eachAt (λ (s : List Range). Tiles 0 s (sh .layers)) (PieceIn sh) (sh .mips) _
+    (λ k s e u. row k s e (tiles-in s 0 (sh .layers) u)) 0 ss (omega arith) t
   where
     row : (k : ℕ) (s : List Range) → k < sh .mips → All (RangeIn (sh .layers)) s
         → All (PieceIn sh) (map (λ (r : Range). record { selector = select k (suc k) (r .start) (r .end); state = r .state }) s)
@@ -186,8 +186,8 @@ texture-few p mask sh h g n e f r few =
 row-most : (test : ℕ → Bool) (k n : ℕ) → sumFrom (λ l. oneIf (test l)) k n ≤ n
 row-most test k zero = omega arith
 row-most test k (suc n) =
-    let h = row-most test (suc k) n in by-test (λ (x : ℕ). x + sumFrom (λ l. oneIf (test l)) (suc k) n ≤ suc n) (test k) (λ b. omega arith)
-    (λ b. omega arith)
+    let h = row-most test (suc k) n in by-test (λ (x : ℕ). x + sumFrom (λ l. oneIf (test l)) (suc k) n ≤ suc n) (test k)
+    (λ b. omega arith) (λ b. omega arith)
 
 grid-most : (test : ℕ → ℕ → Bool) (w k n : ℕ) → sumFrom (λ m. sumFrom (λ l. oneIf (test m l)) 0 w) k n ≤ n * w
 grid-most test w k zero = omega arith
@@ -221,8 +221,8 @@ abbrev pub namedAt : Named → ℕ → ℕ → Bool
 namedAt n m l = isNamed (getD (getD (n .states) m []) l none)
 
 -- ---- one index
-module _ (n : Numbers) (p : UsageFlags) (mask : ℕ) (sh : Extent) (a : Given) (b : Named) (c : Given) (d : Named) (i : ℕ)
-    (s : Slot (Ends Held))
+module _ (n : Numbers) (p : UsageFlags) (mask : ℕ) (sh : Extent) (a : Given) (b : Named) (c : Given) (d : Named)
+    (i : ℕ) (s : Slot (Ends Held))
     (r : PairsW p sh a b c d) (t : SlotFits FitEW n p s) (h : At n s sh) where
   slot-few : entries (logSlot ranged p mask sh a i s) ≤ countStates sh (namedAt b)
   slot-few = by-test (λ (x : List (Indexed (List Entry))). entries x ≤ countStates sh (namedAt b)) (s .owned)
@@ -235,11 +235,11 @@ module _ (n : Numbers) (p : UsageFlags) (mask : ℕ) (sh : Extent) (a : Given) (
   -- as many as the given extent has, and as the texture has that is owned
   slot-most : (entries (logSlot ranged p mask sh a i s) ≤ allStates sh) × (entries (logSlot ranged p mask sh a i s) ≤ slotStates s)
   slot-most =
-      let x = slot-few in let y = states-most sh (namedAt b) in let most : entries (logSlot ranged p mask sh a i s) ≤ allStates sh =
-      omega arith in (
+      let x = slot-few in let y = states-most sh (namedAt b) in
+      let most : entries (logSlot ranged p mask sh a i s) ≤ allStates sh = omega arith in (
         most,
-        by-test₂ (λ (x : List (Indexed (List Entry))) (n : ℕ). entries x ≤ n) (s .owned) (λ e. rw (h .own e) (rw e at most))
-            (λ e. omega arith),
+        by-test₂ (λ (x : List (Indexed (List Entry))) (n : ℕ). entries x ≤ n) (s .owned)
+            (λ e. rw (h .own e) (rw e at most)) (λ e. omega arith),
       )
 
 entries-append : (x y : List (Indexed (List Entry))) → entries (x ++ y) ≡ entries x + entries y
@@ -295,8 +295,8 @@ single-few t i sh sel st word w =
     )
 
 -- ---- every index of a given set
-module _ {H : Type 0} {H′ : Type 0} (u : Extent → H → H′) (Good : UsageFlags → Extent → H → Type 0) (from to : H → Given) (from′ to′ : H′
-    → Named)
+module _ {H : Type 0} {H′ : Type 0} (u : Extent → H → H′) (Good : UsageFlags → Extent → H → Type 0) (from to : H
+    → Given) (from′ to′ : H′ → Named)
     (hands : (p : UsageFlags) (sh : Extent) (h : H) → Good p sh h → PairsW p sh (from h) (from′ (u sh h)) (to h) (to′ (u sh h))) where
   from-few : (t : Tracker Held) (x : Set H) → WellTracker t → SetFits Good x
       → Within (ownedStates (x .slots)) (ownedStates (t .set .slots)) (setFrom ranged from to t x)
@@ -366,8 +366,8 @@ listed-more i is k [] = omega arith
 listed-more i is k (s ∷ l) = let ih = listed-more i is (suc k) l in go ih (eqb i k) (listed k is)
   where
     go : listedStates is (suc k) l ≤ listedStates (i ∷ is) (suc k) l → (a b : Bool)
-        → (if b then slotStates s else 0) + listedStates is (suc k) l ≤ (if (if a then true else b) then slotStates s else 0) + listedStates
-        (i ∷ is) (suc k) l
+        → (if b then slotStates s else 0) + listedStates is (suc k) l ≤ (if (if a then true else b) then slotStates s
+        else 0) + listedStates (i ∷ is) (suc k) l
     go ih true true = omega arith
     go ih true false = omega arith
     go ih false true = omega arith
@@ -399,8 +399,8 @@ take-few i is t s k ih =
     let here : slotStates x ≡ allStates (x .extent) = rw (k .owned) in
     rw (k .owned) (omega arith, omega arith)
 
-skip-few : (i : ℕ) (is : List ℕ) (t : Tracker Held) (s : Set Held) → slotAt (ranged .fresh 0) s i .owned ≡ false → Listed is t s
-    → Listed (i ∷ is) t s
+skip-few : (i : ℕ) (is : List ℕ) (t : Tracker Held) (s : Set Held) → slotAt (ranged .fresh 0) s i .owned ≡ false
+    → Listed is t s → Listed (i ∷ is) t s
 skip-few i is t s e ih = let more = listed-more i is 0 (s .slots) in rw e (omega arith, ih .1)
 
 sparse-few : (t : Tracker Held) (s : Set Held) (is : List ℕ) → WellTracker t → WellScope s
@@ -421,8 +421,8 @@ with-two : {Y : Type 0} (P : Y → Type 0) (a : Option Y → ℕ) (k : Sets rang
 with-two P a k n m l f t u h =
     elem-of WellTracker (k .trackers) n (λ o. Within (a (getElem? l m)) (ofTracker o) (with₂ ranged k o (getElem? l m) f)) t
     (omega arith, omega arith)
-    (λ x q. elem-of P l m (λ o. Within (a o) (ownedStates (x .set .slots)) (with₂ ranged k (some x) o f)) u (omega arith, omega arith)
-    (λ y r. h x y q r))
+    (λ x q. elem-of P l m (λ o. Within (a o) (ownedStates (x .set .slots)) (with₂ ranged k (some x) o f)) u
+    (omega arith, omega arith) (λ y r. h x y q r))
 
 pub few-entries : (c : Call) (k : Sets ranged) → GivenWord c → SetsFit k
     → (entries (step ranged c k .log) ≤ namedStates c k) × (entries (step ranged c k .log) ≤ ownedOf c k)
@@ -486,8 +486,8 @@ never-full c k w e log h room = rw e (answers log k (step ranged c k) h (le-tran
 -- ---- the subresources that a tracker owns are no more than it has, N × M × W
 slot-bound : {H : Type 0} (P : UsageFlags → Extent → H → Type 0) (n : Numbers) (p : UsageFlags) (s : Slot H) → SlotFits P n p s
     → slotStates s ≤ n .mips * n .layers
-slot-bound P n p s f = by-test (λ (x : ℕ). x ≤ n .mips * n .layers) (s .owned) (λ e. mul-le-mul (f .extent e .mips) (f .extent e .layers))
-    (λ e. omega arith)
+slot-bound P n p s f = by-test (λ (x : ℕ). x ≤ n .mips * n .layers) (s .owned)
+    (λ e. mul-le-mul (f .extent e .mips) (f .extent e .layers)) (λ e. omega arith)
 
 slots-bound : {H : Type 0} (P : UsageFlags → Extent → H → Type 0) (n : Numbers) (p : UsageFlags) (l : List (Slot H))
     → All (SlotFits P n p) l → ownedStates l ≤ length l * (n .mips * n .layers)

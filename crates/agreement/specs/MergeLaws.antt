@@ -40,8 +40,8 @@ module _ (p : UsageFlags) (k new : ℕ) where
 
   row-split : (l b e st : ℕ) (s : List ℕ) → l < b → b ≤ e
       → overStates l (replicate (b - l) st ++ s) (e - l)
-      ≡ joinStop (overStates l (replicate (b - l) st) (b - l) .value) (overStates l (replicate (b - l) st) (b - l) .conflict) s (overStates
-      b s (e - b))
+      ≡ joinStop (overStates l (replicate (b - l) st) (b - l) .value) (overStates l (replicate (b - l) st)
+      (b - l) .conflict) s (overStates b s (e - b))
   row-split l b e st s h g =
       let n : e - l ≡ (b - l) + (e - b) = omega arith in let m : l + (b - l) ≡ b = omega arith in
       let c : length (replicate (b - l) st) ≡ length (replicate {A = Option ℕ} (b - l) (some new)) =
@@ -107,8 +107,8 @@ ranges-sim p sh q k s h g t = go (inMips (q .selector) k)
 
     go : (b : Bool) → Runs 0 (sh .layers)
         (if b then record { value = settled (w .conflict) (c .before ++ (w .value ++ c .after)); conflict = w .conflict } else fine s)
-        (walk₂ (uniteState (uniteKnown p) k) 0 (layerStates s) (if b then band a e (sh .layers) (some (q .state)) none else replicate
-        (sh .layers) none))
+        (walk₂ (uniteState (uniteKnown p) k) 0 (layerStates s) (if b then band a e (sh .layers) (some (q .state)) none
+        else replicate (sh .layers) none))
     go true =
         let tiled = tiles-append (c .before) (w .value ++ c .after) 0 a (sh .layers) (cuts .before)
         (tiles-append (w .value) (c .after) a e (sh .layers) (sim .ok) (cuts .after)) in

@@ -122,8 +122,8 @@ module _ (K : Representation) where
       (λ (e : Ends (K .Held)). K .pass (e .end)) t (g .set)))
   step-own (callSetAndRemoveSparse n m is) k =
       with-two k (getElem? (k .trackers) n) (getElem? (k .scopes) m) _
-      (λ t s. unless-own (sparseRefusal (headOf (t .set)) (headOf s) is) (t, s) _ (sparse-own (headOf (t .set)) (headOf s) is)
-      (sparse-done is (t, s)))
+      (λ t s. unless-own (sparseRefusal (headOf (t .set)) (headOf s) is) (t, s) _
+      (sparse-own (headOf (t .set)) (headOf s) is) (sparse-done is (t, s)))
 
   pub own-refusals : (c : Call) (k : Sets K) (r : Refusal) → step K c k .answer ≡ refused r
       → listed (numberOf r) (1 ∷ 2 ∷ 3 ∷ 4 ∷ 5 ∷ 14 ∷ 15 ∷ []) ≡ false

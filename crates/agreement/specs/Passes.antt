@@ -67,16 +67,16 @@ module _ {S C K D : Type 0} (view : S → List C) (Ok : S → Type 0) (cl : K �
 -- Q holds of the subresources that no pass has met yet.
 module _ {S C K D : Type 0} (view : S → List C) (Ok : S → Type 0) (cl : K → D) (sh : Extent) (full-length : (s : S) → Ok s
     → length (view s) ≡ sh .layers)
-    (U : ℕ → ℕ → C → Option ℕ → Stop D C) (blank : (k l : ℕ) (c : C) → U k l c none ≡ fine c) (Q : C → Type 0) (pass : Piece → ℕ → S
-    → Stop K S) where
+    (U : ℕ → ℕ → C → Option ℕ → Stop D C) (blank : (k l : ℕ) (c : C) → U k l c none ≡ fine c) (Q : C → Type 0)
+    (pass : Piece → ℕ → S → Stop K S) where
   pub record Pass : Type 0 where
     pub skips : (q : Piece) (k : ℕ) (s : S) → inMips (q .selector) k ≡ false → pass q k s ≡ fine s
     pub names : (q : Piece) (k : ℕ) (s : S) (x y z : List C) → inMips (q .selector) k ≡ true
         → q .selector .layers .start .0 < q .selector .layers .end .0 → q .selector .layers .end .0 ≤ sh .layers → Ok s
         → length x ≡ q .selector .layers .start .0 → length y ≡ q .selector .layers .end .0 - q .selector .layers .start .0
         → view s ≡ x ++ (y ++ z) → All Q y
-        → (let v = walk₂ (U k) (q .selector .layers .start .0) y (replicate (q .selector .layers .end .0 - q .selector .layers .start .0)
-        (some (q .state))) in
+        → (let v = walk₂ (U k) (q .selector .layers .start .0) y
+        (replicate (q .selector .layers .end .0 - q .selector .layers .start .0) (some (q .state))) in
         RunsOf view Ok cl (pass q k s) (record { value = x ++ (v .value ++ z); conflict = v .conflict }))
 
   module _ (R : Pass) where
@@ -166,11 +166,11 @@ module _ {S C K D : Type 0} (view : S → List C) (Ok : S → Type 0) (cl : K �
     grid-passes k d (s ∷ l) (r ∷ t) hd hl td tl tg o =
         let w = rowPasses k r s in let m = row-passes k r s 0 [] (view s) (tg .0) (tl .0) refl refl (o .0) in
         let long : length (d ++ (w .value ∷ [])) ≡ suc k = rw length-append (omega arith) in
-        let ih = grid-passes (suc k) (d ++ (w .value ∷ [])) l t long (omega arith) (all-join _ d (w .value ∷ []) td (m .ok, tt)) (tl .1)
-        (tg .1) (o .1) in
+        let ih = grid-passes (suc k) (d ++ (w .value ∷ [])) l t long (omega arith)
+        (all-join _ d (w .value ∷ []) td (m .ok, tt)) (tl .1) (tg .1) (o .1) in
         rw (passes-append (λ (q : Piece). walk (pass q) 0) (map (pieceAt k) r) _ (d ++ (s ∷ l)), row-in-grid k r d s l hd)
-        (after-row view Ok cl d (w .value) l _ (w .conflict) _ _ _ (all-join _ d (w .value ∷ l) td (m .ok, tl .1)) (m .same) (m .conflict)
-        (rw append-assoc at ih))
+        (after-row view Ok cl d (w .value) l _ (w .conflict) _ _ _ (all-join _ d (w .value ∷ l) td (m .ok, tl .1)) (m .same)
+        (m .conflict) (rw append-assoc at ih))
 
     -- a Many texture handed in: its pieces, and all of its subresources
     pub set-passes : (l : List S) (t : List (List Range)) → length l ≡ length t → All Ok l → Tiled sh t → All (λ (s : S). All Q (view s)) l
@@ -197,8 +197,8 @@ module _ {S C K D : Type 0} (view : S → List C) (Ok : S → Type 0) (cl : K �
           where
             go : (b : Bool) → inMips (q .selector) k ≡ b → Ok (pass q k s .value)
                 × Sim view cl (pass q k s) (walk₂ (U k) 0 (view s)
-                (if b then band (q .selector .layers .start .0) (q .selector .layers .end .0) (sh .layers) (some (q .state)) none else
-                replicate (sh .layers) none))
+                (if b then band (q .selector .layers .start .0) (q .selector .layers .end .0) (sh .layers) (some (q .state)) none
+                else replicate (sh .layers) none))
             go true b =
                 let a = q .selector .layers .start .0 in let e = q .selector .layers .end .0 in
                 let d = thirds (view s) a e (omega arith) (omega (arith, full-length s (t .0))) in

@@ -18,8 +18,8 @@ GridsAll sh = GridsOf layerStates (Tiling sh) firstOf
 abbrev pub Pass : Extent → (ℕ → ℕ → Option ℕ) → (ℕ → Type 0) → (Piece → ℕ → List Range → Stop InvalidUse (List Range)) → Type 0
 Pass sh f Q pass = Passes.Pass layerStates (Tiling sh) firstOf sh (tiling-length sh) (λ k. uniteState f k) (λ k l c. refl) Q pass
 
-module _ (sh : Extent) (f : ℕ → ℕ → Option ℕ) (Q : ℕ → Type 0) (pass : Piece → ℕ → List Range → Stop InvalidUse (List Range))
-    (R : Pass sh f Q pass) where
+module _ (sh : Extent) (f : ℕ → ℕ → Option ℕ) (Q : ℕ → Type 0) (pass : Piece → ℕ → List Range
+    → Stop InvalidUse (List Range)) (R : Pass sh f Q pass) where
   -- a Many texture handed in: its pieces, and all of its subresources
   pub set-passes : (l t : List (List Range)) → length l ≡ length t → Tiled sh l → Tiled sh t
       → All (λ (s : List Range). All Q (layerStates s)) l

@@ -69,8 +69,8 @@ counted (r ∷ s) a n t w =
     let own = sum-same f (λ i. 1) (r .start) h (λ i p q. rw (le-leb (r .start) i p, lt-ltb i (r .end) (omega arith)))
     ∙ sum-one (r .start) h in
     let rest = sum-same f (λ l. oneIf (covers s l)) (r .end) m (λ i p q. rw (le-leb (r .start) i (omega arith), le-ltb i (r .end) p))
-    ∙ counted s (r .end) m z (all-weak (λ (q : Range). q .end ≤ a + n) (λ (q : Range). q .end ≤ r .end + m) (λ q e. omega arith) s
-    (w .1)) in
+    ∙ counted s (r .end) m z (all-weak (λ (q : Range). q .end ≤ a + n) (λ (q : Range). q .end ≤ r .end + m)
+    (λ q e. omega arith) s (w .1)) in
     let one = sum-split f a g (h + m) in let two = sum-split f (r .start) h m in
     rw en (one ∙ rw (eg, two, eh, gap, own, rest) (omega arith))
 
@@ -97,14 +97,13 @@ scope-adds-up s e =
     (λ x f o. held-adds-up (s .flags) (x .extent) (x .held) (f .held o)) (s .slots) (scope-to s e .slots)
 
 pub tracker-adds-up : (t : Tracker Held) → trackerFits t ≡ true
-    → All (λ (x : Slot (Ends Held)). x .owned ≡ true
-    → AddUp (x .extent) (x .held .start) × AddUp (x .extent) (x .held .end)) (t .set .slots)
+    → All (λ (x : Slot (Ends Held)). x .owned ≡ true → AddUp (x .extent) (x .held .start)
+    × AddUp (x .extent) (x .held .end)) (t .set .slots)
 tracker-adds-up t e =
     all-weak (SlotFits EndsFit (t .set .numbers) (t .set .flags)) (λ (x : Slot (Ends Held)). x .owned ≡ true
     → AddUp (x .extent) (x .held .start) × AddUp (x .extent) (x .held .end))
     (λ x f o. let h = f .held o in (
       held-adds-up (t .set .flags) (x .extent) (x .held .start) (h .start),
-      held-adds-up (t .set .flags) (x .extent) (x .held .end)
-          (h .end),
+      held-adds-up (t .set .flags) (x .extent) (x .held .end) (h .end),
     ))
     (t .set .slots) (tracker-to t e .slots)

@@ -144,8 +144,8 @@ pub record TextureShares (p : UsageFlags) (sh : Extent) (u : Use) : Type 0 where
   pub updated-fits : (e : Ends Held) → endsFit p sh e ≡ true → endsFit p sh (update p sh e (rangedUse sh u)) ≡ true
 
 -- ---- What is shared after one call
-pub record Shares (r : CallResult InvalidUse (List Entry) (Sets ranged)) (s : CallResult SubresourceConflict (List (List (Option Move)))
-    (Sets grid)) : Type 0 where
+pub record Shares (r : CallResult InvalidUse (List Entry) (Sets ranged))
+    (s : CallResult SubresourceConflict (List (List (Option Move))) (Sets grid)) : Type 0 where
   pub answer : seenAnswer (r .answer) ≡ s .answer
   pub scopes : map (seen gridOf) (r .after .scopes) ≡ map (seen itself) (s .after .scopes)
   pub trackers : map (λ (t : Tracker Held). seen gridEnds (t .set)) (r .after .trackers)

@@ -68,14 +68,14 @@ module _ {H : Type 0} (P : UsageFlags → Extent → H → Type 0) where
   slot-fits s h i f = all-getD (SlotFits P (s .numbers) (s .flags)) (s .slots) i (emptySlot h)
       (no-owner (s .numbers) (s .flags) (emptySlot h) refl) (f .slots)
 
-  pub put-slots : (s : Set H) (l : List (Slot H)) → SetFits P s → length l ≡ length (s .slots) → All (SlotFits P (s .numbers) (s .flags)) l
-      → SetFits P (withSlots s l)
+  pub put-slots : (s : Set H) (l : List (Slot H)) → SetFits P s → length l ≡ length (s .slots)
+      → All (SlotFits P (s .numbers) (s .flags)) l → SetFits P (withSlots s l)
   put-slots s l f e t = record { numbers = f .numbers; flags = f .flags; room = e ∙ f .room; slots = t }
 
   pub put-slot : (s : Set H) (i : ℕ) (x : Slot H) → SetFits P s → SlotFits P (s .numbers) (s .flags) x
       → SetFits P (withSlots s (set (s .slots) i x))
-  put-slot s i x f t = put-slots s _ f (length-set (s .slots) i x) (all-set (SlotFits P (s .numbers) (s .flags)) (s .slots) i x t
-      (f .slots))
+  put-slot s i x f t = put-slots s _ f (length-set (s .slots) i x)
+      (all-set (SlotFits P (s .numbers) (s .flags)) (s .slots) i x t (f .slots))
 
   pub open-fits : (h : ℕ → H) (o : Opening) → opens o ≡ true → SetFits P (openSet h o)
   open-fits h o e = record {
@@ -127,8 +127,8 @@ module _ {H G : Type 0} (h : Head) (P : Slot H → Type 0) (Q : Slot G → Type 
     (next : (k : ℕ) (s : Slot H) (l : List (Slot H)) (x : Slot G) (xs : List (Slot G)) → P s → All P l → Q x
     → (x .owned ≡ true → At (h .numbers) s (x .extent)) → F (suc k) l xs → F k (s ∷ l) (x ∷ xs)) where
   along : (k : ℕ) (l : List (Slot H)) (xs : List (Slot G)) → All P l → All Q xs
-      → ((j : ℕ) → getD (h .extents) (k + j) none ≡ getD (map ownExtent l) j none) → Passed (eachAt (ownedChecks h) k (map ownExtent xs))
-      → F k l xs
+      → ((j : ℕ) → getD (h .extents) (k + j) none ≡ getD (map ownExtent l) j none)
+      → Passed (eachAt (ownedChecks h) k (map ownExtent xs)) → F k l xs
   along k [] xs t u d c = past k xs c
   along k (s ∷ l) [] t u d c = rest k (s ∷ l) t
   along k (s ∷ l) (x ∷ xs) t u d c =
@@ -143,5 +143,5 @@ pub each-owned : {H G : Type 0} (s : Set H) (g : Set G) → setRefusal (headOf s
     → ((k : ℕ) (x : Slot H) (l : List (Slot H)) (y : Slot G) (ys : List (Slot G)) → P x → All P l → Q y
     → (y .owned ≡ true → At (s .numbers) x (y .extent)) → F (suc k) l ys → F k (x ∷ l) (y ∷ ys))
     → All P (s .slots) → All Q (g .slots) → F 0 (s .slots) (g .slots)
-each-owned s g e P Q F past rest next t u = along (headOf s) P Q F past rest next 0 (s .slots) (g .slots) t u (λ j. rw zero-add)
-    (passed _ e .1)
+each-owned s g e P Q F past rest next t u = along (headOf s) P Q F past rest next 0 (s .slots) (g .slots) t u
+    (λ j. rw zero-add) (passed _ e .1)

@@ -59,8 +59,8 @@ merge-pass p sh = record {
       rw (
         b,
         e,
-        row-parts (uniteKnown p) k (q .state) (q .selector .layers .start .0) (q .selector .layers .end .0) (sh .layers) x y z hx hy
-            (omega arith) g,
+        row-parts (uniteKnown p) k (q .state) (q .selector .layers .start .0) (q .selector .layers .end .0)
+            (sh .layers) x y z hx hy (omega arith) g,
       ) at r;
 }
 
@@ -70,23 +70,22 @@ any-ranges = all-of _ (λ s. all-of _ (λ c. tt) (layerStates s))
 abbrev pub Merges : UsageFlags → Extent → Held → Given → Named → Type 0
 Merges p sh h g n = Fit sh (merge p sh h g .value) × Sim (gridOf sh) firstOf (merge p sh h g) (ruleMerge p sh (gridOf sh h) n)
 
-pub grids-length : (sh : Extent) (f : ℕ → ℕ → Option ℕ) (w : Stop InvalidUse (List (List Range))) (ss : List (List Range))
-    (n : List (List (Option ℕ)))
+pub grids-length : (sh : Extent) (f : ℕ → ℕ → Option ℕ) (w : Stop InvalidUse (List (List Range)))
+    (ss : List (List Range)) (n : List (List (Option ℕ)))
     → GridsAll sh [] w (uniteStates f (map layerStates ss) n) → length (w .value) ≡ length ss
 grids-length sh f w ss n g =
-    sym (length-map (w .value) layerStates) ∙ ap length (g .same) ∙ walk-length (λ m. walk₂ (uniteState f m) 0) 0 (map layerStates ss) n
-    ∙ length-map ss layerStates
+    sym (length-map (w .value) layerStates) ∙ ap length (g .same)
+    ∙ walk-length (λ m. walk₂ (uniteState f m) 0) 0 (map layerStates ss) n ∙ length-map ss layerStates
 
-many-many : (p : UsageFlags) (sh : Extent) (ss : List (List Range)) (qs : List Piece) (n : Named) → Measured sh → length ss ≡ sh .mips
-    → Tiled sh ss
+many-many : (p : UsageFlags) (sh : Extent) (ss : List (List Range)) (qs : List Piece) (n : Named) → Measured sh
+    → length ss ≡ sh .mips → Tiled sh ss
     → Gives sh (givenMany qs) n → Merges p sh (many ss) (givenMany qs) n
 unfolding merge ruleMerge gridOf
 many-many p sh ss qs n e h t g =
     let m = many-pass sh (uniteKnown p) (λ c. Unit {0}) (mergeMip p) (merge-pass p sh) ss h t (any-ranges ss) qs n g in (
       (
         e,
-        grids-length sh (uniteKnown p) (passes (λ (q : Piece). walk (mergeMip p q) 0) qs ss) ss (n .states) (m .grids)
-            ∙ h,
+        grids-length sh (uniteKnown p) (passes (λ (q : Piece). walk (mergeMip p q) 0) qs ss) ss (n .states) (m .grids) ∙ h,
         m .grids .tiled,
       ),
       (ap (λ (x : List (List ℕ)). record { single = false; states = x }) (m .grids .same), m .grids .conflict),
@@ -112,8 +111,8 @@ many-one : (p : UsageFlags) (sh : Extent) (ss : List (List Range)) (new : ℕ) �
     → Merges p sh (many ss) (givenSingle new) (record { single = true; states = everywhere sh (some new) })
 unfolding merge ruleMerge gridOf
 many-one p sh ss new e h t =
-    let r = lockstep layerStates firstOf (λ (s : List Range). Tiles 0 s (sh .layers)) (λ (s : List Range). Tiles 0 s (sh .layers))
-    (λ s t. t) (mergeEvery p new)
+    let r = lockstep layerStates firstOf (λ (s : List Range). Tiles 0 s (sh .layers))
+    (λ (s : List Range). Tiles 0 s (sh .layers)) (λ s t. t) (mergeEvery p new)
     (λ m. walk₂ (uniteState (uniteKnown p) m) 0) (λ j. replicate (sh .layers) (some new)) (every-range-list p sh new) 0 ss t in
     let q = rw (h, tab-same (replicate (sh .layers) (some new)) 0 (sh .mips)) at (r .1) in
     let g : GridsAll sh [] (walk (mergeEvery p new) 0 ss) (uniteStates (uniteKnown p) (map layerStates ss) (everywhere sh (some new))) =
@@ -160,8 +159,8 @@ row-painted k l st (c ∷ y) zero h = absurd (omega arith)
 row-painted k l st (c ∷ y) (suc n) h = rw (row-painted k (suc l) st y n (omega arith))
 
 abbrev insertPass : ℕ → Piece → ℕ → List Range → Stop InvalidUse (List Range)
-insertPass u q k s = fine (if inMips (q .selector) k then paint u (q .selector .layers .start .0) (q .selector .layers .end .0)
-    (q .state) s else s)
+insertPass u q k s = fine (if inMips (q .selector) k then paint u (q .selector .layers .start .0) (q .selector .layers .end .0) (q .state) s
+    else s)
 
 insert-pass : (u : ℕ) (sh : Extent) → Pass sh (λ c new. some new) (λ c. Unit {0}) (insertPass u)
 insert-pass u sh = record {
@@ -188,8 +187,8 @@ passes-fine u (q ∷ qs) ss =
 -- a new texture's mips
 pub mips-states : (sh : Extent) (st : ℕ) → map layerStates (freshMips sh st) ≡ everywhere sh st
 unfolding layerStates
-mips-states sh st = let z : sh .layers - 0 ≡ sh .layers = omega arith in map-replicate layerStates (sh .mips) (range 0 (sh .layers) st ∷ [])
-    ∙ rw (append-nil, z)
+mips-states sh st = let z : sh .layers - 0 ≡ sh .layers = omega arith in
+    map-replicate layerStates (sh .mips) (range 0 (sh .layers) st ∷ []) ∙ rw (append-nil, z)
 
 pub mips-tiled : (sh : Extent) (st : ℕ) → 0 < sh .layers → Tiled sh (freshMips sh st)
 mips-tiled sh st h = all-replicate (λ (s : List Range). Tiles 0 s (sh .layers)) (range 0 (sh .layers) st ∷ []) (sh .mips) (refl, h, refl)
@@ -263,8 +262,8 @@ inserted p sh (givenMany qs) n e g = (
     long = length-replicate (sh .mips) _
 
     m : Manys sh (λ c new. some new) (insertPass (p .unknown)) (freshMips sh (p .unknown)) qs n
-    m = many-pass sh (λ c new. some new) (λ c. Unit {0}) (insertPass (p .unknown)) (insert-pass (p .unknown) sh) (freshMips sh (p .unknown))
-        long
+    m = many-pass sh (λ c new. some new) (λ c. Unit {0}) (insertPass (p .unknown)) (insert-pass (p .unknown) sh)
+        (freshMips sh (p .unknown)) long
         (mips-tiled sh (p .unknown) (e .1)) (any-ranges (freshMips sh (p .unknown))) qs n g
 
     G : GridsAll sh [] (fine (paintAll (p .unknown) qs (freshMips sh (p .unknown))))
@@ -301,8 +300,8 @@ spread-pass p sh cur = record {
         → (r : Option ℕ) → unite p cur (q .state) ≡ r
         → (let v = walk₂ (uniteState (unite p) k) (q .selector .layers .start .0) y
         (replicate (q .selector .layers .end .0 - q .selector .layers .start .0) (some (q .state))) in
-        Runs 0 (sh .layers) (ruled s (invalidUse (select k (suc k) (q .selector .layers .start .0) (q .selector .layers .end .0)) cur
-        (q .state))
+        Runs 0 (sh .layers) (ruled s
+        (invalidUse (select k (suc k) (q .selector .layers .start .0) (q .selector .layers .end .0)) cur (q .state))
         (Option·map (λ u. coalesce (paint (p .unknown) (q .selector .layers .start .0) (q .selector .layers .end .0) u s)) r))
         (record { value = x ++ (v .value ++ z); conflict = v .conflict }))
     named q k s x y z h g t hx hy e o none d =
@@ -316,8 +315,8 @@ spread-pass p sh cur = record {
         ∙ ap (λ (n : ℕ). replicate n cur) hy in
         let w = row-united (unite p) k cur (q .state) u d (q .selector .layers .start .0)
         (q .selector .layers .end .0 - q .selector .layers .start .0) in
-        let m = painted-states (p .unknown) (q .selector .layers .start .0) (q .selector .layers .end .0) u (sh .layers) s x y z h g t hx hy
-        e in
+        let m = painted-states (p .unknown) (q .selector .layers .start .0) (q .selector .layers .end .0) u
+        (sh .layers) s x y z h g t hx hy e in
         rw (c, w) record { ok = m .0; same = m .1; conflict = refl }
 
 walk-painted : (q : Selector) (g : List Range → List Range) (k : ℕ) (ss : List (List Range))
@@ -361,8 +360,8 @@ spread-same p cur n [] ss h t = (refl, refl)
 spread-same p cur n (q ∷ qs) ss h t = go (unite p cur (q .state)) (λ ss′ h′. spread-same p cur n qs ss′ h′ (t .1))
   where
     F : Option ℕ → ℕ → List Range → Stop InvalidUse (List Range)
-    F o k s = if inMips (q .selector) k then ruled s
-        (invalidUse (select k (suc k) (q .selector .layers .start .0) (q .selector .layers .end .0)) cur (q .state))
+    F o k s = if inMips (q .selector) k
+        then ruled s (invalidUse (select k (suc k) (q .selector .layers .start .0) (q .selector .layers .end .0)) cur (q .state))
         (Option·map (λ u. coalesce (paint (p .unknown) (q .selector .layers .start .0) (q .selector .layers .end .0) u s)) o) else fine s
 
     S : Option ℕ → Stop InvalidUse (List (List Range))
@@ -377,8 +376,8 @@ spread-same p cur n (q ∷ qs) ss h t = go (unite p cur (q .state)) (λ ss′ h�
     B = passes (λ (q : Piece). walk (spreadPass p cur q) 0) qs
 
     go : (o : Option ℕ)
-        → ((x : List (List Range)) → length x ≡ n
-        → (A x .value ≡ B x .value) × (Option·map firstOf (A x .conflict) ≡ Option·map firstOf (B x .conflict)))
+        → ((x : List (List Range)) → length x ≡ n → (A x .value ≡ B x .value)
+        × (Option·map firstOf (A x .conflict) ≡ Option·map firstOf (B x .conflict)))
         → (andThen (S o .conflict) (S o .value) (A (S o .value)) .value
         ≡ andThen (walk (F o) 0 ss .conflict) (walk (F o) 0 ss .value) (B (walk (F o) 0 ss .value)) .value)
         × (Option·map firstOf (andThen (S o .conflict) (S o .value) (A (S o .value)) .conflict)
@@ -408,8 +407,8 @@ unfolding layerStates
 all-cur sh cur = all-replicate (λ (s : List Range). All (λ (c : ℕ). c ≡ cur) (layerStates s)) (range 0 (sh .layers) cur ∷ []) (sh .mips)
     (rw append-nil (all-replicate (λ (c : ℕ). c ≡ cur) cur (sh .layers - 0) refl))
 
-kept-sim : (sh : Extent) (cur : ℕ) (ss : List (List Range)) (o : Option InvalidUse) (y : List (List ℕ)) (o′ : Option SubresourceConflict)
-    (mk : Bool)
+kept-sim : (sh : Extent) (cur : ℕ) (ss : List (List Range)) (o : Option InvalidUse) (y : List (List ℕ))
+    (o′ : Option SubresourceConflict) (mk : Bool)
     → Measured sh → length ss ≡ sh .mips → Tiled sh ss → map layerStates ss ≡ y → Option·map firstOf o ≡ o′ → mk ≡ false
     → Fit sh (orKeep o (single cur) (many ss) .value)
     × Sim (gridOf sh) firstOf (orKeep o (single cur) (many ss)) (orKeep o′ (record { single = true; states = everywhere sh cur })
@@ -428,10 +427,10 @@ single-many p sh cur qs n e g =
     (mips-tiled sh cur (e .1)) (all-cur sh cur) qs n g in
     let b = spread-same p cur (sh .mips) qs (freshMips sh cur) long (in-mips sh qs n g) in
     let r = rw (mips-states sh cur) at (m .grids) in
-    let l = grids-length sh (unite p) (passes (λ (q : Piece). walk (spreadPass p cur q) 0) qs (freshMips sh cur)) (freshMips sh cur)
-    (n .states) (m .grids) in
-    kept-sim sh cur (passes (spreadPiece p cur) qs (freshMips sh cur) .value) (passes (spreadPiece p cur) qs (freshMips sh cur) .conflict) _
-    _ (n .single) e
+    let l = grids-length sh (unite p) (passes (λ (q : Piece). walk (spreadPass p cur q) 0) qs (freshMips sh cur))
+    (freshMips sh cur) (n .states) (m .grids) in
+    kept-sim sh cur (passes (spreadPiece p cur) qs (freshMips sh cur) .value)
+    (passes (spreadPiece p cur) qs (freshMips sh cur) .conflict) _ _ (n .single) e
     (rw (b .0) (l ∙ long)) (rw (b .0) (m .grids .tiled)) (rw (b .0) (r .same)) (b .1 ∙ r .conflict) (m .single)
 
 -- ---- all four

@@ -98,8 +98,8 @@ state-start : (p : UsageFlags) (s c : ℕ) (n : Option ℕ) → Known (p .unknow
 state-start p s c none k = refl
 state-start p s c (some new) k = by-test (λ (x : ℕ). x ≡ s) (eqb new (p .unknown)) (λ b. refl) (λ b. rw (ne-eqb c (p .unknown) k))
 
-row-start-known : (p : UsageFlags) (s e : List ℕ) (n : List (Option ℕ)) (w : ℕ) → length s ≡ w → length e ≡ w → length n ≡ w
-    → All (Known (p .unknown)) e
+row-start-known : (p : UsageFlags) (s e : List ℕ) (n : List (Option ℕ)) (w : ℕ) → length s ≡ w → length e ≡ w
+    → length n ≡ w → All (Known (p .unknown)) e
     → zip₃ (ruleStart p) s e n ≡ s
 row-start-known p [] e n w a b c k = refl
 row-start-known p (x ∷ s) [] n w a b c k = absurd (omega arith)
@@ -108,10 +108,10 @@ row-start-known p (x ∷ s) (y ∷ e) (z ∷ n) zero a b c k = absurd (omega ari
 row-start-known p (x ∷ s) (y ∷ e) (z ∷ n) (suc w) a b c k =
     rw (state-start p x y z (k .0), row-start-known p s e n w (omega arith) (omega arith) (omega arith) (k .1))
 
-grid-start-known : (p : UsageFlags) (w : ℕ) (s e : List (List ℕ)) (n : List (List (Option ℕ))) (m : ℕ) → length s ≡ m → length e ≡ m
-    → length n ≡ m
-    → All (λ (r : List ℕ). length r ≡ w) s → All (λ (r : List ℕ). length r ≡ w) e → All (λ (r : List (Option ℕ)). length r ≡ w) n
-    → KnownAll (p .unknown) e
+grid-start-known : (p : UsageFlags) (w : ℕ) (s e : List (List ℕ)) (n : List (List (Option ℕ))) (m : ℕ)
+    → length s ≡ m → length e ≡ m → length n ≡ m
+    → All (λ (r : List ℕ). length r ≡ w) s → All (λ (r : List ℕ). length r ≡ w) e
+    → All (λ (r : List (Option ℕ)). length r ≡ w) n → KnownAll (p .unknown) e
     → zip₃ (zip₃ (ruleStart p)) s e n ≡ s
 grid-start-known p w [] e n m a b c ds de dn k = refl
 grid-start-known p w (x ∷ s) [] n m a b c ds de dn k = absurd (omega arith)
@@ -124,8 +124,8 @@ grid-start-known p w (x ∷ s) (y ∷ e) (z ∷ n) (suc m) a b c ds de dn k =
           (ds .1) (de .1) (dn .1) (k .1),
     )
 
-start-known : (p : UsageFlags) (sh : Extent) (s e : List (List ℕ)) (n : List (List (Option ℕ))) → Dims sh s → Dims sh e → Dims sh n
-    → KnownAll (p .unknown) e
+start-known : (p : UsageFlags) (sh : Extent) (s e : List (List ℕ)) (n : List (List (Option ℕ))) → Dims sh s → Dims sh e
+    → Dims sh n → KnownAll (p .unknown) e
     → zip₃ (zip₃ (ruleStart p)) s e n ≡ s
 start-known p sh s e n ds de dn k = grid-start-known p (sh .layers) s e n (sh .mips) (ds .0) (de .0) (dn .0) (ds .1) (de .1) (dn .1) k
 
@@ -146,9 +146,8 @@ end-fine p m l c none = refl
 end-fine p m l c (some new) = refl
 
 abbrev endPass : ℕ → ℕ → Piece → ℕ → List Range → Stop InvalidUse (List Range)
-endPass u cur q k s = fine
-    (if inMips (q .selector) k then coalesce (paint u (q .selector .layers .start .0) (q .selector .layers .end .0)
-    (endAfter u cur (q .state)) s) else s)
+endPass u cur q k s = fine (if inMips (q .selector) k
+    then coalesce (paint u (q .selector .layers .start .0) (q .selector .layers .end .0) (endAfter u cur (q .state)) s) else s)
 
 end-pass : (p : UsageFlags) (sh : Extent) (cur : ℕ)
     → Pass sh (λ c new. some (endAfter (p .unknown) c new)) (λ (c : ℕ). c ≡ cur) (endPass (p .unknown) cur)
@@ -184,8 +183,8 @@ single-spread p sh cur qs n e g =
     let d = fills sh qs n g in let ev = dims-everywhere sh cur in
     let z = grid-walks (ruleEnd p) (uniteState (λ c new. some (endAfter (p .unknown) c new))) (end-fine p) 0 (sh .layers)
     (everywhere sh cur) (n .states) (ev .0 ∙ sym (d .0)) (ev .1) (d .1) in (
-      grids-length sh (λ c new. some (endAfter (p .unknown) c new)) (fine (spreadEnd (p .unknown) cur qs (freshMips sh cur))) (freshMips sh
-          cur) (n .states) r ∙ long,
+      grids-length sh (λ c new. some (endAfter (p .unknown) c new)) (fine (spreadEnd (p .unknown) cur qs (freshMips sh cur)))
+          (freshMips sh cur) (n .states) r ∙ long,
       r .tiled,
       r .same ∙ rw (mips-states sh cur, z),
     )
@@ -215,13 +214,7 @@ learn-grid p sh new k b (s ∷ ss) (t ∷ ts) (suc m) h g a c =
     (sym (append-nil (layerStates t))) in (
       ap suc (ih .0),
       (l .0, ih .1),
-      rw (
-        l .1,
-        append-nil,
-        row-learned p new b (layerStates t) (layerStates s) (sh .layers) (omega arith)
-            (omega arith),
-        ih .2,
-      ),
+      rw (l .1, append-nil, row-learned p new b (layerStates t) (layerStates s) (sh .layers) (omega arith) (omega arith), ih .2),
     )
 
 -- ---- update
@@ -249,8 +242,8 @@ pub record Keeps (p : UsageFlags) (sh : Extent) (s d : Held) (g : Given) (n : Na
       ≡ record { single = n .single; states = zip₂ (zip₂ (ruleEnd p)) (gridOf sh d .states) (n .states) }
 
 -- the start stays, under an end without UNKNOWN subresources
-stays : (p : UsageFlags) (sh : Extent) (s : Held) (e : List (List ℕ)) (n : List (List (Option ℕ))) → Fit sh s → Dims sh e → Dims sh n
-    → KnownAll (p .unknown) e
+stays : (p : UsageFlags) (sh : Extent) (s : Held) (e : List (List ℕ)) (n : List (List (Option ℕ))) → Fit sh s → Dims sh e
+    → Dims sh n → KnownAll (p .unknown) e
     → gridOf sh s ≡ record { single = gridOf sh s .single; states = zip₃ (zip₃ (ruleStart p)) (gridOf sh s .states) e n }
 stays p sh s e n f de dn k = let x = sym (start-known p sh (gridOf sh s .states) e n (dims-held sh s f) de dn k) in
     λ i. record { single = gridOf sh s .single; states = x i }
@@ -282,15 +275,15 @@ keeps-single-many p sh s cur qs n f g =
     let w = single-spread p sh cur qs n (f .measured) g in
     let k = known-everywhere (p .unknown) cur sh (clear-known p cur (f .sure) (f .end-clear)) in let mk = many-flag sh qs n g in
     record {
-      fit = fit-ends p sh _ s (many (spreadEnd (p .unknown) cur qs (freshMips sh cur))) f (f .start) (f .start-clear)
-          (f .measured, w .0, w .1) tt
+      fit = fit-ends p sh _ s (many (spreadEnd (p .unknown) cur qs (freshMips sh cur))) f (f .start)
+          (f .start-clear) (f .measured, w .0, w .1) tt
           (rw (w .2) (known-zip p s (everywhere sh cur) (n .states) (known-of p s (everywhere sh cur) k)));
       start = stays p sh s (everywhere sh cur) (n .states) (f .start) (dims-everywhere sh cur) (fills sh qs n g) k;
       end = λ i. record { single = sym mk i; states = w .2 i };
     }
 
-keeps-many-one : (p : UsageFlags) (sh : Extent) (s : Held) (ss : List (List Range)) (new : ℕ) → FitEnds p sh (ends-of s (many ss))
-    → Clear p new
+keeps-many-one : (p : UsageFlags) (sh : Extent) (s : Held) (ss : List (List Range)) (new : ℕ)
+    → FitEnds p sh (ends-of s (many ss)) → Clear p new
     → Keeps p sh s (many ss) (givenSingle new) (record { single = true; states = everywhere sh (some new) })
 unfolding update gridOf
 keeps-many-one p sh (single st) ss new f c =
@@ -305,8 +298,8 @@ keeps-many-one p sh (single st) ss new f c =
         end-clear = c;
         known = known-everywhere (p .unknown) new sh k;
       };
-      start = stays p sh (single st) (map layerStates ss) (everywhere sh (some new)) (f .start) d (dims-everywhere sh (some new))
-          (f .known);
+      start = stays p sh (single st) (map layerStates ss) (everywhere sh (some new)) (f .start) d
+          (dims-everywhere sh (some new)) (f .known);
       end = rw (grid-end-one p new (sh .layers) (ne-eqb new (p .unknown) k) (map layerStates ss) (sh .mips) (d .0) (d .1));
     }
 keeps-many-one p sh (many ts) ss new f c =

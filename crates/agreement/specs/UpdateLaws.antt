@@ -101,8 +101,8 @@ updatePass u q k t = fine (if inMips (q .selector) k then updateOne u q t else t
 
 pub update-one : (u : ℕ) (sh : Extent) (q : Piece) (t : Two) (x y z : List Pair)
     → q .selector .layers .start .0 < q .selector .layers .end .0 → q .selector .layers .end .0 ≤ sh .layers → Ok sh t
-    → length x ≡ q .selector .layers .start .0 → length y ≡ q .selector .layers .end .0 - q .selector .layers .start .0
-    → view t ≡ x ++ (y ++ z)
+    → length x ≡ q .selector .layers .start .0
+    → length y ≡ q .selector .layers .end .0 - q .selector .layers .start .0 → view t ≡ x ++ (y ++ z)
     → Ok sh (updateOne u q t) × (view (updateOne u q t) ≡ x ++ (map (after u (q .state)) y ++ z))
 update-one u sh q t x y z h g o hx hy e =
     by-test (λ (s : Two). Ok sh s × (view s ≡ x ++ (map (after u (q .state)) y ++ z))) (eqb (q .state) u)
@@ -135,8 +135,8 @@ update-one u sh q t x y z h g o hx hy e =
     known n =
         let lx = length-map x (λ (c : Pair). c .end) in let ly = length-map y (λ (c : Pair). c .end) in
         let lx′ = length-map x (λ (c : Pair). c .start) in let ly′ = length-map y (λ (c : Pair). c .start) in
-        let m = painted-states u a b (q .state) (sh .layers) (t .end) (ends x) (ends y) (ends z) h g (o .0) (omega arith)
-        (omega arith) end-parts in
+        let m = painted-states u a b (q .state) (sh .layers) (t .end) (ends x) (ends y) (ends z) h g (o .0)
+        (omega arith) (omega arith) end-parts in
         let cuts = isolate-cuts (t .end) 0 a b u (sh .layers) (omega arith) h g (o .0) in let c = isolate a b u (t .end) in
         let lb : length (layerStates (c .before)) ≡ length (ends x) = omega (arith, tiles-length (c .before) 0 a (cuts .before)) in
         let lr : length (layerStates (c .run)) ≡ length (ends y) = omega (arith, tiles-length (c .run) a b (cuts .run)) in
@@ -218,8 +218,8 @@ abbrev pub twos : List (List Range) → List (List Range) → List Two
 twos = zip₂ two
 
 pub twos-ok : (sh : Extent) (ss ts : List (List Range)) → Tiled sh ss → Tiled sh ts → All (Ok sh) (twos ss ts)
-twos-ok sh ss ts a b = all-zip (λ (s : List Range). Tiles 0 s (sh .layers)) (λ (s : List Range). Tiles 0 s (sh .layers)) (Ok sh) two
-    (λ s t x y. (x, y)) ss ts a b
+twos-ok sh ss ts a b = all-zip (λ (s : List Range). Tiles 0 s (sh .layers)) (λ (s : List Range). Tiles 0 s (sh .layers))
+    (Ok sh) two (λ s t x y. (x, y)) ss ts a b
 
 twos-length : (ss ts : List (List Range)) → length ss ≡ length ts → length (twos ss ts) ≡ length ss
 twos-length [] ts h = refl
@@ -270,13 +270,13 @@ stepTwo u q k t = if inMips (q .selector) k then updateOne u q t else t
 
 pub step-ends : (u : ℕ) (q : Piece) → eqb (q .state) u ≡ false → (k : ℕ) (l : List Two)
     → map (λ (t : Two). t .end) (mapAt (stepTwo u q) k l)
-    ≡ onMips (q .selector) (λ s. coalesce (paint u (q .selector .layers .start .0) (q .selector .layers .end .0) (q .state) s)) k (map
-    (λ (t : Two). t .end) l)
+    ≡ onMips (q .selector) (λ s. coalesce (paint u (q .selector .layers .start .0) (q .selector .layers .end .0) (q .state) s))
+    k (map (λ (t : Two). t .end) l)
 step-ends u q e k [] = refl
 step-ends u q e k (t ∷ l) =
     let h : stepTwo u q k t .end
-    ≡ (if inMips (q .selector) k then coalesce (paint u (q .selector .layers .start .0) (q .selector .layers .end .0) (q .state)
-    (t .end)) else t .end) =
+    ≡ (if inMips (q .selector) k
+    then coalesce (paint u (q .selector .layers .start .0) (q .selector .layers .end .0) (q .state) (t .end)) else t .end) =
     by-test₂ (λ (a : Two) (b : List Range). a .end ≡ b) (inMips (q .selector) k) (λ b. rw e) (λ b. refl) in
     let ih = step-ends u q e (suc k) l in λ i. h i ∷ ih i
 
@@ -292,8 +292,8 @@ step-starts u q e k (t ∷ l) =
 
 step-skip : (u : ℕ) (q : Piece) → eqb (q .state) u ≡ true → (k : ℕ) (l : List Two) → mapAt (stepTwo u q) k l ≡ l
 step-skip u q e k [] = refl
-step-skip u q e k (t ∷ l) = rw (e, step-skip u q e (suc k) l) (by-test (λ (a : Two). a ∷ l ≡ t ∷ l) (inMips (q .selector) k) (λ b. refl)
-    (λ b. refl))
+step-skip u q e k (t ∷ l) = rw (e, step-skip u q e (suc k) l)
+    (by-test (λ (a : Two). a ∷ l ≡ t ∷ l) (inMips (q .selector) k) (λ b. refl) (λ b. refl))
 
 abbrev pub runAll : ℕ → List Piece → List Two → Stop InvalidUse (List Two)
 runAll u qs l = passes (λ (q : Piece). walk (updatePass u q) 0) qs l
@@ -350,8 +350,8 @@ pub record Updated (p : UsageFlags) (sh : Extent) (ss ts : List (List Range)) (q
       ≡ zip₃ (zip₃ (ruleStart p)) (map layerStates ts) (map layerStates ss) (n .states)
   pub count : length (runAll (p .unknown) qs (twos ss ts) .value) ≡ sh .mips
 
-pairs-grid : (p : UsageFlags) (sh : Extent) (l : List Two) (qs : List Piece) (n : Named) → length l ≡ sh .mips → All (Ok sh) l
-    → Gives sh (givenMany qs) n
+pairs-grid : (p : UsageFlags) (sh : Extent) (l : List Two) (qs : List Piece) (n : Named) → length l ≡ sh .mips
+    → All (Ok sh) l → Gives sh (givenMany qs) n
     → GridsOf view (Ok sh) firstOf [] (runAll (p .unknown) qs l) (walk₂ (λ m. walk₂ (U (p .unknown) m) 0) 0 (map view l) (n .states))
 pairs-grid p sh l qs n h o (gives-place {q} a b c d) =
     Passes.place-pass view (Ok sh) firstOf sh (full-length sh) (U (p .unknown)) (λ k l c. refl) (λ (c : Pair). Unit {0})
@@ -360,8 +360,8 @@ pairs-grid p sh l qs n h o (gives-set g hg tg) =
     Passes.set-passes view (Ok sh) firstOf sh (full-length sh) (U (p .unknown)) (λ k l c. refl) (λ (c : Pair). Unit {0})
     (updatePass (p .unknown)) (update-pass (p .unknown) sh) l g (omega arith) o tg (any-pair l)
 
-pub updated-pairs : (p : UsageFlags) (sh : Extent) (ss ts : List (List Range)) (qs : List Piece) (n : Named) → length ss ≡ sh .mips
-    → length ts ≡ sh .mips
+pub updated-pairs : (p : UsageFlags) (sh : Extent) (ss ts : List (List Range)) (qs : List Piece) (n : Named)
+    → length ss ≡ sh .mips → length ts ≡ sh .mips
     → Tiled sh ss → Tiled sh ts → Gives sh (givenMany qs) n → Updated p sh ss ts qs n
 updated-pairs p sh ss ts qs n hs ht os ot g =
     let same : length ss ≡ length ts = omega arith in let l = twos ss ts in let o = twos-ok sh ss ts os ot in

@@ -49,8 +49,8 @@ module _ (os ts : List Opening) (cs : List Call) (w : All GivenWord cs) where
   KS = afterCalls grid cs (newly grid os ts)
 
   run-ranges : Good ranged grid gridOf firstOf WordP WordP FitS FitEnds GivesC Pairs entriesAt gridAt KR × (toGrids KR ≡ KS)
-  run-ranges = ran ranged grid gridOf firstOf WordP WordP FitS FitEnds GivesC Pairs entriesAt gridAt scope-facts tracker-facts os ts cs
-      (all-free cs)
+  run-ranges = ran ranged grid gridOf firstOf WordP WordP FitS FitEnds GivesC Pairs entriesAt gridAt scope-facts
+      tracker-facts os ts cs (all-free cs)
 
   abbrev viewT : Sets histories → Sets grid
   viewT = imageSets histories grid plainView same Word Word TiedHeld AnyEnds TiedGiven SameHanded gridAt gridAt
@@ -89,8 +89,8 @@ module _ (os ts : List Opening) (cs : List Call) (w : All GivenWord cs) where
   -- scope
   webgpu-judges : (n i : ℕ) (sh : Extent) (sel : Option Selector) (st : ℕ) → Word st → (s : Set Histories)
       → getElem? (KT .scopes) n ≡ some s → singleRefusal (headOf s) i sh sel st ≡ none
-      → (InConflict (step ranged (callMergeSingle n (trackerIndex i) sh sel st) KR .answer) → Unfit s i sh sel st) × (Unfit s i sh sel st
-      → InConflict (step ranged (callMergeSingle n (trackerIndex i) sh sel st) KR .answer))
+      → (InConflict (step ranged (callMergeSingle n (trackerIndex i) sh sel st) KR .answer) → Unfit s i sh sel st)
+      × (Unfit s i sh sel st → InConflict (step ranged (callMergeSingle n (trackerIndex i) sh sel st) KR .answer))
   webgpu-judges n i sh sel st word s e r =
       let good = elem-good _ (KT .scopes) n s (run-histories .0 .0) e in let m = conflict-unfit s i sh sel st good word r in
       let one = conflicts (callMergeSingle n (trackerIndex i) sh sel st) word ∙ ap InConflict (one-merge n i sh sel st s e) in
@@ -102,8 +102,8 @@ module _ (os ts : List Opening) (cs : List Call) (w : All GivenWord cs) where
     where
       both : Option·map (imageSet plainView) (getElem? (KT .scopes) n) ≡ some (gridScope r)
       both =
-          sym (elem-map (imageSet plainView) (KT .scopes) n) ∙ ap (λ (k : Sets grid). getElem? (k .scopes) n) (run-histories .1
-          ∙ sym (run-ranges .1))
+          sym (elem-map (imageSet plainView) (KT .scopes) n)
+          ∙ ap (λ (k : Sets grid). getElem? (k .scopes) n) (run-histories .1 ∙ sym (run-ranges .1))
           ∙ elem-map gridScope (KR .scopes) n ∙ ap (Option·map gridScope) e
 
       go : (o : Option (Set Histories)) → getElem? (KT .scopes) n ≡ o
@@ -119,8 +119,8 @@ module _ (os ts : List Opening) (cs : List Call) (w : All GivenWord cs) where
   pub uses-judged : (n i : ℕ) (sh : Extent) (sel : Option Selector) (st : ℕ) → Word st → (r : Set Held) → getElem? (KR .scopes) n ≡ some r
       → singleRefusal (headOf r) i sh sel st ≡ none
       → (s : Set Histories) × (getElem? (KT .scopes) n ≡ some s) × (headOf s ≡ headOf r)
-      × (InConflict (step ranged (callMergeSingle n (trackerIndex i) sh sel st) KR .answer) → Unfit s i sh sel st) × (Unfit s i sh sel st
-      → InConflict (step ranged (callMergeSingle n (trackerIndex i) sh sel st) KR .answer))
+      × (InConflict (step ranged (callMergeSingle n (trackerIndex i) sh sel st) KR .answer) → Unfit s i sh sel st)
+      × (Unfit s i sh sel st → InConflict (step ranged (callMergeSingle n (trackerIndex i) sh sel st) KR .answer))
   uses-judged n i sh sel st word r e c =
       let b = beside n r e in let j = webgpu-judges n i sh sel st word (b .0) (b .1)
       (subst (λ (h : Head). singleRefusal h i sh sel st ≡ none) (sym (b .2)) c) in (b .0, b .1, b .2, j .0, j .1)
@@ -308,8 +308,8 @@ module _ (bit : Usage → ℕ) where
           names = f .names;
           usages = v .0;
           taken = v .1;
-          unfit = sym (with-given (s .flags) r (v .0) u) ∙ ap (λ (us : List ℕ). usesFit (s .flags) (us ++ (bit u ∷ []))) (sym (v .1))
-              ∙ f .unfit;
+          unfit = sym (with-given (s .flags) r (v .0) u)
+              ∙ ap (λ (us : List ℕ). usesFit (s .flags) (us ++ (bit u ∷ []))) (sym (v .1)) ∙ f .unfit;
         }
 
     from-usages : NotCompatible bit s i sh sel u → Unfit s i sh sel (bit u)

@@ -50,8 +50,8 @@ pub record PairsW (p : UsageFlags) (sh : Extent) (a : Given) (b : Named) (c : Gi
       ≡ unknowns (p .unknown) (map (map (namedOr (p .unknown))) (d .states))
 
 -- checks 12 and 13, and the sixteen bits
-state-fits : (h : Head) (i : ℕ) (sh : Extent) (sel : Option Selector) (st : ℕ) → Word st → singleRefusal h i sh sel st ≡ none
-    → StateFits (h .flags) st
+state-fits : (h : Head) (i : ℕ) (sh : Extent) (sel : Option Selector) (st : ℕ) → Word st
+    → singleRefusal h i sh sel st ≡ none → StateFits (h .flags) st
 state-fits h i sh sel st w e =
     let t = all-right _ (textureChecks h i sh ++ selectorChecks sh sel) (stateChecks (h .flags) st) (passed _ e) in
     let o = neither (eqb st 0 || meets st (h .flags .unknown)) (meets st (h .flags .complex)) (t .0) in
@@ -127,8 +127,8 @@ trackers-well = record {
       base = m .0;
       start = subst (λ (s : Ends Grid). StatesFit p (s .start .states)) (sym (m .1))
           (update-start-fits p (gridOf sh (e .start) .states) (gridOf sh (e .end) .states) (d .states) (f .start) (f .end) (r .to));
-      end = subst (λ (s : Ends Grid). StatesFit p (s .end .states)) (sym (m .1)) (update-end-fits p (gridOf sh (e .end) .states) (d .states)
-          (f .end) (r .to));
+      end = subst (λ (s : Ends Grid). StatesFit p (s .end .states)) (sym (m .1))
+          (update-end-fits p (gridOf sh (e .end) .states) (d .states) (f .end) (r .to));
       alike = ap (λ (s : Ends Grid). unknowns (p .unknown) (s .start .states)) (m .1)
           ∙ grid-alike p (gridOf sh (e .start) .states) (gridOf sh (e .end) .states) (d .states) (f .alike)
           ∙ sym (ap (λ (s : Ends Grid). unknowns (p .unknown) (s .end .states)) (m .1));
@@ -142,8 +142,8 @@ trackers-well = record {
 states-of : (P : ℕ → Type 0) (s : List Range) → All (λ (r : Range). P (r .state)) s → All P (layerStates s)
 unfolding layerStates
 states-of P [] t = tt
-states-of P (r ∷ s) t = all-join P (replicate (r .end - r .start) (r .state)) _ (all-replicate P (r .state) (r .end - r .start) (t .0))
-    (states-of P s (t .1))
+states-of P (r ∷ s) t = all-join P (replicate (r .end - r .start) (r .state)) _
+    (all-replicate P (r .state) (r .end - r .start) (t .0)) (states-of P s (t .1))
 
 pub ranges-of : (P : ℕ → Type 0) (s : List Range) (a e : ℕ) → Tiles a s e → All P (layerStates s) → All (λ (r : Range). P (r .state)) s
 unfolding layerStates
@@ -176,13 +176,13 @@ held-in p sh (many ss) s e f = let t = mips-in p (sh .layers) ss (f .1) in recor
   states = t .1;
 }
 
-held-out : (p : UsageFlags) (sh : Extent) (h : Held) → Measured sh → Fit sh h → ClearHeld p h → StatesFit p (gridOf sh h .states)
-    → HeldFits p sh h
+held-out : (p : UsageFlags) (sh : Extent) (h : Held) → Measured sh → Fit sh h → ClearHeld p h
+    → StatesFit p (gridOf sh h .states) → HeldFits p sh h
 unfolding gridOf
 held-out p sh (single st) e f c t =
     record {
-      state = first-of (StateFits p) st (sh .layers) (e .1) (first-of (All (StateFits p)) (replicate (sh .layers) st) (sh .mips)
-          (e .0) t);
+      state = first-of (StateFits p) st (sh .layers) (e .1) (first-of (All (StateFits p)) (replicate (sh .layers) st)
+          (sh .mips) (e .0) t);
       known = c;
     }
 held-out p sh (many ss) e f c t = (f .1, mips-out p (sh .layers) ss (f .2) t)
@@ -286,8 +286,8 @@ call-keeps-well-formed c k w f =
 
 pub opened-well-formed : (scopes trackers : List Opening) → SetsFit (newly ranged scopes trackers)
 opened-well-formed os ts =
-    good-well (newly ranged os ts) (opened ranged grid gridOf firstOf Word Word FitW FitEW GivesW PairsW entriesAt gridAt scopes-well
-    trackers-well os ts .0)
+    good-well (newly ranged os ts)
+    (opened ranged grid gridOf firstOf Word Word FitW FitEW GivesW PairsW entriesAt gridAt scopes-well trackers-well os ts .0)
 
 -- one index that the sparse call takes from the scope, and the sets after it
 abbrev pub TakenW : Tracker Held → Set Held → ℕ → Type 0

@@ -61,8 +61,8 @@ unknown-fits p s = record {
   nonzero = bit-nonzero 16 (p .unknown) (s .unknown-bit);
   word = s .unknown-word;
   compatible = compatible-outside p (p .unknown) (s .outside);
-  plain = bits-apart 16 (p .unknown) (p .complex) (s .unknown-bit) (s .complex-bit) (s .unknown-word) (s .complex-word)
-      (λ e. s .unlike (sym e));
+  plain = bits-apart 16 (p .unknown) (p .complex) (s .unknown-bit) (s .complex-bit) (s .unknown-word)
+      (s .complex-word) (λ e. s .unlike (sym e));
 }
 
 -- ---- the rules for one subresource
@@ -101,13 +101,13 @@ many-fits p c new u x y e = go (incompatible p w) refl (eqb w 0) refl e
     w : ℕ
     w = without (p .unknown) (bitOr c new)
 
-    go : (b : Bool) → incompatible p w ≡ b → (z : Bool) → eqb w 0 ≡ z → (if b then none else if z then some c else some w) ≡ some u
-        → StateFits p u
+    go : (b : Bool) → incompatible p w ≡ b → (z : Bool) → eqb w 0 ≡ z
+        → (if b then none else if z then some c else some w) ≡ some u → StateFits p u
     go true q z r e = absurd (let z : _≡_ {A = ℕ} 0 1 = cc in omega arith)
     go false q true r e = let h : c ≡ u = cc in rw h at x
     go false q false r e = let h : w ≡ u = cc in
-        rw h at (less-fits p (bitOr c new) (or-lt 16 c new (x .word) (y .word)) (and-or c new (p .complex) ∙ rw (x .plain, y .plain))
-        (eqb-false w 0 r) q)
+        rw h at (less-fits p (bitOr c new) (or-lt 16 c new (x .word) (y .word)) (and-or c new (p .complex)
+        ∙ rw (x .plain, y .plain)) (eqb-false w 0 r) q)
 
 -- ---- walks and zips over grids
 pub walk₂-all : {A B C : Type 0} (P : A → Type 0) (Q : B → Type 0) (f : ℕ → A → B → Stop C A)
@@ -195,8 +195,8 @@ pub update-start-fits : (p : UsageFlags) (s e : List (List ℕ)) (n : List (List
     → StatesFit p (zip₃ (zip₃ (namedStart p)) s e n)
 update-start-fits p s e n a b c =
     zip₃-all (All (StateFits p)) (All (StateFits p)) (All (AllO (StateFits p))) (All (StateFits p)) (zip₃ (namedStart p))
-    (λ r q v x y z. zip₃-all (StateFits p) (StateFits p) (AllO (StateFits p)) (StateFits p) (namedStart p) (start-fits p) r q v x y z) s e n
-    a b c
+    (λ r q v x y z. zip₃-all (StateFits p) (StateFits p) (AllO (StateFits p)) (StateFits p) (namedStart p)
+    (start-fits p) r q v x y z) s e n a b c
 
 -- ---- start and end stay alike in their UNKNOWN subresources
 state-alike : (p : UsageFlags) (s e : ℕ) (o : Option ℕ) → eqb s (p .unknown) ≡ eqb e (p .unknown)

@@ -1,5 +1,5 @@
 -- `log_set`: what the loop asks for, and that the entries of every index are the model's.
-use Rattle.model.specs.Prelude.{ℕ, _≤_, _<_, arith, _≡_, refl, Bool, true, false, List, [], getD}
+use Rattle.model.specs.Prelude.{ℕ, _≤_, _<_, arith, _≡_, refl, Bool, true, false, List, getD, []}
 use Rattle.model.specs.{Base.{if_then_else_, eachAt₂}, Calls.{logGiven, logSlot}, Log.{pending, pendingOf}, Texture.ranged}
 use Rattle.set_storage.specs.Storage.{flagsOf, extentOf, ownedOf, slotWith, trackerOf, maskAt, texturesAt, trackerSlot}
 use Rattle.texture_barrier.specs.Adds.{entriesAt}
@@ -42,8 +42,7 @@ entries-model {t} {s} {e} {from} {to} {g} {a} {b} w =
     (λ x h k. go x (ownedOf g x)) (λ x h k. rw (not-past w x k h))
   where
     go : (x : ℕ) (o : Bool)
-        → pending (if o then logSlot ranged (flagsOf t) (getD t maskAt 0) (extentOf g x) (givenAt from g a x) x
-        (trackerSlot t s e x) else []) ≡ entriesAt x (if o then endEntries (flagsOf t) (getD t maskAt 0) (extentOf g x) (givenAt from g a x)
-        t e x else [])
+        → pending (if o then logSlot ranged (flagsOf t) (getD t maskAt 0) (extentOf g x) (givenAt from g a x) x (trackerSlot t s e x)
+        else []) ≡ entriesAt x (if o then endEntries (flagsOf t) (getD t maskAt 0) (extentOf g x) (givenAt from g a x) t e x else [])
     go x true = slot-pending (flagsOf t) (getD t maskAt 0) (extentOf g x) (givenAt from g a x) x (trackerSlot t s e x)
     go x false = refl

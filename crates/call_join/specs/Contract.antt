@@ -6,9 +6,10 @@ use Rattle.texture_track.specs.Tracked.{TrackerCall}
 
 -- `set_from_usage_scope`
 abbrev pub SetFromUsageScope : LentTracker → LentScope → LogHead → List ℕ → Answered → LentTracker → List ℕ → Type 0
-SetFromUsageScope t g = TrackerCall (ownedBy (g .table)) (trackerTest t && scopeTest g) (setFromUsageScope ranged (trackerIn t) (scopeIn g))
-    t
+SetFromUsageScope t g =
+    TrackerCall (ownedBy (g .table)) (trackerTest t && scopeTest g) (setFromUsageScope ranged (trackerIn t) (scopeIn g)) t
 
 -- `set_from_tracker`
 abbrev pub SetFromTracker : LentTracker → LentTracker → LogHead → List ℕ → Answered → LentTracker → List ℕ → Type 0
-SetFromTracker t g = TrackerCall (ownedBy (g .table)) (trackerTest t && trackerTest g) (setFromTracker ranged (trackerIn t) (trackerIn g)) t
+SetFromTracker t g =
+    TrackerCall (ownedBy (g .table)) (trackerTest t && trackerTest g) (setFromTracker ranged (trackerIn t) (trackerIn g)) t

@@ -4,7 +4,7 @@ use Rattle.model.specs.{declared.{InvalidUse.InvalidUse, UsageFlags.UsageFlags,
 use Rattle.model.specs.{Representation.Ends, Sets.{Slot, Set, Tracker, withTracker}, Calls.{CallResult, setGiven, setFrom}}
 use Rattle.model.specs.Texture.{Held, Entry, ranged}
 use Rattle.set_storage.specs.Storage.{numbersOf, flagsOf, extentOf, ownedOf, startHalf, endHalf, setWith, trackerOf, maskAt, texturesAt}
-use Rattle.set_storage.specs.{Stays.{ownedBy, TrackerFrame}, Frames.Measured}
+use Rattle.set_storage.specs.{Storage.tableIndices, Stays.{ownedBy, TrackerFrame}, Frames.Measured}
 use Rattle.texture_barrier.specs.Adds.{entriesAt}
 use Rattle.set_checks.specs.Passed.{SetPassed}
 use Rattle.agreement.specs.Fits.{ExtentFits}
@@ -75,7 +75,7 @@ module _ {t s e : List ℕ} {from to : ℕ} {g a b : List ℕ} (w : Joins t s e 
 -- ---- The transitions: every index is ready
 -- what is asked for
 pub record LogsSet (t e : List ℕ) (from : ℕ) (g a : List ℕ) (n : ℕ) : Type 0 where
-  pub few : n ≤ 64
+  pub few : n ≤ tableIndices
   pub each : (i : ℕ) → i < n → LogsAt t e i from g a
 
 -- the entries of the first n indices, in their order

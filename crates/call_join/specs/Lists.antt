@@ -1,8 +1,8 @@
 -- Two lists side by side, made position by position: what the model's walks over them give.
-use Rattle.model.specs.Prelude.{ℕ, zero, suc, _+_, _≤_, _<_, arith, _≡_, refl, sym, ap, _∙_, List, [], _∷_, _++_, append-assoc, append-nil}
+use Rattle.model.specs.Prelude.{ℕ, zero, suc, _+_, _≤_, _<_, arith, _≡_, refl, sym, _∙_, List, _∷_, []}
 use Rattle.model.specs.{Base.{each, eachAt₂, over₂}, ListLaws.each-append}
 use Rattle.set_storage.specs.Storage.{listFrom}
-use Rattle.log_head.specs.UpTo.{upTo}
+use Rattle.log_head.specs.UpTo.{upTo, upFrom, up-split}
 
 -- ---- Where the second list is of another kind
 -- `over₂`
@@ -23,35 +23,18 @@ each-same f g F G e (y ∷ s) k zero = refl
 each-same f g F G e (y ∷ s) k (suc n) = rw (e k y, each-same f g F G e s (suc k) n)
 
 -- ---- What each pair makes
--- what h makes at k, k + 1 and so on, n of them
-unfoldable allFrom : {A : Type 0} → (ℕ → List A) → ℕ → ℕ → List A
-allFrom h k zero = []
-allFrom h k (suc n) = h k ++ allFrom h (suc k) n
-
+-- nothing where h makes nothing
 module _ {A : Type 0} (h : ℕ → List A) where
-  all-none : (k n : ℕ) → ((x : ℕ) → k ≤ x → x < k + n → h x ≡ []) → allFrom h k n ≡ []
-  unfolding allFrom
+  all-none : (k n : ℕ) → ((x : ℕ) → k ≤ x → x < k + n → h x ≡ []) → upFrom h k n ≡ []
+  unfolding upFrom
   all-none k zero e = refl
   all-none k (suc n) e = rw (e k (omega arith) (omega arith), all-none (suc k) n (λ x a b. e x (omega arith) (omega arith)))
-
-  all-last : (k n : ℕ) → allFrom h k (suc n) ≡ allFrom h k n ++ h (k + n)
-  unfolding allFrom
-  all-last k zero = let e : k ≡ k + 0 = omega arith in append-nil (h k) ∙ ap h e
-  all-last k (suc n) =
-      let e : suc k + n ≡ k + suc n = omega arith in
-      ap (λ (y : List A). h k ++ y) (all-last (suc k) n) ∙ sym (append-assoc (h k) (allFrom h (suc k) n) (h (suc k + n)))
-      ∙ ap (λ (x : ℕ). (h k ++ allFrom h (suc k) n) ++ h x) e
-
-  all-up : (n : ℕ) → allFrom h 0 n ≡ upTo h n
-  unfolding allFrom upTo
-  all-up zero = refl
-  all-up (suc n) = let e : 0 + n ≡ n = omega arith in all-last 0 n ∙ rw (e, all-up n)
 
 module _ {A B D E : Type 0} (r : D → List E) (f : ℕ → A → B → List D) (F : ℕ → A) (G : ℕ → B) (h : ℕ → List E) where
   each-from : (k n m : ℕ) → ((x : ℕ) → k ≤ x → x < k + n → x < k + m → each r (f x (F x) (G x)) ≡ h x)
       → ((x : ℕ) → k + n ≤ x → x < k + m → h x ≡ [])
-      → each r (eachAt₂ f k (listFrom F k n) (listFrom G k m)) ≡ allFrom h k m
-  unfolding listFrom allFrom
+      → each r (eachAt₂ f k (listFrom F k n) (listFrom G k m)) ≡ upFrom h k m
+  unfolding listFrom upFrom
   each-from k zero m a b = sym (all-none h k m (λ x p q. b x (omega arith) (omega arith)))
   each-from k (suc n) zero a b = refl
   each-from k (suc n) (suc m) a b =
@@ -65,4 +48,6 @@ module _ {A B D E : Type 0} (r : D → List E) (f : ℕ → A → B → List D) 
   -- where the first list ends, h makes nothing
   pub each-list : (n m : ℕ) → ((x : ℕ) → x < n → x < m → each r (f x (F x) (G x)) ≡ h x) → ((x : ℕ) → n ≤ x → x < m → h x ≡ [])
       → each r (eachAt₂ f 0 (listFrom F 0 n) (listFrom G 0 m)) ≡ upTo h m
-  each-list n m a b = each-from 0 n m (λ x p q w. a x (omega arith) (omega arith)) (λ x p q. b x (omega arith) (omega arith)) ∙ all-up h m
+  unfolding upTo
+  each-list n m a b = each-from 0 n m (λ x p q w. a x (omega arith) (omega arith)) (λ x p q. b x (omega arith) (omega arith))
+      ∙ up-split h 0 m m (omega arith)

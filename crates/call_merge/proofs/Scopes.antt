@@ -41,6 +41,6 @@ module _ {t r g : List ℕ} (l : List ℕ) {fits : Bool} (e : fits ≡ true) whe
   })
 
 -- what the walk over the textures asks for
-pub scope-ready : {t r g l : List ℕ} {p : UsageFlags} → ScopeTested t r → ScopeTested g l → SetTold t g verdict.Accepted → p ≡ flagsOf t
-    → SlotsReady t r g l p
+pub scope-ready : {t r g l : List ℕ} {p : UsageFlags} → ScopeTested t r → ScopeTested g l → SetTold t g verdict.Accepted
+    → p ≡ flagsOf t → SlotsReady t r g l p
 scope-ready {t} {r} {g} {l} a b z e = record { into = a; given = b; passed = set-passed t g (z .is); flags = e }

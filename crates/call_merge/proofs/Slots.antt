@@ -100,6 +100,6 @@ module _ {p : UsageFlags} {t₀ r₀ g l : List ℕ} {k : ℕ} {t r : List ℕ} 
       unfolding scopeOf
       stop {c} e =
           let b = q .passed .each k h (is-owned (ownedOf g k) refl e) .texture in
-          let w = walk-stop (mergeGiven ranged p) (scopeSlot t₀ r₀) (scopeSlot t′ r′) (scopeSlot g l) (m .slots) b h others
-          (rw e at this) in
+          let w = walk-stop (mergeGiven ranged p) (scopeSlot t₀ r₀) (scopeSlot t′ r′) (scopeSlot g l)
+          (m .slots) b h others (rw e at this) in
           walk-gives w frame-now

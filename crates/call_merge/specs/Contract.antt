@@ -9,11 +9,11 @@ use Rattle.call_merge.specs.Merged.{Merged}
 -- `merge_single`
 abbrev pub MergeSingle : LentScope → TrackerIndex → Extent → Selection → ℕ → Outcome → LentScope → Type 0
 MergeSingle s i sh q st x s′ =
-    Merged (only (i .0)) (scopeTest s) (mergeSingle ranged (scopeIn s) (i .0) sh (selectorOf q) st) (s .table) (s .ranges) x (s′ .table)
-    (s′ .ranges)
+    Merged (only (i .0)) (scopeTest s) (mergeSingle ranged (scopeIn s) (i .0) sh (selectorOf q) st)
+    (s .table) (s .ranges) x (s′ .table) (s′ .ranges)
 
 -- `merge_usage_scope`: the given scope g is only read
 abbrev pub MergeUsageScope : LentScope → LentScope → Outcome → LentScope → Type 0
 MergeUsageScope s g x s′ =
-    Merged (ownedBy (g .table)) (scopeTest s && scopeTest g) (mergeUsageScope ranged (scopeIn s) (scopeIn g)) (s .table) (s .ranges) x
-    (s′ .table) (s′ .ranges)
+    Merged (ownedBy (g .table)) (scopeTest s && scopeTest g) (mergeUsageScope ranged (scopeIn s) (scopeIn g))
+    (s .table) (s .ranges) x (s′ .table) (s′ .ranges)

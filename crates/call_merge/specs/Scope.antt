@@ -10,7 +10,7 @@ use Rattle.set_ready.specs.Tested.{ScopeTested}
 abbrev pub mergedSlots : UsageFlags → List ℕ → List ℕ → List ℕ → List ℕ → Stop (Indexed InvalidUse) (List (Slot Held))
 mergedSlots p t r g l = walk₂ (mergeGiven ranged p) 0 (scopeOf t r .slots) (scopeOf g l .slots)
 
--- ---- What is asked for: two scopes that passed the test, and the checks of one against the other
+-- ---- What is required: two scopes that passed the test, and the checks of one against the other
 pub record SlotsReady (t r g l : List ℕ) (p : UsageFlags) : Type 0 where
   pub into : ScopeTested t r
   pub given : ScopeTested g l

@@ -37,14 +37,14 @@ module _ (l : List ℕ) (u k : ℕ) where
     at-start =
         getD-set-other (set (set (set (set l (ownedAt k) 0) (mipsAt k) 0) (layersAt k) 0) (stateAt startHalf k) u) (stateAt endHalf k)
         (stateAt startHalf k) u 0 (λ z. omega arith)
-        ∙ getD-set-same (set (set (set l (ownedAt k) 0) (mipsAt k) 0) (layersAt k) 0) (stateAt startHalf k) u 0 (simp length-set
-        (omega arith))
+        ∙ getD-set-same (set (set (set l (ownedAt k) 0) (mipsAt k) 0) (layersAt k) 0) (stateAt startHalf k) u 0
+        (simp length-set (omega arith))
 
     -- the words of ownership and extent: the halves' words are written after them
     low : (x : ℕ) → x < startHalf → getD (clearedAt l u k) x 0 ≡ getD (set (set (set l (ownedAt k) 0) (mipsAt k) 0) (layersAt k) 0) x 0
     low x q =
-        getD-set-other (set (set (set (set l (ownedAt k) 0) (mipsAt k) 0) (layersAt k) 0) (stateAt startHalf k) u) (stateAt endHalf k) x u 0
-        (λ z. omega arith)
+        getD-set-other (set (set (set (set l (ownedAt k) 0) (mipsAt k) 0) (layersAt k) 0) (stateAt startHalf k) u)
+        (stateAt endHalf k) x u 0 (λ z. omega arith)
         ∙ getD-set-other (set (set (set l (ownedAt k) 0) (mipsAt k) 0) (layersAt k) 0) (stateAt startHalf k) x u 0 (λ z. omega arith)
 
     at-layers : getD (clearedAt l u k) (layersAt k) 0 ≡ 0
@@ -53,14 +53,14 @@ module _ (l : List ℕ) (u k : ℕ) where
 
     at-mips : getD (clearedAt l u k) (mipsAt k) 0 ≡ 0
     at-mips =
-        low (mipsAt k) (omega arith) ∙ getD-set-other (set (set l (ownedAt k) 0) (mipsAt k) 0) (layersAt k) (mipsAt k) 0 0 (λ z.
-        omega arith)
+        low (mipsAt k) (omega arith)
+        ∙ getD-set-other (set (set l (ownedAt k) 0) (mipsAt k) 0) (layersAt k) (mipsAt k) 0 0 (λ z. omega arith)
         ∙ getD-set-same (set l (ownedAt k) 0) (mipsAt k) 0 0 (simp length-set (omega arith))
 
     at-owned : getD (clearedAt l u k) (ownedAt k) 0 ≡ 0
     at-owned =
-        low (ownedAt k) (omega arith) ∙ getD-set-other (set (set l (ownedAt k) 0) (mipsAt k) 0) (layersAt k) (ownedAt k) 0 0 (λ z.
-        omega arith)
+        low (ownedAt k) (omega arith)
+        ∙ getD-set-other (set (set l (ownedAt k) 0) (mipsAt k) 0) (layersAt k) (ownedAt k) 0 0 (λ z. omega arith)
         ∙ getD-set-other (set l (ownedAt k) 0) (mipsAt k) (ownedAt k) 0 0 (λ z. omega arith) ∙ getD-set-same l (ownedAt k) 0 0 (omega arith)
 
 -- ---- all of them

@@ -4,10 +4,12 @@ use Rattle.model.specs.{declared.{UsageFlags.UsageFlags, Outcome.Outcome}, Base
 use Rattle.model.specs.{Refusals.{openingRefusal, opens}, Log.verdict, Texture.single}
 use Rattle.set_storage.specs.Storage.{scopeOf, trackerOf, endHalf, layersAt, mipsAt, ownedAt, startHalf, stateAt, tableLength}
 
+-- what a caller asks to open
 abbrev pub asked : ℕ → ℕ → ℕ → UsageFlags → ℕ → ℕ → Opening
 asked n m w p mask room = record { numbers = record { textures = n; mips = m; layers = w }; flags = p; mask = mask; room = room }
 
 -- ---- The table, number by number
+-- its head written
 abbrev pub headed : List ℕ → ℕ → ℕ → ℕ → UsageFlags → ℕ → List ℕ
 headed t n m w p mask = sets t 0 (n ∷ m ∷ w ∷ p .exclusive ∷ p .uninitialized ∷ p .complex ∷ p .unknown ∷ mask ∷ [])
 
@@ -15,6 +17,7 @@ headed t n m w p mask = sets t 0 (n ∷ m ∷ w ∷ p .exclusive ∷ p .uninitia
 abbrev pub clearedAt : List ℕ → ℕ → ℕ → List ℕ
 clearedAt t u k = set (set (set (set (set t (ownedAt k) 0) (mipsAt k) 0) (layersAt k) 0) (stateAt startHalf k) u) (stateAt endHalf k) u
 
+-- the first k indices cleared
 unfoldable pub cleared : List ℕ → ℕ → ℕ → List ℕ
 cleared t u zero = t
 cleared t u (suc k) = clearedAt (cleared t u k) u k
@@ -34,7 +37,7 @@ pub record OpenedScope (t r : List ℕ) (n m w : ℕ) (p : UsageFlags) (x : Outc
 -- a tracker's room is that of its start or of its end, whichever is less
 pub record OpenedTracker (t s e : List ℕ) (n m w : ℕ) (p : UsageFlags) (mask : ℕ) (x : Outcome) (t′ : List ℕ) : Type 0 where
   pub answer : x ≡ verdict (openingRefusal (asked n m w p mask (min (length s / 3) (length e / 3))))
-  pub content : t′ ≡ (if opens (asked n m w p mask (min (length s / 3) (length e / 3))) then cleared (headed t n m w p mask)
-      (p .uninitialized) n else t)
+  pub content : t′ ≡ (if opens (asked n m w p mask (min (length s / 3) (length e / 3)))
+      then cleared (headed t n m w p mask) (p .uninitialized) n else t)
   pub view : opens (asked n m w p mask (min (length s / 3) (length e / 3))) ≡ true
       → trackerOf t′ s e ≡ openTracker single (asked n m w p mask (min (length s / 3) (length e / 3)))

@@ -1,6 +1,6 @@
 -- The sparse call: from what the code found and changed to the contract.
-use Rattle.model.specs.Prelude.{ℕ, _*_, _/_, _≤_, _<_, mul-le-mul, arith, _≡_, refl, sym, ap, subst, _∙_, Bool, true, and-eq-true-iff}
-use Rattle.model.specs.Prelude.{Option, none, some, List, [], _∷_, length}
+use Rattle.model.specs.Prelude.{ℕ, _*_, _/_, _≤_, _<_, mul-le-mul, arith, _≡_, refl, sym, ap, subst, _∙_, Bool, true, and-eq-true-iff, []}
+use Rattle.model.specs.Prelude.{Option, none, some, List, _∷_, length}
 use Rattle.model.specs.declared.Refusal.the-variants.{NoFreeEntry}
 use Rattle.model.specs.declared.{InvalidUse.InvalidUse, LogHead.LogHead, Refusal.Refusal, Answered.Answered}
 use Rattle.model.specs.{Sets.{capacity, Head, Set, Tracker, headOf}, Refusals.sparseRefusal}

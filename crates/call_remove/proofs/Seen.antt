@@ -1,11 +1,10 @@
 -- `log_listed`: which indices were listed before, and the entries of one by that.
-use Rattle.model.specs.Prelude.{ℕ, _+_, _<_, add-one, ℕ-discrete, arith, _≡_, refl, sym, _∙_, Bool, true, false, not, List, [], _∷_, _++_}
-use Rattle.model.specs.Prelude.{eqb, length, getD, set, take, replicate, length-set, getD-replicate, take-suc, getD-set-same}
-use Rattle.model.specs.Prelude.{getD-set-other, eq-eqb, ne-eqb}
+use Rattle.model.specs.Prelude.{ℕ, _+_, _<_, add-one, ℕ-discrete, arith, _≡_, refl, sym, _∙_, true, not, List, eqb, length, getD, set, take}
+use Rattle.model.specs.Prelude.{replicate, length-set, getD-replicate, take-suc, getD-set-same, getD-set-other, eq-eqb, ne-eqb}
 use Rattle.model.specs.{declared.UsageFlags.UsageFlags, Base.if_then_else_}
 use Rattle.texture_barrier.specs.Adds.{entriesAt}
 use Rattle.agreement.specs.LogBound.{listed}
-use Rattle.call_remove.specs.Logs.{onceEntries, listedEntries}
+use Rattle.call_remove.specs.{Logs.{onceEntries, listedEntries}, Once.listed-last}
 
 -- ---- Which indices were listed so far: 1 at each
 pub record Seen (seen is : List ℕ) (k : ℕ) : Type 0 where
@@ -16,17 +15,7 @@ pub record Seen (seen is : List ℕ) (k : ℕ) : Type 0 where
 pub seen-none : (is : List ℕ) → Seen (replicate 64 0) is 0
 seen-none is = record { long = refl; tells = λ j h. let e = getD-replicate {A = ℕ} 64 j 0 0 h in rw e }
 
--- one listed after others
-listed-last : (j i : ℕ) (l : List ℕ) → listed j (l ++ (i ∷ [])) ≡ (if eqb i j then true else listed j l)
-listed-last j i [] = refl
-listed-last j i (x ∷ l) = go (eqb x j) (eqb i j) (listed-last j i l)
-  where
-    go : (a b : Bool) → listed j (l ++ (i ∷ [])) ≡ (if b then true else listed j l)
-        → (if a then true else listed j (l ++ (i ∷ []))) ≡ (if b then true else (if a then true else listed j l))
-    go true true e = refl
-    go true false e = refl
-    go false b e = e
-
+-- one more
 pub seen-next : {seen is : List ℕ} {k i : ℕ} → Seen seen is k → k < length is → i ≡ getD is k 0 → getD is k 0 < 64
     → Seen (set seen i 1) is (k + 1)
 seen-next {seen} {is} {k} {i} q h e l =

@@ -87,7 +87,7 @@ fewer (i ∷ is) g (suc k) b long =
       less = λ j o. off-still g i few long j (q .less j o) .1;
     }
 
--- a texture that it owns still is ready
+-- a texture that it still owns is ready
 pub still-ready : {g g₁ r : List ℕ} {j : ℕ} → Fewer g g₁ → ScopeTested g r → j < getD g texturesAt 0 → ownedOf g₁ j ≡ true
     → HalfReady startHalf g₁ r j (extentOf g₁ j)
 still-ready {g} {g₁} {r} {j} v q h o =

@@ -1,5 +1,5 @@
 -- What the sparse call names, and the scope's table once it no longer owns it.
-use Rattle.model.specs.Prelude.{ℕ, zero, suc, _<_, _≡_, refl, ap, true, List, [], _∷_, _++_, length, getD, set}
+use Rattle.model.specs.Prelude.{ℕ, zero, suc, _<_, _≡_, refl, ap, true, List, _∷_, _++_, length, getD, set, []}
 use Rattle.set_storage.specs.Storage.{ownedAt, ownedOf}
 
 -- index j stands in the list, and the scope with the table g owns it

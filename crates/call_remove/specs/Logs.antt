@@ -1,13 +1,13 @@
 -- The transitions of the listed textures that a scope owns: what is asked for, and that they are the model's.
-use Rattle.model.specs.Prelude.{ℕ, _<_, arith, _≡_, refl, ap, _∙_, Bool, true, false, List, [], length, getD, take}
+use Rattle.model.specs.Prelude.{ℕ, _<_, arith, _≡_, refl, ap, _∙_, Bool, true, false, List, length, getD, take, []}
 use Rattle.model.specs.{declared.{UsageFlags.UsageFlags, PendingTransition.PendingTransition}, Base.if_then_else_, Representation.Ends}
 use Rattle.model.specs.{Sets.{Slot, emptySlot}, Calls.{noEnds, logSlot, sparseAll}, Log.{pending, pendingOf}, Texture.{Held, Entry, ranged}}
-use Rattle.set_storage.specs.Storage.{numbersOf, flagsOf, extentOf, ownedOf, startHalf, heldOf, slotWith, scopeOf, trackerOf, maskAt}
-use Rattle.set_storage.specs.{Storage.{texturesAt, trackerSlot}, Lists.list-at}
+use Rattle.set_storage.specs.Storage.{flagsOf, extentOf, ownedOf, startHalf, scopeOf, trackerOf, maskAt, texturesAt, trackerSlot, scopeSlot}
+use Rattle.set_storage.specs.Lists.{list-at}
 use Rattle.texture_barrier.specs.Adds.{entriesAt}
 use Rattle.agreement.specs.LogBound.{listed}
 use Rattle.set_checks.specs.Passed.{SparsePassed}
-use Rattle.set_ready.specs.{Tested.{half-fits, ScopeTested, TrackerTested}, Half.tracker-texture, Given.givenAt}
+use Rattle.set_ready.specs.{Tested.{ScopeTested, TrackerTested}, Half.tracker-texture, Given.{givenAt, owned-given}}
 use Rattle.texture_track.specs.{Slot.slot-pending, GivenSlot.{LogsAt, endEntries, givenEntries}}
 use Rattle.log_head.specs.UpTo.{upTo}
 use Rattle.call_remove.specs.{Once.{onceAt, once-up, once-each, up-ext}, Removed.setsOf, Sparse.{into, given, takenLog, sparse-log}}
@@ -39,9 +39,9 @@ removedEntries t e g r is = entriesTo (flagsOf t) (getD t maskAt 0) t e g r is (
 -- ---- The slots of an index, as the model reads them
 -- the scope's, within its N
 pub given-is : (t s e g r : List ℕ) (i : ℕ) → i < getD g texturesAt 0
-    → given (setsOf t s e g r) i ≡ slotWith (heldOf (numbersOf g) startHalf g r) g i
+    → given (setsOf t s e g r) i ≡ scopeSlot g r i
 unfolding scopeOf
-given-is t s e g r i h = list-at (slotWith (heldOf (numbersOf g) startHalf g r) g) (getD g texturesAt 0) i (emptySlot (ranged .fresh 0)) h
+given-is t s e g r i h = list-at (scopeSlot g r) (getD g texturesAt 0) i (emptySlot (ranged .fresh 0)) h
 
 -- the tracker's, within its N
 pub into-is : (t s e g r : List ℕ) (i : ℕ) → i < getD t texturesAt 0 → into (setsOf t s e g r) i ≡ trackerSlot t s e i
@@ -58,16 +58,7 @@ module _ {t s e g r is : List ℕ} (tested : TrackerTested t s e) (scope : Scope
         record {
           index = omega (arith, scope .measured .textures);
           ready = λ o. tracker-texture tested (passed .each k h o) .end;
-          given = λ o.
-              let f = scope .slots i b in
-              record {
-                measured = scope .measured;
-                texture = b;
-                flags = passed .flags;
-                extent = refl;
-                fits = f .extent o;
-                held = half-fits startHalf g r i (f .extent o .mips) (f .held o);
-              };
+          given = λ o. owned-given scope (passed .flags) b o;
         };
   }
 
@@ -79,13 +70,14 @@ module _ {t s e g r is : List ℕ} (tested : TrackerTested t s e) (scope : Scope
   log-is k h = rw (given-is t s e g r (getD is k 0) (passed .below k h)) (go (ownedOf g (getD is k 0)) refl)
     where
       go : (o : Bool) → ownedOf g (getD is k 0) ≡ o
-          → pending (if o then logSlot ranged (flagsOf t) (getD t maskAt 0) (extentOf g (getD is k 0)) (givenAt startHalf g r (getD is k 0))
-          (getD is k 0) (into (setsOf t s e g r) (getD is k 0)) else [])
-          ≡ entriesAt (getD is k 0) (if o then endEntries (flagsOf t) (getD t maskAt 0) (extentOf g (getD is k 0))
-          (givenAt startHalf g r (getD is k 0)) t e (getD is k 0) else [])
+          → pending (if o then logSlot ranged (flagsOf t) (getD t maskAt 0) (extentOf g (getD is k 0)) (givenAt startHalf g r
+          (getD is k 0)) (getD is k 0) (into (setsOf t s e g r) (getD is k 0)) else [])
+          ≡ entriesAt (getD is k 0) (if o then endEntries (flagsOf t) (getD t maskAt 0) (extentOf g (getD is k 0)) (givenAt startHalf g r
+          (getD is k 0)) t e (getD is k 0) else [])
       go true o =
-          ap (λ (x : Slot (Ends Held)). pending (logSlot ranged (flagsOf t) (getD t maskAt 0) (extentOf g (getD is k 0))
-          (givenAt startHalf g r (getD is k 0)) (getD is k 0) x)) (into-is t s e g r (getD is k 0) (passed .each k h o .texture))
+          ap (λ (x : Slot (Ends Held)).
+          pending (logSlot ranged (flagsOf t) (getD t maskAt 0) (extentOf g (getD is k 0)) (givenAt startHalf g r (getD is k 0))
+          (getD is k 0) x)) (into-is t s e g r (getD is k 0) (passed .each k h o .texture))
           ∙ slot-pending (flagsOf t) (getD t maskAt 0) (extentOf g (getD is k 0)) (givenAt startHalf g r (getD is k 0)) (getD is k 0)
           (trackerSlot t s e (getD is k 0))
       go false o = refl

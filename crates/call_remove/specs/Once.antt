@@ -8,34 +8,31 @@ use Rattle.log_head.specs.UpTo.{upTo}
 
 -- ---- Whether an index is listed
 -- one more index at the end
-listed-last : (is : List ℕ) (i j : ℕ) → listed j (is ++ (i ∷ [])) ≡ (if listed j is then true else eqb i j)
-listed-last [] i j = go (eqb i j)
+pub listed-last : (j i : ℕ) (l : List ℕ) → listed j (l ++ (i ∷ [])) ≡ (if eqb i j then true else listed j l)
+listed-last j i [] = refl
+listed-last j i (x ∷ l) = go (eqb x j) (eqb i j) (listed-last j i l)
   where
-    go : (b : Bool) → (if b then true else false) ≡ b
-    go true = refl
-    go false = refl
-listed-last (x ∷ is) i j = go (eqb x j) (listed-last is i j)
-  where
-    go : (b : Bool) → listed j (is ++ (i ∷ [])) ≡ (if listed j is then true else eqb i j)
-        → (if b then true else listed j (is ++ (i ∷ []))) ≡ (if (if b then true else listed j is) then true else eqb i j)
-    go true e = refl
-    go false e = e
+    go : (a b : Bool) → listed j (l ++ (i ∷ [])) ≡ (if b then true else listed j l)
+        → (if a then true else listed j (l ++ (i ∷ []))) ≡ (if b then true else (if a then true else listed j l))
+    go true true e = refl
+    go true false e = refl
+    go false b e = e
 
 -- not after one more index: not before it, and it is another
 pub not-listed : (is : List ℕ) (i j : ℕ) → listed j (is ++ (i ∷ [])) ≡ false → (listed j is ≡ false) × (j ≡ i → ⊥)
-not-listed is i j e = go (listed j is) (sym (listed-last is i j) ∙ e)
+not-listed is i j e = go (eqb i j) refl (sym (listed-last j i is) ∙ e)
   where
-    go : (b : Bool) → (if b then true else eqb i j) ≡ false → (b ≡ false) × (j ≡ i → ⊥)
-    go true z = absurd (false≢true (sym z))
-    go false z = (refl, λ w. eqb-false i j z (sym w))
+    go : (b : Bool) → eqb i j ≡ b → (if b then true else listed j is) ≡ false → (listed j is ≡ false) × (j ≡ i → ⊥)
+    go true q z = absurd (false≢true (sym z))
+    go false q z = (z, λ w. eqb-false i j q (sym w))
 
 -- after one more index: before it, or it is that
 pub is-listed : (is : List ℕ) (i j : ℕ) → listed j (is ++ (i ∷ [])) ≡ true → (listed j is ≡ true) ⊎ (j ≡ i)
-is-listed is i j e = go (listed j is) (sym (listed-last is i j) ∙ e)
+is-listed is i j e = go (eqb i j) refl (sym (listed-last j i is) ∙ e)
   where
-    go : (b : Bool) → (if b then true else eqb i j) ≡ true → (b ≡ true) ⊎ (j ≡ i)
-    go true z = inl refl
-    go false z = inr (sym (eqb-true i j z))
+    go : (b : Bool) → eqb i j ≡ b → (if b then true else listed j is) ≡ true → (listed j is ≡ true) ⊎ (j ≡ i)
+    go true q z = inr (sym (eqb-true i j q))
+    go false q z = inl z
 
 -- ---- What f makes of the indices of a list, in its order, of each once and of those in `seen` no more
 unfoldable pub eachOnce : {A : Type 0} → (ℕ → List A) → List ℕ → List ℕ → List A

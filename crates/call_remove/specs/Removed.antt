@@ -13,10 +13,11 @@ use Rattle.call_remove.specs.Gone.{Listed, disowned}
 use Rattle.model.specs.Calls as calls
 use Rattle.log_head.specs.Called as called
 
--- the tracker t with the ranges s and e, and the scope g with the ranges r
+-- a tracker and a scope
 abbrev pub Both : Type 0
 Both = Tracker Held × Set Held
 
+-- the tracker t with the ranges s and e, and the scope g with the ranges r
 abbrev pub setsOf : List ℕ → List ℕ → List ℕ → List ℕ → List ℕ → Both
 setsOf t s e g r = (trackerOf t s e, scopeOf g r)
 
@@ -69,6 +70,5 @@ module _ {is : List ℕ} {fits : Bool} {m : CallResult InvalidUse (List Entry) B
 -- ---- `set_and_remove_from_usage_scope_sparse`, of what is lent: the scope's table becomes g′, its ranges are only read
 abbrev pub SetAndRemoveSparse : LentTracker → LentScope → List ℕ → LogHead → List ℕ → Answered → LentTracker → List ℕ → List ℕ → Type 0
 SetAndRemoveSparse t g is h l x t′ g′ l′ =
-    Removed is (trackerTest t && scopeTest g) (setAndRemoveSparse ranged (trackerIn t) (scopeIn g) is) h (t .table) (t .starts) (t .ends)
-    (g .table) (g .ranges) l
-    x (t′ .table) (t′ .starts) (t′ .ends) g′ l′
+    Removed is (trackerTest t && scopeTest g) (setAndRemoveSparse ranged (trackerIn t) (scopeIn g) is)
+    h (t .table) (t .starts) (t .ends) (g .table) (g .ranges) l x (t′ .table) (t′ .starts) (t′ .ends) g′ l′

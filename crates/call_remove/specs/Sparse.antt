@@ -1,5 +1,5 @@
 -- The model's sparse call: what one listed index leaves of the sets, and its log from the sets at entry.
-use Rattle.model.specs.Prelude.{ℕ, zero, suc, ℕ-discrete, _≡_, refl, ap, _∙_, _⊎_, inl, inr, Bool, true, false, false≢true, List, [], _∷_}
+use Rattle.model.specs.Prelude.{ℕ, zero, suc, ℕ-discrete, _≡_, refl, ap, _∙_, _⊎_, inl, inr, Bool, true, false, false≢true, List, _∷_, []}
 use Rattle.model.specs.Prelude.{_++_, getD, set, getD-set-other}
 use Rattle.model.specs.{declared.InvalidUse.InvalidUse, Base.if_then_else_, Representation.Ends, Sets.{Slot, emptySlot, slotAt}}
 use Rattle.model.specs.{Calls.{Indexed, CallResult, logSlot, noEnds, sparseOne, sparseAll}, Texture.{Held, Entry, fromHeld, ranged}}
@@ -21,8 +21,8 @@ given ts i = slotAt (ranged .fresh 0) (ts .1) i
 
 -- the log of index i
 abbrev pub takenLog : Both → ℕ → List (Indexed (List Entry))
-takenLog ts i = if given ts i .owned then logSlot ranged (ts .0 .set .flags) (ts .0 .mask) (given ts i .extent)
-    (fromHeld (given ts i .held)) i (into ts i) else []
+takenLog ts i = if given ts i .owned
+    then logSlot ranged (ts .0 .set .flags) (ts .0 .mask) (given ts i .extent) (fromHeld (given ts i .held)) i (into ts i) else []
 
 -- ---- What index i leaves
 -- an unowned slot is written, or the list has none there

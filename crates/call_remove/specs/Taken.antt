@@ -11,7 +11,7 @@ use Rattle.set_checks.specs.Passed.{TexturePassed, SparsePassed}
 use Rattle.set_ready.specs.{Named.within, Tested.{ScopeTested, TrackerTested}}
 use Rattle.set_ready.specs.{Half.{HeadStays, BothReady, tracker-keeps, flags-stay, measured-stays}, Walked.walked-turn}
 use Rattle.set_ready.specs.{SetWalk.{TrackerWalked, tracker-start, left-ready, tracker-turn}, Given.{givenAt, HalfGiven}}
-use Rattle.texture_track.specs.{Slot.{SlotSet, tracker-kept, tracker-named, tracker-view}, GivenSlot.{SetsAt, slotAfter}}
+use Rattle.texture_track.specs.{Slot.{SlotSet, tracker-kept, tracker-named, tracker-view}, GivenSlot.{SetsAt, slotAfter}, Tracked.Same}
 use Rattle.call_remove.specs.{Gone.{Listed, disowned, set-zero, disowned-last}, Removed.{Both, setsOf}, Sparse.given}
 use Rattle.call_remove.specs.Logs.{given-is, into-is}
 use Rattle.call_remove.specs.Fewer.{owned-keeps, extent-stays, off-other, off-still, off-view, Fewer, fewer, still-ready}
@@ -19,7 +19,7 @@ use Rattle.call_remove.specs.Fewer.{owned-keeps, extent-stays, off-other
 -- THE CONTRACT of one texture: the tracker takes it where the scope owns it, otherwise nothing changes; and the scope has it no more
 pub record TakenAt (t s e g r : List ℕ) (i : ℕ) (p : UsageFlags) (t′ s′ e′ g′ : List ℕ) : Type 0 where
   pub into : SlotSet (onlyOwned g i) t s e i (slotAfter p startHalf startHalf g r r i (trackerSlot t s e i)) t′ s′ e′
-  pub free : ownedOf g i ≡ false → (t′ ≡ t) × ((s′ ≡ s) × (e′ ≡ e))
+  pub free : ownedOf g i ≡ false → Same t s e t′ s′ e′
   pub gone : g′ ≡ set g (ownedAt i) 0
 
 -- the test and the checks passed

@@ -78,15 +78,15 @@ module _ {t s e : List ℕ} {i : ℕ} {sh : Extent} {q : Selector} {st : ℕ} {f
       let n = z .is in
       let m : setSingle ranged (trackerOf t s e) i sh q st ≡ passing t s e i sh q st (flagsOf t) (getD t maskAt 0) (trackerSlot t s e i) =
       call-is t s e i sh q st none n ∙ read-here t s e i sh q st (texture-passed t i sh (use-passed t i sh (Part q) st n .0) .texture) in
-      let d : Changes (only i) (usedEntries t s e i sh (fromUse sh (some q) st)) (usedTracker t s e i sh (fromUse sh (some q) st)) h t s e l
-      x t′ s′ e′ l′ = rw w c in
+      let d : Changes (only i) (usedEntries t s e i sh (fromUse sh (some q) st)) (usedTracker t s e i sh (fromUse sh (some q) st)) h t
+      s e l x t′ s′ e′ l′ = rw w c in
       subst (λ (y : CallResult InvalidUse (List Entry) (Tracker Held)). Tracked (only i) fits y h t s e l x t′ s′ e′ l′) (sym m)
       (changes-tracked f k refl (rw (slot-pending (flagsOf t) (getD t maskAt 0) sh (fromUse sh (some q) st) i (trackerSlot t s e i)) d))
 
 -- no more entries than the tracker has subresources
 pub single-few : (t s e : List ℕ) {i : ℕ} {sh : Extent} {q : Selector} {st : ℕ} (room : ℕ) (room₂ : ℕ)
-    → wellFormedTracker room room₂ (trackerOf t s e) ≡ true → st < 65536 → UseTold t i sh (Part q) st verdict.Accepted → (g : Given)
-    → fromUse sh (some q) st ≡ g
+    → wellFormedTracker room room₂ (trackerOf t s e) ≡ true → st < 65536 → UseTold t i sh (Part q) st verdict.Accepted
+    → (g : Given) → fromUse sh (some q) st ≡ g
     → length (usedEntries t s e i sh g) ≤ capacity (numbersOf t)
 unfolding trackerOf
 single-few t s e {i} {sh} {q} {st} room room₂ f b z g w =

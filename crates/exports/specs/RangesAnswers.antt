@@ -33,9 +33,9 @@ isolateIn a =
     else isolate.Refused (refusalFrom (a .answer .number) (a .answer .place))
 
 abbrev pub coalesceIn : RangesAnswer → CoalesceAnswer
-coalesceIn a = if eqb (a .answer .kind) 0 then coalesce.Coalesced (a .told) else coalesce.Refused
-    (refusalFrom (a .answer .number) (a .answer .place))
+coalesceIn a = if eqb (a .answer .kind) 0 then coalesce.Coalesced (a .told)
+    else coalesce.Refused (refusalFrom (a .answer .number) (a .answer .place))
 
 abbrev pub filterIn : RangesAnswer → FilterAnswer
-filterIn a = if eqb (a .answer .kind) 0 then filter.Filtered (a .count) else filter.Refused
-    (refusalFrom (a .answer .number) (a .answer .place))
+filterIn a = if eqb (a .answer .kind) 0 then filter.Filtered (a .count)
+    else filter.Refused (refusalFrom (a .answer .number) (a .answer .place))

@@ -86,8 +86,8 @@ conflictOf a = record {
 
 -- each kind
 abbrev pub outcomeOf : Answer → Outcome
-outcomeOf a = if eqb (a .kind) 0 then Done else if eqb (a .kind) 1 then Refused (refusalFrom (a .number) (a .place)) else Conflict
-    (conflictOf a)
+outcomeOf a = if eqb (a .kind) 0 then Done else if eqb (a .kind) 1
+    then Refused (refusalFrom (a .number) (a .place)) else Conflict (conflictOf a)
 
 -- and with the head of the log
 abbrev pub answeredOf : LoggedAnswer → Answered

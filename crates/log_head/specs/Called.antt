@@ -11,8 +11,8 @@ use Rattle.model.specs.Calls as calls
 
 -- `fits` says whether every set that was handed in is well formed, m is the model's call, and `same` says that every number of the sets
 -- stays
-pub record Called {X : Type 0} (before after : X) (same : Type 0) (fits : Bool) (m : CallResult InvalidUse (List Entry) X) (h : LogHead)
-    (l : List ℕ)
+pub record Called {X : Type 0} (before after : X) (same : Type 0) (fits : Bool)
+    (m : CallResult InvalidUse (List Entry) X) (h : LogHead) (l : List ℕ)
     (x : Answered) (l′ : List ℕ) : Type 0 where
   pub log : Logs (logging fits (logOf l h) before m) l x l′
   pub view : after ≡ logging fits (logOf l h) before m .after
@@ -20,15 +20,15 @@ pub record Called {X : Type 0} (before after : X) (same : Type 0) (fits : Bool) 
   pub kept : isRefused (x .outcome) ≡ true → same × (l′ ≡ l)
 
 -- what it does once its checks passed: `new` is what it adds to the log, and `become` the sets that it leaves
-pub record Changed {X : Type 0} (before after : X) (same : Type 0) (new : List PendingTransition) (become : X) (h : LogHead) (l : List ℕ)
-    (x : Answered)
+pub record Changed {X : Type 0} (before after : X) (same : Type 0) (new : List PendingTransition) (become : X)
+    (h : LogHead) (l : List ℕ) (x : Answered)
     (l′ : List ℕ) : Type 0 where
   pub few : h .free < length new → (x ≡ refusedWith NoFreeEntry h) × ((after ≡ before) × (same × (l′ ≡ l)))
   pub enough : length new ≤ h .free → (x ≡ movedOn h (length new)) × (Added l (h .written) new l′ × (after ≡ become))
 
 -- ---- Refused before any change
-module _ {X : Type 0} {was : X} {same : Type 0} {fits : Bool} {m : CallResult InvalidUse (List Entry) X} {h : LogHead} {l : List ℕ}
-    (s : same) where
+module _ {X : Type 0} {was : X} {same : Type 0} {fits : Bool} {m : CallResult InvalidUse (List Entry) X}
+    {h : LogHead} {l : List ℕ} (s : same) where
   away : (r : Refusal) → logging fits (logOf l h) was m ≡ staying (logOf l h) was m r → Called was was same fits m h l (refusedWith r h) l
   away r z = record { log = log-stays was r z; view = ap (λ (y : Logged X). y .after) (sym z); kept = λ k. (s, refl) }
 
@@ -84,13 +84,15 @@ pub record Fitting (new : List PendingTransition) (free : ℕ) (l l₁ : List �
   pub same : l₁ ≡ l
 
 module _ {new : List PendingTransition} {free : ℕ} {l l₁ : List ℕ} where
+  -- by the count
   pub counted-fits : {top n k : ℕ} {l₂ : List ℕ} → Adds top false l n new k l₂ → k ≤ free → l₁ ≡ l₂ → Fitting new free l l₁
   counted-fits a le e = record { fits = omega (arith, a .count); same = e ∙ a .content }
 
+  -- without one: there is a free entry for every subresource
   pub all-fit : {top k : ℕ} → length new ≤ top → k ≡ top → k ≤ free → l₁ ≡ l → Fitting new free l l₁
   all-fit a e le s = record { fits = omega arith; same = s }
 
--- they fit and are written: k tells how many, and so far the head can move on
+-- they fit and are written: k is how many, and the head can move on by as many
 pub record Wrote (new : List PendingTransition) (h : LogHead) (l : List ℕ) (k : ℕ) (l′ : List ℕ) : Type 0 where
   pub fits : length new ≤ h .free
   pub count : k ≡ length new

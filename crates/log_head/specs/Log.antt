@@ -84,8 +84,8 @@ log-stays {X} {c} {l} {h} was r e = record {
 }
 
 pub log-moves : {X : Type 0} {c : Logged X} {l : List ℕ} (h : LogHead) {l′ : List ℕ} {n : ℕ} (after : X) (new : List PendingTransition)
-    → c ≡ record { answer = done; log = added new (logOf l h); after = after } → n ≡ length new → Added l (h .written) new l′
-    → Logs c l (movedOn h n) l′
+    → c ≡ record { answer = done; log = added new (logOf l h); after = after } → n ≡ length new
+    → Added l (h .written) new l′ → Logs c l (movedOn h n) l′
 log-moves {X} {c} {l} h {l′} {n} after new e z a = record {
   answer = ap (λ (y : Logged X). outcomeOf (y .answer)) (sym e);
   head = rw z (ap (λ (y : Logged X). y .log .head) (sym e));

@@ -12,19 +12,20 @@ unfoldable pub upTo : {A : Type 0} → (ℕ → List A) → ℕ → List A
 upTo f zero = []
 upTo f (suc n) = upTo f n ++ f n
 
--- what f makes at k and behind it, m of them
-unfoldable upFrom : {A : Type 0} → (ℕ → List A) → ℕ → ℕ → List A
+-- what f makes at k and after it, m of them
+unfoldable pub upFrom : {A : Type 0} → (ℕ → List A) → ℕ → ℕ → List A
 upFrom f k zero = []
 upFrom f k (suc m) = f k ++ upFrom f (suc k) m
 
 -- before k and from k on
-up-split : {A : Type 0} (f : ℕ → List A) (k m n : ℕ) → n ≡ k + m → upTo f k ++ upFrom f k m ≡ upTo f n
+pub up-split : {A : Type 0} (f : ℕ → List A) (k m n : ℕ) → n ≡ k + m → upTo f k ++ upFrom f k m ≡ upTo f n
 unfolding upTo upFrom
 up-split f k zero n e = let z : n ≡ k = omega arith in rw z (append-nil (upTo f k))
 up-split f k (suc m) n e = sym (append-assoc (upTo f k) (f k) (upFrom f (suc k) m)) ∙ up-split f (suc k) m n (omega arith)
 
 -- ---- What a loop up to n has left
 module _ (f : ℕ → List PendingTransition) (n : ℕ) where
+  -- what f makes at k and after it, up to n
   unfoldable pub upLeft : ℕ → List PendingTransition
   unfolding upFrom
   upLeft k = upFrom f k (n - k)
@@ -34,12 +35,12 @@ module _ (f : ℕ → List PendingTransition) (n : ℕ) where
   unfolding upTo upLeft
   up-all = up-split f 0 (n - 0) n (omega arith)
 
-  -- those at k, and those behind it
+  -- those at k, and those after it
   pub up-next : {k : ℕ} → k < n → NextLeft upLeft k (f k)
   unfolding upLeft
   up-next {k} h = let e : n - k ≡ suc (n - suc k) = omega arith in record { is = rw (add-one, e) }
 
-  -- none behind the last
+  -- none after the last
   pub up-done : NoneLeft upLeft n
   unfolding upLeft
   up-done = let z : n - n ≡ 0 = omega arith in record { is = rw z }

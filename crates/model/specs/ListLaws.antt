@@ -38,13 +38,13 @@ pub all-both : {A : Type 0} (P Q : A → Type 0) (s : List A) → All P s → Al
 all-both P Q [] x y = tt
 all-both P Q (a ∷ s) x y = ((x .0, y .0), all-both P Q s (x .1) (y .1))
 
-pub all-map : {A B : Type 0} (P : A → Type 0) (Q : B → Type 0) (f : A → B) → ((a : A) → P a → Q (f a)) → (s : List A) → All P s
-    → All Q (map f s)
+pub all-map : {A B : Type 0} (P : A → Type 0) (Q : B → Type 0) (f : A → B) → ((a : A) → P a → Q (f a))
+    → (s : List A) → All P s → All Q (map f s)
 all-map P Q f h [] t = tt
 all-map P Q f h (x ∷ s) t = (h x (t .0), all-map P Q f h s (t .1))
 
-pub all-each : {A B : Type 0} (P : A → Type 0) (Q : B → Type 0) (f : A → List B) → ((a : A) → P a → All Q (f a)) → (s : List A) → All P s
-    → All Q (each f s)
+pub all-each : {A B : Type 0} (P : A → Type 0) (Q : B → Type 0) (f : A → List B) → ((a : A) → P a → All Q (f a))
+    → (s : List A) → All P s → All Q (each f s)
 all-each P Q f h [] t = tt
 all-each P Q f h (x ∷ s) t = all-join Q (f x) _ (h x (t .0)) (all-each P Q f h s (t .1))
 
@@ -69,8 +69,8 @@ all-elem P (x ∷ l) zero t = t .0
 all-elem P (x ∷ l) (suc n) t = all-elem P l n (t .1)
 
 -- the element at a position, or none
-pub elem-of : {A : Type 0} (P : A → Type 0) (l : List A) (n : ℕ) (R : Option A → Type 0) → All P l → R none → ((x : A) → P x → R (some x))
-    → R (getElem? l n)
+pub elem-of : {A : Type 0} (P : A → Type 0) (l : List A) (n : ℕ) (R : Option A → Type 0) → All P l → R none
+    → ((x : A) → P x → R (some x)) → R (getElem? l n)
 elem-of P [] n R t a b = a
 elem-of P (x ∷ l) zero R t a b = b x (t .0)
 elem-of P (x ∷ l) (suc n) R t a b = elem-of P l n R (t .1) a b

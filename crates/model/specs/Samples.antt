@@ -102,8 +102,8 @@ rows =
     -- B7 whole 8, merged with a scope holding 2 at mip 0 layers 1..3 only: 0..1 8200, 1..3 10, 3..4 8200; mip 1 8200.
     ∷ row (inScope (merged 0 none 8 ∷ merged 1 (some part) 2 ∷ callMergeUsageScope 0 1 ∷ [])) (scope done (three 8200 10 8200 8200))
     -- B8 the same onto whole 4: clash at mip 0 layers 0..1, 4 and 8192.
-    ∷ row (inScope (merged 0 none 4 ∷ merged 1 (some part) 2 ∷ callMergeUsageScope 0 1 ∷ [])) (scope (conflict (select 0 1 0 1) 4 8192)
-    (single 4))
+    ∷ row (inScope (merged 0 none 4 ∷ merged 1 (some part) 2 ∷ callMergeUsageScope 0 1 ∷ [])) (scope
+    (conflict (select 0 1 0 1) 4 8192) (single 4))
     -- B9 tracker whole 4, set mip 0 layers 1..3 to 8: transition there 4 to 8; end 0..1 4, 1..3 8, 3..4 4, mip 1 4; start whole 4.
     ∷ row (inTracker (given 0 (full extent) 4 ∷ given 0 part 8 ∷ [])) (tracker (move part 4 8 ∷ [])
     (record { start = single 4; end = three 4 8 4 4 }))
@@ -120,8 +120,8 @@ rows =
     ∷ row (inTracker (given 0 part 8 ∷ given 1 (full extent) 2 ∷ given 1 (full extent) 8 ∷ callSetFromTracker 0 1 ∷ []))
     (tracker (move part 8 2 ∷ []) (record { start = many ((range 0 4 8 ∷ []) ∷ (range 0 4 8 ∷ []) ∷ []); end = single 8 }))
     -- B13 `isolate` 3..7, default D, on 2..4 A, 6..8 B: 2..3 A, 3..4 A, 4..6 D, 6..7 B, 7..8 B; the run is at position 1, three ranges.
-    ∷ row (isolating 3 7 100 (range 2 4 65 ∷ range 6 8 66 ∷ [])) (ranges 1 3 (range 2 3 65 ∷ range 3 4 65 ∷ range 4 6 100 ∷ range 6 7 66
-    ∷ range 7 8 66 ∷ []))
+    ∷ row (isolating 3 7 100 (range 2 4 65 ∷ range 6 8 66 ∷ [])) (ranges 1 3 (range 2 3 65 ∷ range 3 4 65 ∷ range 4 6 100
+    ∷ range 6 7 66 ∷ range 7 8 66 ∷ []))
     -- B14 `isolate` 5..7 on 0..2 A: 5..7 D is added, position 1, one range.
     ∷ row (isolating 5 7 100 (range 0 2 65 ∷ [])) (ranges 1 1 (range 0 2 65 ∷ range 5 7 100 ∷ []))
     ∷ []

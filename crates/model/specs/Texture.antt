@@ -135,8 +135,8 @@ barrier p mask sh (single cur) (givenMany qs) = each (λ (q : Piece). entry (q .
 barrier p mask sh (many ss) (givenSingle new) = eachAt (mipEntries (λ cur. moveOf (p .unknown) mask cur new)) 0 ss
 barrier p mask sh (many ss) (givenMany qs) =
     each (λ (q : Piece). eachAt (λ k s. if inMips (q .selector) k
-    then mipEntries (λ cur. moveOf (p .unknown) mask cur (q .state)) k
-    (iterFilter (layerStart (q .selector)) (layerEnd (q .selector)) s) else []) 0 ss) qs
+    then mipEntries (λ cur. moveOf (p .unknown) mask cur (q .state)) k (iterFilter (layerStart (q .selector)) (layerEnd (q .selector)) s)
+    else []) 0 ss) qs
 
 -- ---- `update`
 -- a Single end, broken up by the pieces; one that is UNKNOWN isolates and changes nothing else
@@ -175,8 +175,8 @@ unfolding paint coalesce isolate learn
 updateAll u [] ss start = record { start = start; end = many ss }
 updateAll u (q ∷ qs) ss start =
     if eqb (q .state) u then updateAll u qs ss start
-    else updateAll u qs (onMips (q .selector) (λ s. coalesce (paint u (layerStart (q .selector)) (layerEnd (q .selector)) (q .state) s)) 0
-    ss)
+    else updateAll u qs (onMips (q .selector)
+    (λ s. coalesce (paint u (layerStart (q .selector)) (layerEnd (q .selector)) (q .state) s)) 0 ss)
     (learnHeld (metBy u q) u (q .state) ss start)
 
 -- the start and the end after a given end, with a clause for each arm of its `match`

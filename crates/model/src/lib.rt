@@ -4,8 +4,8 @@
 // specs/, so that a contract and a definition speak of the same thing. specs/ says what each call means, in the order that
 // docs/ARCHITECTURE.md gives; the code of the other crates is proved equal to it, and crate `agreement` proves what holds of it.
 //
-// BoolLaws, ListLaws, CheckLaws and RangeLaws hold laws of tests, lists, checks and ranges that every other crate cites. Of their
-// definitions statements name one, `All` of ListLaws.
+// BoolLaws, ListLaws, CheckLaws and RangeLaws hold laws of tests, lists, checks and ranges that every other crate cites; Prelude passes on
+// names of the libraries.
 //
 // A usage state is a number of 16 bits, here in a u32. A tracker index, a mip and a layer are kept apart by their types.
 ghost use mathlib.Core.Path.{_≡_};

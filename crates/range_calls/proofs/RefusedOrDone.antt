@@ -15,8 +15,8 @@ pub isolate-refused : {l : List ℕ} {told a e d : ℕ} {r : Refusal} → some r
 unfolding isolateAnswer isolateRecords
 isolate-refused h = record { answer = rw (← h) refl; leaves = record { records = rw (← h) refl; rest = refl; long = refl } }
 
-pub isolate-done : {l : List ℕ} {told a e d : ℕ} {r : Isolated} {l′ : List ℕ} → none ≡ isolateRefusal a e d told (view l)
-    → Isolating l told a e d r l′
+pub isolate-done : {l : List ℕ} {told a e d : ℕ} {r : Isolated} {l′ : List ℕ}
+    → none ≡ isolateRefusal a e d told (view l) → Isolating l told a e d r l′
     → Isolates l told a e d (isolate.Isolated (record { position = r .position; count = r .end - r .position; told = r .len })) l′
 unfolding isolateAnswer isolateRecords
 isolate-done {l} {told} {a} {e} {d} {r} {l′} h i =

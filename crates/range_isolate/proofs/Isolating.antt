@@ -43,8 +43,8 @@ look-end {l} {len} {x} {k} j h =
     record { few = omega arith; is = omega arith }
 
 -- ---- `cut_start`
-pub start-end : {l : List ℕ} {len pos x : ℕ} → 3 * (len + leadCount x (drop pos (decode len l))) ≤ length l → pos ≡ len
-    → StartCut l len pos x 0 l
+pub start-end : {l : List ℕ} {len pos x : ℕ} → 3 * (len + leadCount x (drop pos (decode len l))) ≤ length l
+    → pos ≡ len → StartCut l len pos x 0 l
 unfolding cutFirst leadCount
 start-end {l} {len} {pos} {x} room h =
     let z : drop pos (decode len l) ≡ [] = rw h (slice-empty len (view l)) in
@@ -77,8 +77,8 @@ start-cut {l} {len} {pos} {x} {r} room h ne g t p b =
     record {
       few = omega arith;
       added = rw (n, lt-ltb (r .start) x t);
-      into = rw (n, lt-ltb (r .start) x t) (put-insert (range (r .start) x (r .state)) (start-room l len pos x r room h ne g t)
-          (omega arith) p b);
+      into = rw (n, lt-ltb (r .start) x t)
+          (put-insert (range (r .start) x (r .state)) (start-room l len pos x r room h ne g t) (omega arith) p b);
     }
 
 -- ---- the model's `isolate`, by where the first range past a stands

@@ -97,8 +97,8 @@ pub record Leading (l : List ℕ) (len pos x r : ℕ) : Type 0 where
 -- how many ranges the loop adds; a first range that starts before a counts as cut at a
 unfoldable pub addedBy : ℕ → ℕ → List Range → ℕ
 addedBy a e [] = 1
-addedBy a e (x ∷ s) = if leb e (max a (x .start)) then 1 else gapCount a (x .start) + (if leb e (x .end) then cutCount e x else addedBy
-    (x .end) e s)
+addedBy a e (x ∷ s) = if leb e (max a (x .start)) then 1
+    else gapCount a (x .start) + (if leb e (x .end) then cutCount e x else addedBy (x .end) e s)
 
 pub record Added (l : List ℕ) (len pos at e r : ℕ) : Type 0 where
   pub few : r ≤ len - pos + 1

@@ -25,8 +25,8 @@ pub record Joining (s₀ : List ℕ) (len : ℕ) (s : List ℕ) (w i : ℕ) (cur
   pub rest : spare s ≡ spare s₀
   pub long : length s ≡ length s₀
 
-pub start-of : {s : List ℕ} {len : ℕ} {cur : Range} → 3 * len ≤ length s → (len ≡ 0 → ⊥) → cur ≡ getD (view s) 0 blank
-    → Joining s len s 0 1 cur
+pub start-of : {s : List ℕ} {len : ℕ} {cur : Range} → 3 * len ≤ length s → (len ≡ 0 → ⊥)
+    → cur ≡ getD (view s) 0 blank → Joining s len s 0 1 cur
 unfolding coalesce coalesceFrom
 start-of {s} {len} {cur} room h e =
     let v : len ≤ length (view s) = view-long s len room in let p : 0 < len = omega arith in
@@ -115,8 +115,8 @@ all-apart {s} {len} {r} room a e =
     let o : coalesce (take len (view s)) ++ replicate (len - len) blank ≡ take len (view s) = rw (m, n) (append-nil (take len (view s))) in
     record { few = omega arith; count = rw m (sym (length-take-le len (view s) v)); into = rw o (becomes-none s len room) }
 
-pub joining-from : {s : List ℕ} {len r w : ℕ} {cur : Range} → Apart s len r → w ≡ r - 1 → cur ≡ getD (view s) w blank
-    → Joining s len s w r cur
+pub joining-from : {s : List ℕ} {len r w : ℕ} {cur : Range} → Apart s len r → w ≡ r - 1
+    → cur ≡ getD (view s) w blank → Joining s len s w r cur
 joining-from {s} {len} {r} {w} {cur} a e f = record {
   order = omega (arith, a .some);
   high = a .high;
@@ -133,8 +133,8 @@ finish {s₀} {len} {s} {w} {i} {cur} {s₁} {s₂} room j t p q =
     let v : len ≤ length (view s) = view-long s len (omega (arith, j .long)) in let e : i ≡ len = omega arith in
     let j′ : Joining s₀ len s w len cur = rw e at j in
     let m : take w (view s) ++ (cur ∷ []) ≡ coalesce (take len (view s₀)) = rw (slice-empty len (view s₀)) at (j′ .made) in
-    let n : take (w + 1) (view s₁) ≡ coalesce (take len (view s₀)) = rw (p .seen, add-one) (take-suc-set (view s) w cur (omega arith))
-    ∙ m in
+    let n : take (w + 1) (view s₁) ≡ coalesce (take len (view s₀)) =
+    rw (p .seen, add-one) (take-suc-set (view s) w cur (omega arith)) ∙ m in
     let r : length (view s₁) ≡ length (view s) = ap length (p .seen) ∙ length-set (view s) w cur in
     record {
       few = omega arith;

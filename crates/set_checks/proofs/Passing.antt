@@ -43,8 +43,8 @@ set-passes t g e h a = record {
   );
 }
 
-pub passes-more : {t g : List ℕ} {i : ℕ} (a b : Bool) → (a ≡ true → AllPass t g i) → b ≡ ownedPasses t g i → (a && b) ≡ true
-    → AllPass t g (i + 1)
+pub passes-more : {t g : List ℕ} {i : ℕ} (a b : Bool) → (a ≡ true → AllPass t g i) → b ≡ ownedPasses t g i
+    → (a && b) ≡ true → AllPass t g (i + 1)
 passes-more {t} {g} {i} a b f e p =
     let x = both a b p in
     record { each = λ j h. by-lt j i (λ l. f (x .0) .each j l) (λ l. let z : j ≡ i = omega arith in rw z (sym e ∙ x .1)) }

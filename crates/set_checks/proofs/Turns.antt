@@ -49,8 +49,8 @@ module _ (t g : List ℕ) where
   -- a scope's are the same
   pub sparse-begins : (list : List ℕ) → sameFlags (flagsOf t) (flagsOf g) ≡ true
       → Left (listedAt t g list) (length list) (sparseRefusal (headIn t) (headIn g) list) 0
-  sparse-begins list e = all-left (listedAt t g list) (length list) (sparseRefusal (headIn t) (headIn g) list) (sparse-splits t g list
-      ∙ rw e)
+  sparse-begins list e = all-left (listedAt t g list) (length list) (sparseRefusal (headIn t) (headIn g) list)
+      (sparse-splits t g list ∙ rw e)
 
   -- they differ
   pub sparse-differs : (list : List ℕ) → sameFlags (flagsOf t) (flagsOf g) ≡ false → SparseTold t g list (Refused FlagsDiffer)

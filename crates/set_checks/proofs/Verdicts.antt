@@ -9,8 +9,8 @@ use Rattle.set_checks.specs.Sets.{ownedRefusal, listed-in, listed-past, 
 
 -- ---- the parts of a use's checks
 module _ {t : List ℕ} {i : ℕ} {sh : Extent} {s : Selection} {st : ℕ} where
-  pub state-tells : {x : Verdict} → TextureTold t i sh Accepted → SelectorTold sh s Accepted → StateTold (flagsOf t) st x
-      → UseTold t i sh s st x
+  pub state-tells : {x : Verdict} → TextureTold t i sh Accepted → SelectorTold sh s Accepted
+      → StateTold (flagsOf t) st x → UseTold t i sh s st x
   state-tells a b c = record { is = rw (use-splits t i sh s st, a .is, b .is) (c .is) }
 
   pub selector-tells : {r : Refusal} → TextureTold t i sh Accepted → SelectorTold sh s (Refused r) → UseTold t i sh s st (Refused r)

@@ -1,6 +1,6 @@
 -- What the checks read of a table: the head of its view.
-use Rattle.model.specs.Prelude.{ℕ, zero, suc, _+_, _<_, arith, _≡_, refl, ap, _∙_, Bool, true, false, Option, none, some, List, [], _∷_}
-use Rattle.model.specs.Prelude.{_++_, map, getD}
+use Rattle.model.specs.Prelude.{ℕ, zero, suc, _<_, arith, _≡_, refl, ap, _∙_, Bool, true, false, Option, none, some, List, [], _∷_, _++_}
+use Rattle.model.specs.Prelude.{map, getD}
 use Rattle.model.specs.declared.Selection.the-variants.{Full, Part}
 use Rattle.model.specs.declared.{UsageFlags.UsageFlags, Extent.Extent, Refusal.Refusal, Selector.Selector, Selection.Selection}
 use Rattle.model.specs.{declared.Verdict.Verdict, Base.if_then_else_, Sets.{Head, ownExtent, headOf}}

@@ -106,8 +106,8 @@ module _ (t g : List ℕ) where
       ∙ ap (orNext (listedRefusal t g i)) (listed-first list ∙ first-shift (listedAt t g (i ∷ list)) 0 (length list))
 
   -- 6, then the owned indices, ascending
-  pub set-splits : setRefusal (headIn t) (headIn g) ≡ (if sameFlags (flagsOf t) (flagsOf g) then firstOf (ownedRefusal t g) 0
-      (getD g texturesAt 0) else some FlagsDiffer)
+  pub set-splits : setRefusal (headIn t) (headIn g)
+      ≡ (if sameFlags (flagsOf t) (flagsOf g) then firstOf (ownedRefusal t g) 0 (getD g texturesAt 0) else some FlagsDiffer)
   set-splits = flags-first (eachAt (ownedChecks (headIn t)) 0 (headIn g .extents)) ∙ rw (owned-first 0 (getD g texturesAt 0))
 
   -- 6, then the listed indices, in list order

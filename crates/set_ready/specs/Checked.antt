@@ -15,12 +15,15 @@ apart : (a b : ℕ) → meets a b ≡ false → bitAnd a b ≡ 0
 apart a b e = eqb-true _ _ (not-false _ e)
 
 module _ {p : UsageFlags} {st : ℕ} (k : StatePassed p st) where
+  -- it is not COMPLEX
   state-plain : st ≡ p .complex → ⊥
   state-plain = not-bit st (p .complex) (k .nonzero) (apart st (p .complex) (k .plain))
 
+  -- nor UNKNOWN
   state-known : st ≡ p .unknown → ⊥
   state-known = not-bit st (p .unknown) (k .nonzero) (apart st (p .unknown) (k .known))
 
+  -- nor is a union with it COMPLEX
   state-union : (x : ℕ) → bitOr x st ≡ p .complex → ⊥
   state-union x = union-not-bit x st (p .complex) (k .nonzero) (apart st (p .complex) (k .plain))
 
@@ -35,6 +38,7 @@ full-is sh q e =
       layers = record { start = record { 0 = z₂ i }; end = record { 0 = z₃ i } };
     }
 
+-- a use of a texture with the extent sh that passed the checks, by the flags of the table t
 pub record TakenUse (t : List ℕ) (sh : Extent) (all : Bool) (q : Selector) (p : UsageFlags) (new : ℕ) : Type 0 where
   pub flags : p ≡ flagsOf t
   pub selector : SelectorPassed sh q
@@ -85,7 +89,8 @@ module _ {t : List ℕ} {sh : Extent} {all : Bool} {q : Selector} {p : UsageFlag
   pub held-ready : {h i : ℕ} {r : List ℕ} → TextureHeld (numbersOf t) h t r i sh → HeldReady h t r i sh new
   held-ready {h} {i} x = record {
     tiled = x .tiled;
-    plain = λ z. state-union (u .state) (getD t (h + i) 0) (z ∙ sym (ap (λ (f : UsageFlags). f .complex) (u .flags)));
+    plain = λ z. state-union (u .state) (getD t (h + i) 0)
+        (z ∙ sym (ap (λ (f : UsageFlags). f .complex) (u .flags)));
   }
 
   -- of a tracker's, owned

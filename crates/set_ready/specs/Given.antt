@@ -3,7 +3,7 @@
 use Rattle.model.specs.Prelude.{ℕ, _+_, _<_, _≡_, refl, sym, ap, subst, _∙_, true, List, getD}
 use Rattle.model.specs.{declared.{UsageFlags.UsageFlags, Extent.Extent}, Texture.{Given, fromHeld}}
 use Rattle.set_storage.specs.Storage.{numbersOf, flagsOf, extentOf, ownedOf, startHalf, endHalf, heldOf, complexAt, ownedAt, texturesAt}
-use Rattle.set_storage.specs.{Stays.{only, onlyOwned}, Frames.Measured, Texture.{TextureReady, TextureHeld}}
+use Rattle.set_storage.specs.{Storage.tableIndices, Stays.{only, onlyOwned}, Frames.Measured, Texture.{TextureReady, TextureHeld}}
 use Rattle.texture_merge.specs.FromSet.{GivenReady, SetReady, MergeReady}
 use Rattle.texture_update.specs.FromSet.{UpdateFromReady}
 use Rattle.agreement.specs.Fits.{ExtentFits}
@@ -13,7 +13,7 @@ use Rattle.set_ready.specs.{Tested.{HalfFits, half-fits, union-not-bit, 
 abbrev pub givenAt : ℕ → List ℕ → List ℕ → ℕ → Given
 givenAt h g r i = fromHeld (heldOf (numbersOf g) h g r i)
 
--- ---- What is asked for: texture i in the half h of a set that passed the test, with the flags of the set t that takes it
+-- ---- What is required: texture i in the half h of a set that passed the test, with the flags of the set t that takes it
 pub record HalfGiven (t : List ℕ) (i : ℕ) (sh : Extent) (h : ℕ) (g r : List ℕ) : Type 0 where
   pub measured : Measured (numbersOf g) h g r
   pub texture : i < getD g texturesAt 0
@@ -65,7 +65,7 @@ module _ {t g l : List ℕ} {i from : ℕ} {sh : Extent} (q : HalfGiven t i sh f
 
 -- ---- Index i, where the set with the table g may own a texture: there one is ready for it, and it is given
 pub record WhereOwned (g : List ℕ) (i : ℕ) (Ready Gives : Type 0) : Type 0 where
-  pub index : i < 64
+  pub index : i < tableIndices
   pub ready : ownedOf g i ≡ true → Ready
   pub given : ownedOf g i ≡ true → Gives
 

@@ -31,9 +31,11 @@ pub record HeadStays (t t₁ : List ℕ) : Type 0 where
   pub words : (x : ℕ) → x < headLength → getD t₁ x 0 ≡ getD t x 0
   pub long : length t₁ ≡ length t
 
+-- by a scope's frame
 pub scope-keeps : {named : ℕ → Type 0} {d : Numbers} {t r t₁ r₁ : List ℕ} → ScopeFrame named d t r t₁ r₁ → HeadStays t t₁
 scope-keeps f = record { words = scope-head f; long = f .words .long }
 
+-- by a tracker's
 pub tracker-keeps : {named : ℕ → Type 0} {d : Numbers} {t s e t₁ s₁ e₁ : List ℕ} → TrackerFrame named d t s e t₁ s₁ e₁ → HeadStays t t₁
 tracker-keeps f = record { words = tracker-head f; long = f .words .long }
 

@@ -3,7 +3,7 @@ use Rattle.model.specs.Prelude.{ℕ, _≤_, _<_, arith, _≡_, refl, sym, ap, _
 use Rattle.model.specs.{declared.Extent.Extent, Sets.{Numbers, Slot, withSlots}, Calls.owning, BoolLaws.by-lt}
 use Rattle.set_storage.specs.Storage.{numbersOf, flagsOf, startHalf, endHalf, slotWith, setWith, listFrom, ownedAt, mipsAt, layersAt}
 use Rattle.set_storage.specs.Storage.{texturesAt, complexAt, exclusiveAt, layerLimitAt, mipLimitAt, uninitializedAt, unknownAt}
-use Rattle.set_storage.specs.{Lists.{list-ext, list-long}, Stays.HalfFrame}
+use Rattle.set_storage.specs.{Storage.tableIndices, Lists.{list-ext, list-long}, Stays.HalfFrame}
 use Rattle.set_storage.specs.Slots.{SlotFrame, ownWords, scope-own, own-owned, own-mips, own-layers, half-low, slot-owned, set-becomes}
 use Rattle.set_storage.specs.Texture.{TextureReady, numbers-low, flags-low, texture-dims, texture-away}
 use Rattle.set_ready.specs.Half.{HalfReady, BothReady, HeadStays, scope-keeps, numbers-stay, flags-stay, measured-kept}
@@ -61,7 +61,7 @@ pub owned-reads : {H : Type 0} {d : Numbers} {h i : ℕ} {u r : List ℕ} {sh : 
     → TextureReady d h u r i sh → (getD u (ownedAt i) 0 ≡ 0 → ⊥) → ((y : ℕ) → y < startHalf → getD t′ y 0 ≡ getD u y 0) → held i ≡ x
     → slotWith held t′ i ≡ owning sh x
 owned-reads {i = i} held t′ x w own same e =
-    let few : i < 64 = omega (arith, w .measured .textures, w .index) in
+    let few : i < tableIndices = omega (arith, w .measured .textures, w .index) in
     slot-owned held t′ i x (λ z. own (sym (same (ownedAt i) (omega arith)) ∙ z)) e
     ∙ rw (same (mipsAt i) (omega arith), same (layersAt i) (omega arith), w .mips, w .layers)
 
@@ -79,8 +79,7 @@ set-stays {H} {i} {held} {held′} {t} {t′} s h f =
       f .head exclusiveAt (omega arith),
       f .head uninitializedAt (omega arith),
       f .head complexAt (omega arith),
-      f .head unknownAt
-          (omega arith),
+      f .head unknownAt (omega arith),
       q,
     ))
 

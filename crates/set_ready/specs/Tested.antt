@@ -37,8 +37,8 @@ not-bit s c n e z = n (sym (and-self s) ∙ ap (bitAnd s) z ∙ e)
 -- nor is any union with it
 pub union-not-bit : (x s c : ℕ) → (s ≡ 0 → ⊥) → bitAnd s c ≡ 0 → bitOr x s ≡ c → ⊥
 union-not-bit x s c n e z =
-    let a : bitOr (bitAnd x s) s ≡ 0 = ap (bitOr (bitAnd x s)) (sym (and-self s)) ∙ sym (and-or x s s) ∙ ap (λ (y : ℕ). bitAnd y s) z
-    ∙ and-comm c s ∙ e in
+    let a : bitOr (bitAnd x s) s ≡ 0 = ap (bitOr (bitAnd x s)) (sym (and-self s)) ∙ sym (and-or x s s)
+    ∙ ap (λ (y : ℕ). bitAnd y s) z ∙ and-comm c s ∙ e in
     n (or-zero (bitAnd x s) s a .1)
 
 -- ---- A set that passed the test
@@ -49,6 +49,7 @@ slot-of P held t f i h =
     let fits = SlotFits P (numbersOf t) (flagsOf t) in let slot = slotWith held t in let n = getD t texturesAt 0 in
     subst fits (list-at slot n i (slot 0) h) (all-at fits (listFrom slot 0 n) i (slot 0) (f .slots) (rw (list-long slot 0 n) h))
 
+-- a scope: how its storage is measured, its flags, and each slot
 pub record ScopeTested (t r : List ℕ) : Type 0 where
   pub measured : Measured (numbersOf t) startHalf t r
   pub flags : flagsFit (flagsOf t) ≡ true
@@ -64,14 +65,15 @@ scope-tested t r size e =
       slots = slot-of HeldFits (heldOf (numbersOf t) startHalf t r) t f;
     }
 
+-- a tracker: the same, of both halves
 pub record TrackerTested (t s e : List ℕ) : Type 0 where
   pub starts : Measured (numbersOf t) startHalf t s
   pub ends : Measured (numbersOf t) endHalf t e
   pub flags : flagsFit (flagsOf t) ≡ true
   pub slots : (i : ℕ) → i < getD t texturesAt 0 → SlotFits EndsFit (numbersOf t) (flagsOf t) (trackerSlot t s e i)
 
-pub tracker-tested : (t s e : List ℕ) → length t ≡ tableLength → wellFormedTracker (length s / 3) (length e / 3) (trackerOf t s e) ≡ true
-    → TrackerTested t s e
+pub tracker-tested : (t s e : List ℕ) → length t ≡ tableLength
+    → wellFormedTracker (length s / 3) (length e / 3) (trackerOf t s e) ≡ true → TrackerTested t s e
 unfolding trackerOf
 tracker-tested t s e size w =
     let a = and-eq-true-iff _ _ .0 w in let b = and-eq-true-iff _ _ .0 (a .0) in let f = tracker-to (trackerOf t s e) (b .0) in

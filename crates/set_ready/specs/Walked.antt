@@ -78,7 +78,7 @@ module _ {C A B : Type 0} (f : ℕ → A → B → Stop C A) (F H : ℕ → A) (
       (λ x a b. q .done x (omega arith) (λ l. omega arith) ∙ ap fine (sym (o x (omega arith) (λ y. omega arith))))
       (rw z w) (λ x a b. o x (omega arith) (λ y. omega arith) ∙ q .same x (omega arith) (omega arith))
 
--- ---- and `over₂`, which meets none
+-- ---- and `over₂`, which meets no conflict
 module _ {A B : Type 0} (f : ℕ → A → B → A) where
   -- as a walk
   over-walk : (k : ℕ) (s : List A) (t : List B) → walk₂ {C = ℕ} (λ j x y. fine (f j x y)) k s t ≡ fine (over₂ f k s t)

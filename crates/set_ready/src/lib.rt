@@ -4,11 +4,13 @@
 // `texture_update`, `texture_barrier`) below, and the public calls above, which test and check first. Laws, and one function, by which
 // every use of a texture is told to be of all of it.
 //
-//     Tested    a texture of a scope or of a tracker as the view has it; a set that passed the test, index by index
+//     Tested    a set that passed the test, index by index
 //     Checked   a use and a texture that passed the checks: `TextureReady` and `TextureHeld`, made once
-//     Half      one half of a texture, or both, for the functions over it; ready still while other textures change
+//     Half      one half of a texture, or both, for the functions over it; still ready while other textures change
 //     Given     what another set holds at the same index, for the functions that take it
-//     Owned     a texture that is owned, just now or before: ready, how its slot reads after a change, and the view of the set
+//     Owned     a texture that was owned before or has just become so: ready, how its slot reads after a change, and the view of the set
+//     Walked    a walk over slots by any relation: which are done, and which are left as they were
+//     SetWalk   such a walk over a set as it is lent
 //     Named     what the frame of a call says of the numbers that no texture uses, and of a texture that it does not name
 use model::Extent;
 use model::Selector;

@@ -30,8 +30,7 @@ set-becomes {H} {i} {held} {held′} {t} {t′} s hi f e =
       f .head texturesAt (omega arith),
       f .head mipLimitAt (omega arith),
       f .head layerLimitAt (omega arith),
-      f .head exclusiveAt
-          (omega arith),
+      f .head exclusiveAt (omega arith),
       f .head uninitializedAt (omega arith),
       f .head complexAt (omega arith),
       f .head unknownAt (omega arith),
@@ -79,8 +78,8 @@ module _ {d : Numbers} {h i : ℕ} {t r t′ r′ : List ℕ} (s : Measured d h 
       (λ z. omega (arith, s .textures, s .mips))) refl)
 
 -- ---- The head reads as before
-pub scope-head : {named : ℕ → Type 0} {d : Numbers} {t r t′ r′ : List ℕ} → ScopeFrame named d t r t′ r′ → (x : ℕ) → x < headLength
-    → getD t′ x 0 ≡ getD t x 0
+pub scope-head : {named : ℕ → Type 0} {d : Numbers} {t r t′ r′ : List ℕ} → ScopeFrame named d t r t′ r′ → (x : ℕ)
+    → x < headLength → getD t′ x 0 ≡ getD t x 0
 scope-head f x q = f .words .same x (λ i _ _. off-scope i x (head-off i x q))
 
 pub tracker-head : {named : ℕ → Type 0} {d : Numbers} {t s e t′ s′ e′ : List ℕ} → TrackerFrame named d t s e t′ s′ e′ → (x : ℕ)
@@ -145,16 +144,6 @@ abbrev pub ownWords : List ℕ → ℕ → Extent → List ℕ
 ownWords t i sh = set (set (set t (ownedAt i) 1) (mipsAt i) (sh .mips)) (layersAt i) (sh .layers)
 
 module _ (d : Numbers) (t : List ℕ) (i : ℕ) (sh : Extent) (n : d .textures ≤ 64) (m : d .mips ≤ 16) (hi : i < d .textures) where
-  own-same : (x : ℕ) → (x ≡ 8 + i → ⊥) → (x ≡ 72 + i → ⊥) → (x ≡ 136 + i → ⊥) → getD (ownWords t i sh) x 0 ≡ getD t x 0
-  own-same x a b c =
-      getD-set-other (set (set t (ownedAt i) 1) (mipsAt i) (sh .mips)) (layersAt i) x (sh .layers) 0 c
-      ∙ getD-set-other (set t (ownedAt i) 1) (mipsAt i) x (sh .mips) 0 b ∙ getD-set-other t (ownedAt i) x 1 0 a
-
-  -- the words of the head, and those past the extents
-  pub own-word : (x : ℕ) → (x < headLength) ⊎ (startHalf ≤ x) → getD (ownWords t i sh) x 0 ≡ getD t x 0
-  own-word x (inl q) = own-same x (λ z. omega arith) (λ z. omega arith) (λ z. omega arith)
-  own-word x (inr q) = own-same x (λ z. omega arith) (λ z. omega arith) (λ z. omega arith)
-
   own-words : Stays OffHead (only i) t (ownWords t i sh)
   own-words =
       let few : i < tableIndices = omega arith in

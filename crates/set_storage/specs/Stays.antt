@@ -26,8 +26,8 @@ ownedBy g j = (j < getD g texturesAt 0) × (ownedOf g j ≡ true)
 pub stays-refl : {off : ℕ → ℕ → Type 0} {named : ℕ → Type 0} (l : List ℕ) → Stays off named l l
 stays-refl l = record { same = λ x o. refl; long = refl }
 
-pub stays-then : {off : ℕ → ℕ → Type 0} {named : ℕ → Type 0} {l l₁ l₂ : List ℕ} → Stays off named l l₁ → Stays off named l₁ l₂
-    → Stays off named l l₂
+pub stays-then : {off : ℕ → ℕ → Type 0} {named : ℕ → Type 0} {l l₁ l₂ : List ℕ} → Stays off named l l₁
+    → Stays off named l₁ l₂ → Stays off named l l₂
 stays-then f g = record { same = λ x o. g .same x o ∙ f .same x o; long = g .long ∙ f .long }
 
 -- more may be named, and more may be an index's

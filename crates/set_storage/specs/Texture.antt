@@ -52,8 +52,7 @@ module _ (t₀ t : List ℕ) (low : (x : ℕ) → x < startHalf → getD t x 0 �
     low exclusiveAt (omega arith),
     low uninitializedAt (omega arith),
     low complexAt (omega arith),
-    low unknownAt
-        (omega arith),
+    low unknownAt (omega arith),
   )
 
 -- and what is measured, where the lengths stay too, and a texture

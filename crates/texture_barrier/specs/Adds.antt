@@ -88,7 +88,7 @@ adds-then write {a} {b} {c} {l} {n} {x} {y} {xs} {ys} {l₁} {l₂} room t p q =
     go true r u v = v ∙ content-then l n x xs ys (p .count) (r refl) l₁ u
     go false r u v = v ∙ u
 
--- ---- What a loop has left: ys at turn k, and then what is left behind it
+-- ---- What a loop has left: ys at turn k, and then what is left after it
 pub record NextLeft (rest : ℕ → List PendingTransition) (k : ℕ) (ys : List PendingTransition) : Type 0 where
   pub is : rest k ≡ ys ++ rest (k + 1)
 

@@ -8,8 +8,8 @@ use Rattle.texture_barrier.specs.Over.{over, over-long, over-past}
 
 -- ---- One entry: "seven numbers: index, mip start, mip end, layer start, layer end, old, new"
 abbrev pub sevenOf : PendingTransition → List ℕ
-sevenOf e = e .index .0 ∷ mipStart (e .selector) ∷ mipEnd (e .selector) ∷ layerStart (e .selector) ∷ layerEnd (e .selector) ∷ e .old
-    ∷ e .new ∷ []
+sevenOf e = e .index .0 ∷ mipStart (e .selector) ∷ mipEnd (e .selector) ∷ layerStart (e .selector)
+    ∷ layerEnd (e .selector) ∷ e .old ∷ e .new ∷ []
 
 -- the entry that the first seven numbers make
 abbrev pub entryOf : List ℕ → PendingTransition

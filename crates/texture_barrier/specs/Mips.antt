@@ -50,5 +50,5 @@ module _ {A B : Type 0} (F : ℕ → A → List B) (G : ℕ → A) where
   unfolding listFrom
   mips-one m n a below above =
       let e : suc m - m ≡ suc zero = omega arith in
-      mips-only m (suc m) n (omega arith) (omega arith) below (λ x p. above x (omega arith)) ∙ mips-next m (suc m - m) zero e
-      ∙ append-nil (F m (G m))
+      mips-only m (suc m) n (omega arith) (omega arith) below (λ x p. above x (omega arith))
+      ∙ mips-next m (suc m - m) zero e ∙ append-nil (F m (G m))

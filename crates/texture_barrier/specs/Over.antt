@@ -24,8 +24,7 @@ module _ {A : Type 0} (l : List A) (n : ℕ) (x : List A) (room : n + length x �
       rw (
         over-front,
         ← drop-drop k (n + length x) (front ++ drop (n + length x) l),
-        drop-at front (drop (n + length x) l)
-            (n + length x) front-long,
+        drop-at front (drop (n + length x) l) (n + length x) front-long,
       )
       (drop-drop k (n + length x) l)
 

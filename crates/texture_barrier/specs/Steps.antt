@@ -73,8 +73,8 @@ changeOf (From cur) r = record { made = true; start = r .start; end = r .end; ol
 
 -- the entries of a change on mip k
 abbrev pub changeEntries : ℕ → ℕ → ℕ → Change → List Entry
-changeEntries unknown mask k c = if c .made then entry (select k (suc k) (c .start) (c .end)) (moveOf unknown mask (c .old) (c .new)) else
-    []
+changeEntries unknown mask k c =
+    if c .made then entry (select k (suc k) (c .start) (c .end)) (moveOf unknown mask (c .old) (c .new)) else []
 
 -- what a step adds for one range of mip k
 abbrev pub rangeEntries : ℕ → ℕ → Step → ℕ → Range → List Entry
@@ -101,8 +101,8 @@ module _ (unknown mask : ℕ) (g : Range) (k : ℕ) where
       go : (b : Bool) → toStateIn unknown mask (g .state) (g .start) (g .end) k s ≡ stepEntries unknown mask (Within g) k s
           → mipEntries (λ cur. moveOf unknown mask cur (g .state)) k (if b then clip (g .start) (g .end) r
           ∷ iterFilter (g .start) (g .end) s else iterFilter (g .start) (g .end) s)
-          ≡ (if b then entry (select k (suc k) (clip (g .start) (g .end) r .start) (clip (g .start) (g .end) r .end))
-          (moveOf unknown mask (r .state) (g .state)) else []) ++ stepEntries unknown mask (Within g) k s
+          ≡ (if b then entry (select k (suc k) (clip (g .start) (g .end) r .start) (clip (g .start) (g .end) r .end)) (moveOf unknown mask
+          (r .state) (g .state)) else []) ++ stepEntries unknown mask (Within g) k s
       go true h = rw h
       go false h = h
 

@@ -79,15 +79,16 @@ module _ (p : UsageFlags) (mask : ℕ) (sh : Extent) where
   module _ (G : ℕ → List Range) (n : ℕ) where
     pub many-to-piece : (new : ℕ) (q : Selector) → mipStart q ≤ mipEnd q → mipEnd q ≤ n
         → barrier p mask sh (many (listFrom G 0 n)) (givenMany (piece q new ∷ []))
-        ≡ eachAt (stepEntries (p .unknown) mask (Within (range (layerStart q) (layerEnd q) new))) (mipStart q) (listFrom G (mipStart q)
-        (mipEnd q - mipStart q))
+        ≡ eachAt (stepEntries (p .unknown) mask (Within (range (layerStart q) (layerEnd q) new))) (mipStart q) (listFrom G
+        (mipStart q) (mipEnd q - mipStart q))
     unfolding barrier
     many-to-piece new q a b =
         let F = pieceAt (p .unknown) mask (piece q new) in
         append-nil (eachAt F 0 (listFrom G 0 n))
         ∙ mips-only F G (mipStart q) (mipEnd q) n a b (λ x h. rw (under-mips q x h)) (λ x h. rw (past-mips q x h))
-        ∙ mips-same F G (stepEntries (p .unknown) mask (Within (range (layerStart q) (layerEnd q) new))) (mipStart q) (mipEnd q - mipStart
-        q) (λ x h k. rw (in-mips q x h (omega arith)) (within-is (p .unknown) mask (range (layerStart q) (layerEnd q) new) x (G x)))
+        ∙ mips-same F G (stepEntries (p .unknown) mask (Within (range (layerStart q) (layerEnd q) new))) (mipStart q)
+        (mipEnd q - mipStart q) (λ x h k. rw (in-mips q x h (omega arith))
+        (within-is (p .unknown) mask (range (layerStart q) (layerEnd q) new) x (G x)))
 
     -- the piece of one range is on its own mip
     one-mip : (k : ℕ) (g : Range) → k < n

@@ -99,7 +99,7 @@ pub fn barrier_single(
 }
 
 // The transitions to one state, of all of the texture or of what a selector names. A Single texture makes one entry over all the mips of
-// the selector.
+// the selector. That it lies within the texture is required of the full one too: a plain bound.
 pub fn barrier_use(
     table: &Table,
     ends: &[u32],

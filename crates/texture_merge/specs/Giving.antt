@@ -1,6 +1,6 @@
 -- The pieces of another texture, given one after another to the mips of a texture in storage: what is left to give decides.
-use Rattle.model.specs.Prelude.{ℕ, zero, suc, _+_, _*_, _≤_, _<_, arith, _≡_, refl, sym, ap, subst, _∙_, Bool, true, false, Option, none}
-use Rattle.model.specs.Prelude.{some, Option·map, List, [], _∷_, _++_, map, length, getD}
+use Rattle.model.specs.Prelude.{ℕ, zero, suc, _*_, _≤_, _<_, arith, _≡_, refl, sym, ap, subst, _∙_, Bool, true, false, Option, none, some}
+use Rattle.model.specs.Prelude.{Option·map, List, [], _∷_, _++_, map, length, getD}
 use Rattle.model.specs.declared.{UsageFlags.UsageFlags, Selector.Selector, Range.Range, InvalidUse.InvalidUse}
 use Rattle.model.specs.{Base.{eachAt, Stop, fine, ruled, andThen, onward, passes, walk}, StateRules.{unite, endAfter}, Sets.Numbers}
 use Rattle.model.specs.{Representation.{select, layerStart, layerEnd, inMips}, RangedStates.{paint, Tiles}}
@@ -106,8 +106,8 @@ pub taken-tiled : (d : Doing) (p : UsageFlags) (q : Piece) (w : ℕ) (ss : List 
     → layerStart (q .selector) < layerEnd (q .selector) → layerEnd (q .selector) ≤ w → Tiled w ss → Tiled w (taken d p q ss .value)
 unfolding taken spreadPiece
 taken-tiled Insert p q w ss h g t =
-    on-tiled w (q .selector) _ (λ s x. paint-tiles s 0 (layerStart (q .selector)) (layerEnd (q .selector)) (p .unknown) (q .state) w
-    (omega arith) h g x) 0 ss t
+    on-tiled w (q .selector) _ (λ s x. paint-tiles s 0 (layerStart (q .selector)) (layerEnd (q .selector)) (p .unknown)
+    (q .state) w (omega arith) h g x) 0 ss t
 taken-tiled Merge p q w ss h g t = walk-tiled w (mergeMip p q) (merge-tiled p q w h g) 0 ss t
 taken-tiled (Spread cur) p q w ss h g t = go (unite p cur (q .state))
   where
@@ -115,8 +115,8 @@ taken-tiled (Spread cur) p q w ss h g t = go (unite p cur (q .state))
         → Tiled w (ruled {C = InvalidUse} ss (invalidUse (q .selector) cur (q .state))
         (Option·map (λ (u : ℕ). updatedMips (p .unknown) (q .selector) u ss) o) .value)
     go none = t
-    go (some u) = on-tiled w (q .selector) _ (λ s x. update-tiles (p .unknown) (layerStart (q .selector)) (layerEnd (q .selector)) u s w h g
-        x) 0 ss t
+    go (some u) = on-tiled w (q .selector) _
+        (λ s x. update-tiles (p .unknown) (layerStart (q .selector)) (layerEnd (q .selector)) u s w h g x) 0 ss t
 taken-tiled (Cover cur) p q w ss h g t =
     on-tiled w (q .selector) _ (λ s x. update-tiles (p .unknown) (layerStart (q .selector)) (layerEnd (q .selector))
     (endAfter (p .unknown) cur (q .state)) s w h g x) 0 ss t
@@ -136,8 +136,7 @@ module _ {C Q S : Type 0} (f : Q → S → Stop C S) where
     where
       go : passes f (xs ++ ys) (f x s .value)
           ≡ andThen (passes f xs (f x s .value) .conflict) (passes f xs (f x s .value) .value) (passes f ys
-          (passes f xs (f x s .value) .value))
-          → (c : Option C)
+          (passes f xs (f x s .value) .value)) → (c : Option C)
           → andThen c (f x s .value) (passes f (xs ++ ys) (f x s .value))
           ≡ andThen (andThen c (f x s .value) (passes f xs (f x s .value)) .conflict) (andThen c (f x s .value)
           (passes f xs (f x s .value)) .value) (passes f ys (andThen c (f x s .value) (passes f xs (f x s .value)) .value))

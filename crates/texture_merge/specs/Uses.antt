@@ -19,8 +19,8 @@ unfoldable pub brokenUp : Extent → ℕ → Selector → ℕ → ℕ → Held
 brokenUp sh was q u st = many (updatedMips u q st (freshMips sh was))
 
 -- what the checks and the test of the set have shown
-pub record UseReady (d : Numbers) (h : ℕ) (t r : List ℕ) (i : ℕ) (sh : Extent) (all : Bool) (q : Selector) (p : UsageFlags) (new : ℕ) : Type
-    0 where
+pub record UseReady (d : Numbers) (h : ℕ) (t r : List ℕ) (i : ℕ) (sh : Extent) (all : Bool) (q : Selector)
+    (p : UsageFlags) (new : ℕ) : Type 0 where
   pub texture : TextureReady d h t r i sh
   pub selector : SelectorWithin sh q
   pub flags : p ≡ flagsOf t

@@ -11,14 +11,14 @@ stoppedOf Nowhere = none
 stoppedOf (At c) = some c
 
 -- THE CONTRACT of a walk: the model's walk over the mips of texture i, and its conflict
-pub record MipsWalked (d : Numbers) (h i : ℕ) (w : Stop InvalidUse (List (List Range))) (t r : List ℕ) (x : Stopped) (t′ r′ : List ℕ) : Type
-    0 where
+pub record MipsWalked (d : Numbers) (h i : ℕ) (w : Stop InvalidUse (List (List Range))) (t r : List ℕ) (x : Stopped)
+    (t′ r′ : List ℕ) : Type 0 where
   pub conflict : stoppedOf x ≡ w .conflict
   pub into : MipsBecome d h i (w .value) t r t′ r′
 
 -- one mip of it: the model's step on mip m, and its conflict
-pub record MipWalked (d : Numbers) (h i m : ℕ) (w : Stop InvalidUse (List Range)) (c : Option InvalidUse) (t r t′ r′ : List ℕ) : Type
-    0 where
+pub record MipWalked (d : Numbers) (h i m : ℕ) (w : Stop InvalidUse (List Range)) (c : Option InvalidUse)
+    (t r t′ r′ : List ℕ) : Type 0 where
   pub conflict : c ≡ w .conflict
   pub into : MipsBecome d h i (set (mipsOf d h t r i) m (w .value)) t r t′ r′
 

@@ -1,6 +1,5 @@
 -- A run that takes one state, and a mip made anew.
-use Rattle.model.specs.Prelude.{ℕ, _+_, _*_, _≤_, arith, _≡_, refl, ap, _∙_, Bool, false, List, [], _∷_, _++_, map, length, drop}
-use Rattle.model.specs.Prelude.{take-suc-set}
+use Rattle.model.specs.Prelude.{ℕ, _*_, _≤_, arith, _≡_, refl, ap, _∙_, Bool, false, List, [], _∷_, _++_, map, length, drop, take-suc-set}
 use Rattle.model.specs.{declared.Range.Range, RangedStates.{range, inState, isolate, coalesce, paint}}
 use Rattle.range_states.specs.{View.{view, decode, Put, Becomes, view-long, becomes-live}, Coalescing.Coalesced}
 use Rattle.range_isolate.specs.{declared.isolation.Isolated.Isolated, Isolation.Isolating}

@@ -52,8 +52,8 @@ module _ {stop : Range → Bool} {f : Range → Range} {s₀ : List ℕ} {from t
       → Passed stop f s₀ from to k s
   ended e n =
       let v : to ≤ length (view s) = view-long s to (omega (arith, j .long)) in let v₀ : to ≤ length (view s₀) = view-long s₀ to room in
-      let m : take k (view s) ++ drop k (decode to s₀) ≡ take from (view s₀) ++ passed stop f (drop from (decode to s₀)) =
-      rw e at (j .made) in
+      let m : take k (view s) ++ drop k (decode to s₀) ≡ take from (view s₀)
+      ++ passed stop f (drop from (decode to s₀)) = rw e at (j .made) in
       let h : k ≤ to = j .high in
       record {
         low = j .low;

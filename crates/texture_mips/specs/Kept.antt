@@ -1,5 +1,5 @@
 -- A mip that tiles its layers goes on tiling them under every function here, and has room for it with as many records as layers.
-use Rattle.model.specs.Prelude.{ℕ, suc, _+_, _*_, _≤_, _<_, arith, _≡_, refl, Option, none, some, List, [], _∷_, _++_, eqb, length}
+use Rattle.model.specs.Prelude.{ℕ, suc, _*_, _≤_, _<_, arith, _≡_, refl, Option, none, some, List, [], _∷_, _++_, eqb, length}
 use Rattle.model.specs.{declared.{Range.Range, UsageFlags.UsageFlags}, Base.walk, StateRules.uniteKnown}
 use Rattle.model.specs.{RangedStates.{isolate, paint, coalesce, Tiles}, Texture.{mergeRange, settled, learn}, BoolLaws.by-test}
 use Rattle.model.specs.RangeLaws.{tiles-append, isolate-cuts, isolate-few, paint-tiles, coalesce-tiles}

@@ -25,8 +25,7 @@ plain-entries p mask t e from g a i o q s =
       ne-eqb _ _ o,
       ne-eqb _ _ q,
       held-single (numbersOf t) endHalf t e i (end-single t g from i s),
-      held-single (numbersOf g) from g a i
-          (given-single t g from i s),
+      held-single (numbersOf g) from g a i (given-single t g from i s),
     )
 
 pub plain-set : {t s e : List ℕ} {i from to : ℕ} {g a b : List ℕ} {p : UsageFlags} → SetsAt t s e i from to g a b p

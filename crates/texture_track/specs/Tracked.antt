@@ -17,8 +17,8 @@ Same t s e t′ s′ e′ = (t′ ≡ t) × ((s′ ≡ s) × (e′ ≡ e))
 -- names. All that is lent stays but the words and the ranges of those: "More room is ignored". Free, and in no view, is only what is
 -- unused inside them: which nonzero number marks one as owned, the counts and the ranges of a Single half, counts and ranges of mips that
 -- the texture does not have, and the ranges past a count.
-pub record Tracked (named : ℕ → Type 0) (fits : Bool) (m : CallResult InvalidUse (List Entry) (Tracker Held)) (h : LogHead)
-    (t s e l : List ℕ)
+pub record Tracked (named : ℕ → Type 0) (fits : Bool) (m : CallResult InvalidUse (List Entry) (Tracker Held))
+    (h : LogHead) (t s e l : List ℕ)
     (x : Answered) (t′ s′ e′ l′ : List ℕ) : Type 0 where
   pub call : Called (trackerOf t s e) (trackerOf t′ s′ e′) (Same t s e t′ s′ e′) fits m h l x l′
   -- every number of what is lent stays but those of the named textures

@@ -110,8 +110,7 @@ module _ {d : Numbers} {i : ℕ} {t s e : List ℕ} (ms : Measured d startHalf t
       record {
         ends = rw (
           held-many d startHalf t′ s′ i ss (b .start-word ∙ a ∙ sym k) (b .starts),
-          held-many d endHalf t′ e′ i es (b .end-word ∙ z
-              ∙ sym k) (b .ends),
+          held-many d endHalf t′ e′ i es (b .end-word ∙ z ∙ sym k) (b .ends),
         );
         frame = b .frame;
       }

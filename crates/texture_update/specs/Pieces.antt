@@ -1,5 +1,5 @@
 -- The pieces of another texture, one after another, on a texture whose end is Many: the model's `updateAll`, and that tiling is kept.
-use Rattle.model.specs.Prelude.{ℕ, suc, _+_, _≤_, _<_, arith, _≡_, refl, Bool, true, false, List, [], _∷_, _++_, eqb, getD}
+use Rattle.model.specs.Prelude.{ℕ, suc, _≤_, _<_, arith, _≡_, refl, Bool, true, false, List, [], _∷_, _++_, eqb, getD}
 use Rattle.model.specs.{declared.{UsageFlags.UsageFlags, Range.Range}, Base.if_then_else_}
 use Rattle.model.specs.{Representation.{Ends, layerStart, layerEnd, inMips}, RangedStates.{isolate, Tiles}}
 use Rattle.model.specs.{Texture.{Held, single, many, Piece, learnAll, learnHeld, metBy, updateAll}, BoolLaws.by-test}
@@ -39,8 +39,8 @@ updates-are u (q ∷ qs) ss start = go (eqb (q .state) u) (updates-are u qs ss s
     go : (b : Bool) → updates u qs (record { start = start; end = many ss }) ≡ updateAll u qs ss start
         → updates u qs (record { start = learnHeld (metBy u q) u (q .state) ss start; end = many (paintedBy u q ss) })
         ≡ updateAll u qs (paintedBy u q ss) (learnHeld (metBy u q) u (q .state) ss start)
-        → updates u qs (if b then record { start = start; end = many ss } else record
-        { start = learnHeld (metBy u q) u (q .state) ss start; end = many (paintedBy u q ss) })
+        → updates u qs (if b then record { start = start; end = many ss }
+        else record { start = learnHeld (metBy u q) u (q .state) ss start; end = many (paintedBy u q ss) })
         ≡ (if b then updateAll u qs ss start else updateAll u qs (paintedBy u q ss) (learnHeld (metBy u q) u (q .state) ss start))
     go true passed taken = passed
     go false passed taken = taken
@@ -92,8 +92,8 @@ module _ (u : ℕ) (q : Piece) (w : ℕ) (h : layerStart (q .selector) < layerEn
       (λ z. record { start = a; end = b })
       (λ z. record {
         start = learnt-tiled ss x b a;
-        end = on-tiled w (q .selector) _ (λ s t. update-tiles u (layerStart (q .selector)) (layerEnd (q .selector)) (q .state) s w h g t)
-            0 ss b;
+        end = on-tiled w (q .selector) _ (λ s t. update-tiles u (layerStart (q .selector)) (layerEnd (q .selector))
+            (q .state) s w h g t) 0 ss b;
       })
 
   pub updated-tiled : (x : Ends Held) → EndsTiled w x → EndsTiled w (updated u q x)

@@ -1,6 +1,6 @@
 -- The client's calls are a trace: newly opened, the log emptied before each of two calls, with a free entry for every subresource.
-use Rattle.model.specs.Prelude.{ℕ, _+_, _-_, _/_, _≤_, min, le-trans, le-min, arith, _≡_, refl, sym, ap, subst, _∙_, Bool, true, false}
-use Rattle.model.specs.Prelude.{Option, none, some, List, [], _∷_, ltb, length, le-ltb, ltb-false}
+use Rattle.model.specs.Prelude.{ℕ, _+_, _/_, _≤_, min, le-trans, le-min, arith, _≡_, refl, sym, ap, subst, _∙_, Bool, true, false, Option}
+use Rattle.model.specs.Prelude.{none, some, List, [], _∷_, ltb, length, le-ltb, ltb-false}
 use Rattle.model.specs.declared.Refusal.the-variants.{NoFreeEntry}
 use Rattle.model.specs.declared.{Extent.Extent, InvalidUse.InvalidUse, LogHead.LogHead, Outcome.Outcome, Refusal.Refusal, Selector.Selector}
 use Rattle.model.specs.{declared.{TrackerIndex.TrackerIndex, Answered.Answered}, Base.if_then_else_, Flags.flagsFit}

@@ -71,8 +71,8 @@ module _ {O L S : Type 0} (view : L → S) (begun : Opening → S) (ask : O → 
   all-made : (P : L → Type 0) → ((o : O) → opens (ask o) ≡ true → P (store o)) → (os : List O) → All P (stored os)
   all-made P h [] = tt
   all-made P h (o ∷ os) =
-      all-join P (if made o then store o ∷ [] else []) _ (by-test (All P) (made o) (λ e. (h o (sym (same o) ∙ e), tt)) (λ e. tt))
-      (all-made P h os)
+      all-join P (if made o then store o ∷ [] else []) _
+      (by-test (All P) (made o) (λ e. (h o (sym (same o) ∙ e), tt)) (λ e. tt)) (all-made P h os)
 
 module _ (ss : List ScopeOpening) (ts : List TrackerOpening) where
   pub opened-view : viewOf (openedSets ss ts) ≡ newly ranged (map scopeAsked ss) (map trackerAsked ts)
@@ -85,6 +85,6 @@ module _ (ss : List ScopeOpening) (ts : List TrackerOpening) where
   pub opened-ready : Ready (openedSets ss ts)
   opened-ready = record {
     scopes = all-made scopeIn (openSet single) scopeAsked _ _ scope-done (λ (s : LentScope). scopeTest s ≡ true) scope-opened ss;
-    trackers = all-made trackerIn (openTracker single) trackerAsked _ _ tracker-done (λ (t : LentTracker). trackerTest t ≡ true)
-        tracker-opened ts;
+    trackers = all-made trackerIn (openTracker single) trackerAsked _ _ tracker-done
+        (λ (t : LentTracker). trackerTest t ≡ true) tracker-opened ts;
   }

@@ -38,8 +38,8 @@ tracker-well a p =
     (and-left (trackerFits (trackerIn a) && leb c (length (a .starts) / 3)) _ p)
 
 -- ---- A set that a call wrote: with the numbers and the room of before, it is well formed
-scope-again : (a b : LentScope) (x : Set Held) → scopeIn b ≡ x → length (b .ranges) ≡ length (a .ranges) → x .numbers ≡ scopeIn a .numbers
-    → scopeFits x ≡ true
+scope-again : (a b : LentScope) (x : Set Held) → scopeIn b ≡ x → length (b .ranges) ≡ length (a .ranges)
+    → x .numbers ≡ scopeIn a .numbers → scopeFits x ≡ true
     → scopeTest a ≡ true → scopeTest b ≡ true
 scope-again a b x view long same fits test = rw (long, view) (both fits (rw same (and-right (scopeFits (scopeIn a)) _ test)))
 
@@ -89,8 +89,8 @@ sparse-done (i ∷ is) p = refl
 -- its contract, of any call m of the model
 abbrev Sparse : List ℕ → Bool → CallResult InvalidUse (List Entry) Pair → LentTracker → LentScope → LogHead → List ℕ → Answered
     → LentTracker → List ℕ → List ℕ → Type 0
-Sparse is fits m a g h l x b t l′ = Removed is fits m h (a .table) (a .starts) (a .ends) (g .table) (g .ranges) l x (b .table) (b .starts)
-    (b .ends) t l′
+Sparse is fits m a g h l x b t l′ = Removed is fits m h (a .table) (a .starts) (a .ends) (g .table) (g .ranges) l x
+    (b .table) (b .starts) (b .ends) t l′
 
 -- ---- What a step that is the model's gives
 pub record Follows (r : CallResult InvalidUse (List Entry) (Sets ranged)) (s : Step) : Type 0 where
@@ -134,8 +134,8 @@ module _ (k : Lent) (ready : Ready k) (s : Step) (empty : Empty (logOf (s .log) 
             ∙ ap (set (map scopeIn (k .scopes)) n) view);
         entries = no-entries (c .log) ∙ sym (ap pending silent);
         ready = subst Ready (sym (c .sets)) (record {
-          scopes = all-set ScopeReady (k .scopes) n b (scope-again a b (m .after) view (p .stays .ranges .long) same well test)
-              (ready .scopes);
+          scopes = all-set ScopeReady (k .scopes) n b
+              (scope-again a b (m .after) view (p .stays .ranges .long) same well test) (ready .scopes);
           trackers = ready .trackers;
         });
       }
@@ -292,8 +292,8 @@ module _ (k : Lent) (ready : Ready k) (s : Step) (empty : Empty (logOf (s .log) 
   set-from-scope n a g p q free =
       let x = trackerIn a in let y = scopeIn g in
       tracked n a (trackerTest a && scopeTest g) (setRefusal (headOf (x .set)) (headOf y)) _ p (both p q) refl refl
-      (set-from-usage-scope-fits x (tracker-well a p) y (scope-well g q)) (set-from-usage-scope-owned x (tracker-well a p) y
-      (scope-well g q)) free
+      (set-from-usage-scope-fits x (tracker-well a p) y (scope-well g q))
+      (set-from-usage-scope-owned x (tracker-well a p) y (scope-well g q)) free
 
   set-from-tracker : (n : ℕ) (a g : LentTracker) → TrackerReady a → TrackerReady g
       → ownedStates (trackerIn a .set .slots) ≤ s .emptied .head .free → TrackedAt n (SetFromTracker a g) k s
@@ -301,8 +301,8 @@ module _ (k : Lent) (ready : Ready k) (s : Step) (empty : Empty (logOf (s .log) 
   set-from-tracker n a g p q free =
       let x = trackerIn a in let y = trackerIn g in
       tracked n a (trackerTest a && trackerTest g) (setRefusal (headOf (x .set)) (headOf (y .set))) _ p (both p q) refl refl
-      (set-from-tracker-fits x (tracker-well a p) y (tracker-well g q)) (set-from-tracker-owned x (tracker-well a p) y (tracker-well g q))
-      free
+      (set-from-tracker-fits x (tracker-well a p) y (tracker-well g q))
+      (set-from-tracker-owned x (tracker-well a p) y (tracker-well g q)) free
 
   sparse : (n m : ℕ) (is : List ℕ) (a : LentTracker) (g : LentScope) → TrackerReady a → ScopeReady g
       → ownedStates (trackerIn a .set .slots) ≤ s .emptied .head .free → RemovedAt n m g (SetAndRemoveSparse a g is) k s
@@ -330,11 +330,11 @@ module _ (k : Lent) (ready : Ready k) (s : Step) (empty : Empty (logOf (s .log) 
   follows (callSetSingle n i sh sel st) w room = at-one (k .trackers) trackerIn TrackerReady (ready .trackers) EnoughFree n _ _
       (set-single n i sh sel st w) room
   follows (callSetFromUsageScope n m) w room =
-      at-two (k .trackers) trackerIn TrackerReady (ready .trackers) EnoughFree n (k .scopes) scopeIn ScopeReady (ready .scopes) m _ _
-      (set-from-scope n) room
+      at-two (k .trackers) trackerIn TrackerReady (ready .trackers) EnoughFree n (k .scopes) scopeIn ScopeReady
+      (ready .scopes) m _ _ (set-from-scope n) room
   follows (callSetFromTracker n m) w room =
       apart (eqb n m) _ _ (at-two (k .trackers) trackerIn TrackerReady (ready .trackers) EnoughFree n (k .trackers) trackerIn TrackerReady
       (ready .trackers) m _ _ (set-from-tracker n) room)
   follows (callSetAndRemoveSparse n m is) w room =
-      at-two (k .trackers) trackerIn TrackerReady (ready .trackers) EnoughFree n (k .scopes) scopeIn ScopeReady (ready .scopes) m _ _
-      (sparse n m is) room
+      at-two (k .trackers) trackerIn TrackerReady (ready .trackers) EnoughFree n (k .scopes) scopeIn ScopeReady
+      (ready .scopes) m _ _ (sparse n m is) room

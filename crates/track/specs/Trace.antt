@@ -122,8 +122,8 @@ pub record TrackedAt (n : ℕ) (meets : LogHead → List ℕ → Answered → Le
   pub sets : s .sets ≡ record { scopes = k .scopes; trackers = set (k .trackers) n tracker }
 
 -- the sparse call writes the tracker at n, and the table of the scope at m
-pub record RemovedAt (n m : ℕ) (g : LentScope) (meets : LogHead → List ℕ → Answered → LentTracker → List ℕ → List ℕ → Type 0) (k : Lent)
-    (s : Step) : Type 0 where
+pub record RemovedAt (n m : ℕ) (g : LentScope) (meets : LogHead → List ℕ → Answered → LentTracker → List ℕ → List ℕ → Type 0)
+    (k : Lent) (s : Step) : Type 0 where
   pub tracker : LentTracker
   pub table : List ℕ
   pub contract : meets (s .emptied .head) (s .log) (s .answered) tracker table (s .logged)
@@ -151,14 +151,14 @@ abbrev pub Ran : Call → Lent → Step → Type 0
 Ran (callMergeSingle n i sh sel st) k s = At₁ (getElem? (k .scopes) n) (NoCall k s)
     (λ a. MergedAt n (MergeSingle a i sh (selectionOf sel) st) k s)
 Ran (callMergeUsageScope n m) k s =
-    if eqb n m then NoCall k s else At₂ (getElem? (k .scopes) n) (getElem? (k .scopes) m) (NoCall k s)
-    (λ a g. MergedAt n (MergeUsageScope a g) k s)
+    if eqb n m then NoCall k s else At₂ (getElem? (k .scopes) n) (getElem? (k .scopes) m) (NoCall k s) (λ a g.
+    MergedAt n (MergeUsageScope a g) k s)
 Ran (callSetSingle n i sh sel st) k s = At₁ (getElem? (k .trackers) n) (NoCall k s) (λ t. TrackedAt n (SetSingle t i sh sel st) k s)
 Ran (callSetFromUsageScope n m) k s =
     At₂ (getElem? (k .trackers) n) (getElem? (k .scopes) m) (NoCall k s) (λ t g. TrackedAt n (SetFromUsageScope t g) k s)
 Ran (callSetFromTracker n m) k s =
-    if eqb n m then NoCall k s else At₂ (getElem? (k .trackers) n) (getElem? (k .trackers) m) (NoCall k s)
-    (λ t g. TrackedAt n (SetFromTracker t g) k s)
+    if eqb n m then NoCall k s else At₂ (getElem? (k .trackers) n) (getElem? (k .trackers) m) (NoCall k s) (λ t g.
+    TrackedAt n (SetFromTracker t g) k s)
 Ran (callSetAndRemoveSparse n m is) k s =
     At₂ (getElem? (k .trackers) n) (getElem? (k .scopes) m) (NoCall k s) (λ t g. RemovedAt n m g (SetAndRemoveSparse t g is) k s)
 
@@ -200,9 +200,8 @@ written s = take (s .answered .head .written) (entriesOf (s .logged))
 
 -- "A log entry is a transition of each cell in its mips and layers.": those of mip m and layer l of index i
 abbrev pub transitionsAt : ℕ → ℕ → ℕ → List PendingTransition → List Move
-transitionsAt i m l es =
-    each (λ (e : PendingTransition). if eqb (e .index .0) i && holds (e .selector) m l then record { old = e .old; new = e .new }
-    ∷ [] else []) es
+transitionsAt i m l es = each (λ (e : PendingTransition). if eqb (e .index .0) i && holds (e .selector) m l
+    then record { old = e .old; new = e .new } ∷ [] else []) es
 
 -- "they share after each call": the numbers that the step left, and what the grid's call gives
 pub record SharedAt (s : Step) (r : CallResult SubresourceConflict (List (List (Option Move))) (Sets grid)) : Type 0 where

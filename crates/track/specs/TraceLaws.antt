@@ -97,8 +97,8 @@ ready-fits k r = both
     (all-every (λ (x : Set Held). scopeFits x ≡ true) scopeFits (λ x e. e) (map scopeIn (k .scopes))
     (all-map (λ (s : LentScope). scopeTest s ≡ true) (λ (x : Set Held). scopeFits x ≡ true) scopeIn scope-well (k .scopes) (r .scopes)))
     (all-every (λ (x : Tracker Held). trackerFits x ≡ true) trackerFits (λ x e. e) (map trackerIn (k .trackers))
-    (all-map (λ (t : LentTracker). trackerTest t ≡ true) (λ (x : Tracker Held). trackerFits x ≡ true) trackerIn tracker-well
-    (k .trackers) (r .trackers)))
+    (all-map (λ (t : LentTracker). trackerTest t ≡ true) (λ (x : Tracker Held). trackerFits x ≡ true) trackerIn
+    tracker-well (k .trackers) (r .trackers)))
 
 -- ---- The theorems
 pub shares-from : (k : Lent) → Ready k → (steps : List Step) → Trace k steps → SharedAlong steps (toGrids (viewOf k))
@@ -118,5 +118,5 @@ pub trace-runs : (scopes : List ScopeOpening) (trackers : List TrackerOpening) (
     → ModelAlong steps (newly ranged (map scopeAsked scopes) (map trackerAsked trackers))
     × (viewOf (setsAfter (openedSets scopes trackers) steps)
     ≡ afterCalls ranged (callsOf steps) (newly ranged (map scopeAsked scopes) (map trackerAsked trackers)))
-trace-runs ss ts steps = model-along steps (openedSets ss ts) (newly ranged (map scopeAsked ss) (map trackerAsked ts)) (opened-ready ss ts)
-    (opened-view ss ts)
+trace-runs ss ts steps = model-along steps (openedSets ss ts) (newly ranged (map scopeAsked ss) (map trackerAsked ts))
+    (opened-ready ss ts) (opened-view ss ts)

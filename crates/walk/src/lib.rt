@@ -8,7 +8,7 @@
 //     Locals      a function's locals as one entry of the context; entering, returning, and `while`
 //     Values      types by value
 //     Params      a function's parameters, what is had of each at exit, and the way from a walk to the contract
-//     Calls       calls that take values and what the context owns
+//     Calling     calls that take values and what the context owns
 //     Slices      a run of structs: an element read or written where it stands; runs opened and closed
 //     Lending     a run lent again for a call
 //     PassedOn    functions that pass all their parameters on for good

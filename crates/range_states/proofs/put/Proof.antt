@@ -9,5 +9,5 @@ returns c = puts (c .args .s .now) (c .args .k) (c .args .r) (omega arith)
 
 pub put-spec : {M : Type 1} → statement M
 put-spec = tie.close (tie.spec (λ c. search needs) (λ c. search needs) (λ c. search needs) (λ c. search needs) (λ c. search needs)
-    (λ c. simp length-set (omega arith)) (λ c. search needs) (λ c. search needs) (λ c. simp length-set (omega arith))
-    (λ c. simp length-set) returns)
+    (λ c. simp length-set (omega arith)) (λ c. search needs) (λ c. search needs) (λ c. simp length-set (omega arith)) (λ c. simp length-set)
+    returns)

@@ -9,5 +9,5 @@ returns c =
     other-is ((at-entry .args) .table .now) ((at-entry .args) .k) ((at-entry .args) .extent)
 
 pub other-extent-spec : {M : Type 1} → statement M
-other-extent-spec = tie.close (tie.spec (λ c. search needs) (λ c. search needs) (λ c. search needs) (λ c. search needs)
-    (λ c. search needs) (λ c. search needs) (λ c. search needs) (λ c. search needs) (λ c. search needs) returns)
+other-extent-spec = tie.close (tie.spec (λ c. search needs) (λ c. search needs) (λ c. search needs) (λ c. search needs) (λ c. search needs)
+    (λ c. search needs) (λ c. search needs) (λ c. search needs) (λ c. search needs) returns)

@@ -50,5 +50,5 @@ returns c =
 
 pub log-set-spec : {M : Type 1} → statement M
 log-set-spec = tie.close (tie.spec Inv-loop μ-loop (λ c. adding-start _ _ _ _ _ _ _ (omega arith) (up-all _ _)) add-log-at log-at-requires
-    add-x add-k (λ c. omega (arith, c .before .before .before .before .loop-test .taken)) loop-again
-    (λ c. c .before .loop .inv .into .long) returns)
+    add-x add-k (λ c. omega (arith, c .before .before .before .before .loop-test .taken)) loop-again (λ c. c .before .loop .inv .into .long)
+    returns)

@@ -56,5 +56,5 @@ returns-4 c =
 pub merge-use-at-spec : {M : Type 1} → statement M
 merge-use-at-spec = tie.close (tie.spec (λ c. search needs) (λ c. search needs) (λ c. search needs) (λ c κs. search needs)
     insert-use-requires (λ c. search needs) returns (λ c. search needs) (λ c. search needs) (λ c. search needs) merge-use-requires
-    (λ c. search needs) returns-2 merge-single-use-requires (λ c. search needs) returns-3 merge-use-requires-2 (λ c. search needs)
-    returns-4)
+    (λ c. search needs) returns-2 merge-single-use-requires (λ c. search needs) returns-3 merge-use-requires-2
+    (λ c. search needs) returns-4)

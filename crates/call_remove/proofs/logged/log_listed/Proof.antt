@@ -62,5 +62,4 @@ log-listed-spec = tie.close (tie.spec Inv-loop μ-loop (λ c. (adding-start _ _ 
     (λ c. search needs) (λ c. search needs) (λ c κs. search needs) array-read-again add-log-listed-at log-listed-at-requires
     array-write-seen add-x (λ c. omega (arith, c .before .before .before .before .before .before .loop-test .taken))
     (λ c. omega (arith, c .before .before .before .before .before .before .loop-test .taken)) loop-again
-    (λ c. c .before .loop .inv .0 .into .long)
-    (λ c. adding-end (c .before .loop .inv .0) (omega arith) (c .loop-test .left) (up-done _ _)))
+    (λ c. c .before .loop .inv .0 .into .long) (λ c. adding-end (c .before .loop .inv .0) (omega arith) (c .loop-test .left) (up-done _ _)))

@@ -39,8 +39,8 @@ set-checked-requires c κs =
       (
         single-use z (at-wide .before .is-full .ensures),
         (
-          single-few (a .table .now) (a .starts .now) (a .ends .now) _ _ fit
-              (at-check-single .before .before .state-of .ensures .1) z _ (as-use _ _ _ _ (at-wide .before .is-full .ensures)),
+          single-few (a .table .now) (a .starts .now) (a .ends .now) _ _ fit (at-check-single .before .before .state-of .ensures .1) z _
+              (as-use _ _ _ _ (at-wide .before .is-full .ensures)),
           (k, (at-if2 .before .before .lent-entries .ensures .1)),
         ),
       ),

@@ -10,5 +10,5 @@ returns c =
     rw (c .logged .ensures, outcome-told _) (refl, at-set-from-usage-scope .set-from-usage-scope .ensures)
 
 pub track-set-from-usage-scope-spec : {M : Type 1} → statement M
-track-set-from-usage-scope-spec = tie.close (tie.spec (λ c κs. search needs) (λ c κs. search needs) (λ c. search needs)
-    (λ c. search needs) (λ c. search needs) returns)
+track-set-from-usage-scope-spec = tie.close (tie.spec (λ c κs. search needs) (λ c κs. search needs) (λ c. search needs) (λ c. search needs)
+    (λ c. search needs) returns)

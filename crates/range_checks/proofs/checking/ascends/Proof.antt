@@ -17,14 +17,14 @@ returns c =
 returns-2 : tie.Need-returns-2 Inv-loop μ-loop
 returns-2 c =
     let at-loop-test = c .before .before .before in let at-loop = at-loop-test .before in let at-entry = at-loop .before .before in
-    empty (at-entry .pre) (at-loop .loop .inv) (at-loop-test .loop-test .taken) (c .before .before .get .ensures) (c .before .if1 .left)
-    (c .if2 .taken)
+    empty (at-entry .pre) (at-loop .loop .inv) (at-loop-test .loop-test .taken) (c .before .before .get .ensures)
+    (c .before .if1 .left) (c .if2 .taken)
 
 loop-again : tie.Need-loop-again Inv-loop μ-loop
 loop-again c =
     let at-loop-test = c .before .before .before in let at-loop = at-loop-test .before in let at-entry = at-loop .before .before in
-    turn (at-entry .pre) (at-loop .loop .inv) (at-loop-test .loop-test .taken) (c .before .before .get .ensures) (c .before .if1 .left)
-    (c .if2 .left)
+    turn (at-entry .pre) (at-loop .loop .inv) (at-loop-test .loop-test .taken) (c .before .before .get .ensures)
+    (c .before .if1 .left) (c .if2 .left)
 
 pub ascends-spec : {M : Type 1} → statement M
 ascends-spec = tie.close (tie.spec Inv-loop μ-loop (λ c. search start-of) (λ c κs. search needs) (λ c. search needs) returns returns-2

@@ -42,8 +42,7 @@ on-lent-requires c κs =
 pub line-spec : {M : Type 1} → statement M
 line-spec = tie.close (tie.spec (λ c κs. search needs) (λ c κs. search needs) (λ c κs. search needs) (λ c κs. search needs)
     (λ c κs. search needs) (λ c κs. search needs) (λ c κs. search needs) (λ c κs. search needs) (λ c κs. search needs)
-    (λ c κs. search needs) (λ c κs. search needs) (λ c κs. search needs) (λ c κs. search needs) (λ c. search needs)
-    slice-aggregate-on-lent (λ c. search needs) slice-aggregate-on-lent-2 (λ c. search needs) slice-aggregate-on-lent-3
-    (λ c. search needs) slice-aggregate-on-lent-4 (λ c. search needs) slice-aggregate-on-lent-5 on-lent-requires (λ c. search needs)
-    (λ c. search needs) (λ c. search needs) (λ c. search needs) (λ c. search needs) (λ c. search needs) (λ c. search needs)
-    (λ c. search needs))
+    (λ c κs. search needs) (λ c κs. search needs) (λ c κs. search needs) (λ c κs. search needs) (λ c. search needs) slice-aggregate-on-lent
+    (λ c. search needs) slice-aggregate-on-lent-2 (λ c. search needs) slice-aggregate-on-lent-3 (λ c. search needs)
+    slice-aggregate-on-lent-4 (λ c. search needs) slice-aggregate-on-lent-5 on-lent-requires (λ c. search needs) (λ c. search needs)
+    (λ c. search needs) (λ c. search needs) (λ c. search needs) (λ c. search needs) (λ c. search needs) (λ c. search needs))

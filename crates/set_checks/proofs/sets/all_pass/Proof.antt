@@ -17,5 +17,5 @@ returns : tie.Need-returns Inv-loop μ-loop
 returns c = let z : (c .before .loop .i) ≡ ((c .before .before .args) .n) = omega arith in rw (← z) (c .before .loop .inv .1)
 
 pub all-pass-spec : {M : Type 1} → statement M
-all-pass-spec = tie.close (tie.spec Inv-loop μ-loop (λ c. (omega arith, λ z. passes-nothing _ _)) (λ c κs. search needs)
-    (λ c. search needs) (λ c. search needs) loop-again returns)
+all-pass-spec = tie.close (tie.spec Inv-loop μ-loop (λ c. (omega arith, λ z. passes-nothing _ _)) (λ c κs. search needs) (λ c. search needs)
+    (λ c. search needs) loop-again returns)

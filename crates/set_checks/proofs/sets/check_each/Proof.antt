@@ -20,8 +20,8 @@ returns : tie.Need-returns Inv-loop μ-loop
 returns c =
     let at-check-owned = c .before .before .before in let at-loop-test = at-check-owned .before in let at-loop = at-loop-test .before in
     record {
-      is = stop (at-loop .loop .inv) (at-loop-test .loop-test .taken) ((at-check-owned .check-owned .ensures) .is)
-          ((c .before .r .given) .1);
+      is = stop (at-loop .loop .inv) (at-loop-test .loop-test .taken)
+          ((at-check-owned .check-owned .ensures) .is) ((c .before .r .given) .1);
     }
 
 returns-2 : tie.Need-returns-2 Inv-loop μ-loop

@@ -30,8 +30,8 @@ returns-2 c =
     let at-check-listed = c .before .before .before in let at-loop-test = at-check-listed .before .before in
     let at-loop = at-loop-test .before in
     record {
-      is = stop (at-loop .loop .inv) (at-loop-test .loop-test .taken) ((at-check-listed .check-listed .ensures) .is)
-          ((c .before .r .given) .1);
+      is = stop (at-loop .loop .inv) (at-loop-test .loop-test .taken)
+          ((at-check-listed .check-listed .ensures) .is) ((c .before .r .given) .1);
     }
 
 returns-3 : tie.Need-returns-3 Inv-loop μ-loop

@@ -42,5 +42,4 @@ returns c =
 pub log-mips-spec : {M : Type 1} → statement M
 log-mips-spec = tie.close (tie.spec Inv-loop μ-loop (λ c. adding-start _ _ _ _ _ _ _ (c .before .before .pre .1 .0) refl)
     (λ c κs. search needs) locate-requires (λ c. search needs) (λ c. search needs) (λ c. search needs) (λ c. search needs)
-    (λ c. search needs) log-run-requires (λ c. search needs) (λ c. search needs) (λ c. search needs) loop-again (λ c. search needs)
-    returns)
+    (λ c. search needs) log-run-requires (λ c. search needs) (λ c. search needs) (λ c. search needs) loop-again (λ c. search needs) returns)

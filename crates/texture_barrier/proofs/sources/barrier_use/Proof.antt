@@ -39,5 +39,5 @@ returns-2 c =
 
 pub barrier-use-spec : {M : Type 1} → statement M
 barrier-use-spec = tie.close (tie.spec (λ c κs. search needs) (λ c κs. search needs) (λ c. search needs) (λ c. search needs)
-    (λ c. search needs) log-move-requires (λ c. search needs) returns (λ c κs. search needs) log-mips-requires (λ c. search needs)
-    returns-2)
+    (λ c. search needs) log-move-requires (λ c. search needs) returns (λ c κs. search needs) log-mips-requires
+    (λ c. search needs) returns-2)

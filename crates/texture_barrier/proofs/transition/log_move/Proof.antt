@@ -10,8 +10,8 @@ returns c = move-none _ _ _ _ _ _ _ _ _ (sym (c .before .moves .ensures) ∙ not
 returns-2 : tie.Need-returns-2
 returns-2 c =
     let at-moves = c .before .before .before in
-    move-counted _ _ _ _ _ _ _ _ _ (sym (at-moves .moves .ensures) ∙ not-false _ (c .before .before .if1 .left))
-    (not-true _ (c .if2 .taken))
+    move-counted _ _ _ _ _ _ _ _ _ (sym (at-moves .moves .ensures)
+    ∙ not-false _ (c .before .before .if1 .left)) (not-true _ (c .if2 .taken))
 
 put-entry-requires : tie.Need-put-entry-requires
 put-entry-requires c κs =

@@ -75,7 +75,6 @@ returns-5 c =
 
 pub merge-given-spec : {M : Type 1} → statement M
 merge-given-spec = tie.close (tie.spec (λ c. search needs) (λ c. search needs) (λ c. search needs) (λ c. search needs) (λ c. search needs)
-    (λ c. search needs) (λ c κs. search needs) merge-single-use-requires (λ c. search needs) returns merge-use-requires
-    (λ c. search needs) returns-2 (λ c κs. search needs) give-mips-requires (λ c. search needs) returns-3 fresh-mips-requires
-    give-mips-requires-2 (λ c. search needs) (λ c. search needs) returns-4 (λ c. search needs) set-state-requires (λ c. search needs)
-    returns-5)
+    (λ c. search needs) (λ c κs. search needs) merge-single-use-requires (λ c. search needs) returns merge-use-requires (λ c. search needs)
+    returns-2 (λ c κs. search needs) give-mips-requires (λ c. search needs) returns-3 fresh-mips-requires give-mips-requires-2
+    (λ c. search needs) (λ c. search needs) returns-4 (λ c. search needs) set-state-requires (λ c. search needs) returns-5)

@@ -35,6 +35,6 @@ returns-2 : tie.Need-returns-2 Inv-loop μ-loop
 returns-2 c = let p = (c .before .before .before .before .pre) in let w = (c .before .loop .inv) in mip-done (p .0) (p .1) _ _ (w .1) (c .loop-test .left)
 
 pub give-mips-spec : {M : Type 1} → statement M
-give-mips-spec = tie.close (tie.spec Inv-loop μ-loop loop-holds locate-requires (λ c. search needs) (λ c. search needs)
-    (λ c. search needs) (λ c. search needs) give-mip-requires (λ c. search needs) same-length returns (λ c. search needs)
-    (λ c. search needs) (λ c. search needs) loop-again (λ c. search needs) returns-2)
+give-mips-spec = tie.close (tie.spec Inv-loop μ-loop loop-holds locate-requires (λ c. search needs) (λ c. search needs) (λ c. search needs)
+    (λ c. search needs) give-mip-requires (λ c. search needs) same-length returns (λ c. search needs) (λ c. search needs)
+    (λ c. search needs) loop-again (λ c. search needs) returns-2)

@@ -13,5 +13,5 @@ returns c =
     rw (c .set-count .ensures) (mip-left q l _ _ _ (u .long) (u .fits) (u .seen))
 
 pub fresh-mip-spec : {M : Type 1} → statement M
-fresh-mip-spec = tie.close (tie.spec (λ c κs. locates (c .before .before .pre)) (λ c. search needs) (λ c. search needs)
-    (λ c. search needs) (λ c. search needs) (λ c κs. search needs) (λ c κs. search needs) (λ c. search needs) returns)
+fresh-mip-spec = tie.close (tie.spec (λ c κs. locates (c .before .before .pre)) (λ c. search needs) (λ c. search needs) (λ c. search needs)
+    (λ c. search needs) (λ c κs. search needs) (λ c κs. search needs) (λ c. search needs) returns)

@@ -11,5 +11,5 @@ abbrev μ-loop : tie.MeasureT-loop
 μ-loop s₀ from to state k₀ s k = to - k
 
 pub set-run-spec : {M : Type 1} → statement M
-set-run-spec = tie.close (tie.spec Inv-loop μ-loop (λ c. search start-of) (λ c κs. search needs) (λ c κs. search needs)
-    (λ c. search needs) (λ c. search needs) (λ c. search turn) (λ c. search needs) (λ c. search set-all))
+set-run-spec = tie.close (tie.spec Inv-loop μ-loop (λ c. search start-of) (λ c κs. search needs) (λ c κs. search needs) (λ c. search needs)
+    (λ c. search needs) (λ c. search turn) (λ c. search needs) (λ c. search set-all))

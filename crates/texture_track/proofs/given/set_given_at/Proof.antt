@@ -38,5 +38,5 @@ returns-2 c =
 
 pub set-given-at-spec : {M : Type 1} → statement M
 set-given-at-spec = tie.close (tie.spec (λ c. search needs) (λ c. search needs) (λ c. search needs) (λ c κs. search needs)
-    insert-given-requires insert-given-requires-2 (λ c. search needs) (λ c. search needs) returns update-given-requires
-    (λ c. search needs) (λ c. search needs) returns-2)
+    insert-given-requires insert-given-requires-2 (λ c. search needs) (λ c. search needs) returns update-given-requires (λ c. search needs)
+    (λ c. search needs) returns-2)

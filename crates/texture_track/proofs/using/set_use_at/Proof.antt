@@ -51,6 +51,6 @@ returns-3 c =
     (tracker-old (p .0) _ _ _ (at-if2 .before .if1 .left) (c .before .before .before .before .update-use .ensures))
 
 pub set-use-at-spec : {M : Type 1} → statement M
-set-use-at-spec = tie.close (tie.spec (λ c. search needs) (λ c. search needs) (λ c. search needs) (λ c κs. search needs)
-    insert-use-requires insert-use-requires-2 (λ c. search needs) (λ c. search needs) returns update-state-requires (λ c. search needs)
-    (λ c. search needs) returns-2 update-use-requires (λ c. search needs) (λ c. search needs) returns-3)
+set-use-at-spec = tie.close (tie.spec (λ c. search needs) (λ c. search needs) (λ c. search needs) (λ c κs. search needs) insert-use-requires
+    insert-use-requires-2 (λ c. search needs) (λ c. search needs) returns update-state-requires (λ c. search needs) (λ c. search needs)
+    returns-2 update-use-requires (λ c. search needs) (λ c. search needs) returns-3)

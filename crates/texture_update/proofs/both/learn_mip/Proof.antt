@@ -15,6 +15,6 @@ returns : tie.Need-returns
 returns c = let p = (c .before .before .before .before .before .before .before .before .before .before .before .before .before .pre) in let l = (c .before .before .before .before .before .before .before .before .before .locate .ensures) in let k = (c .before .before .before .before .before .before .before .locate2 .ensures) in let u = (c .before .before .before .before .learn .ensures) in rw (c .set-count .ensures) (mip-left (p .start .ready) l _ _ _ (u .long) (u .fits) (rw (lent-is (p .start) l, lent-is (p .end) k) at (u .seen)))
 
 pub learn-mip-spec : {M : Type 1} → statement M
-learn-mip-spec = tie.close (tie.spec (λ c κs. locates (c .before .before .before .pre .start .ready)) locate-requires-2
+learn-mip-spec = tie.close (tie.spec (λ c κs. locates (c .before .before .before .pre .start .ready)) locate-requires-2 (λ c. search needs)
     (λ c. search needs) (λ c. search needs) (λ c. search needs) (λ c. search needs) (λ c. search needs) (λ c. search needs)
-    (λ c. search needs) (λ c. search needs) learn-requires (λ c κs. search needs) (λ c. search needs) returns)
+    (λ c. search needs) learn-requires (λ c κs. search needs) (λ c. search needs) returns)

@@ -32,5 +32,5 @@ returns c = let p = (c .before .before .before .before .before .pre) in let w = 
 
 pub update-from-mips-spec : {M : Type 1} → statement M
 update-from-mips-spec = tie.close (tie.spec Inv-loop μ-loop loop-holds locate-requires (λ c. search needs) (λ c. search needs)
-    (λ c. search needs) (λ c. search needs) update-from-mip-requires (λ c. search needs) (λ c. search needs) loop-again
-    (λ c. search needs) (λ c. search needs) returns)
+    (λ c. search needs) (λ c. search needs) update-from-mip-requires (λ c. search needs) (λ c. search needs) loop-again (λ c. search needs)
+    (λ c. search needs) returns)

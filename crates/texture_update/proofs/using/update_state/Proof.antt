@@ -25,6 +25,6 @@ returns-3 c =
     rw (c .set-state3 .ensures) (all-learnt (at-entry .pre) (at-if1 .if1 .left) (at-if2 .if2 .left) (at-learn-mips .learn-mips .ensures))
 
 pub update-state-spec : {M : Type 1} → statement M
-update-state-spec = tie.close (tie.spec (λ c. search needs) (λ c. search needs) (λ c. search needs) (λ c. search needs)
-    (λ c. search needs) (λ c. search needs) (λ c κs. search needs) returns (λ c κs. search needs) returns-2 (λ c κs. search needs)
-    learn-mips-requires (λ c κs. search needs) (λ c. search needs) returns-3)
+update-state-spec = tie.close (tie.spec (λ c. search needs) (λ c. search needs) (λ c. search needs) (λ c. search needs) (λ c. search needs)
+    (λ c. search needs) (λ c κs. search needs) returns (λ c κs. search needs) returns-2 (λ c κs. search needs) learn-mips-requires
+    (λ c κs. search needs) (λ c. search needs) returns-3)

@@ -45,8 +45,7 @@ returns-7 c =
       e1,
       ne-eqb _ _ (at-if4 .if4 .left),
       ne-eqb _ _ (at-if5 .if5 .left),
-      ne-eqb _ _
-          (c .before .before .if6 .left),
+      ne-eqb _ _ (c .before .before .if6 .left),
       e2,
     )
 
@@ -63,8 +62,7 @@ returns-8 c =
       e1,
       ne-eqb _ _ (at-if4 .if4 .left),
       ne-eqb _ _ (at-if5 .if5 .left),
-      ne-eqb _ _
-          (at-if6 .if6 .left),
+      ne-eqb _ _ (at-if6 .if6 .left),
       e2,
       (c .meets2 .ensures),
     )
