@@ -124,7 +124,7 @@ static inline tt_flags tt_wgpu_flags(void)
     return flags;
 }
 
-/* One mip, and one layer. At the largest number it is empty, which a call refuses. */
+/* One mip, and one layer. The largest number has none past it: the end is then 0, before the start, which a call refuses. */
 static inline tt_mips tt_mip(uint32_t mip)
 {
     tt_mips mips;
@@ -322,7 +322,7 @@ TT_CALL track_answer tt_open_log(tt_log *log, uint32_t *memory, size_t bytes)
 
 /* ---- Merging into a scope ---------------------------------------------------------------------------------------------------- */
 
-/* One use of a part of a texture. Refuses 4, 7 to 13, 1001. */
+/* One use of a part of a texture. Refuses 4, 7 to 9, 16 to 19, 11 to 13, 1001. */
 TT_CALL track_answer tt_merge_single(tt_scope scope, tt_texture texture, tt_selector part, uint32_t state)
 {
     if (scope.memory == NULL) return tt_refused(TRACK_NOT_WELL_FORMED);
@@ -342,7 +342,7 @@ TT_CALL track_answer tt_merge_usage_scope(tt_scope scope, tt_scope given)
 
 /* ---- The calls of a tracker: each logs the transitions that its uses make necessary, and none returns a conflict ------------- */
 
-/* One use of a part of a texture. Refuses 4, 5, 7 to 13, 15, 1001. */
+/* One use of a part of a texture. Refuses 4, 5, 7 to 9, 16 to 19, 11 to 13, 15, 1001. */
 TT_CALL track_answer tt_set_single(tt_tracker tracker, tt_log log, tt_texture texture, tt_selector part, uint32_t state)
 {
     if (tracker.memory == NULL) return tt_refused(TRACK_NOT_WELL_FORMED);
@@ -554,7 +554,10 @@ static inline const char *tt_refusal_words(uint32_t number)
     case TRACK_NO_SUCH_INDEX: return "the set has no such index";
     case TRACK_EXTENT_OUT_OF_LIMITS: return "the texture has no mips or layers, or more than the set was opened for";
     case TRACK_EXTENT_DIFFERS: return "the set owns the texture with other mips or layers";
-    case TRACK_SELECTOR_EMPTY: return "the selector has no mips or no layers";
+    case TRACK_MIPS_EMPTY: return "the mips are empty: they end where they start";
+    case TRACK_MIPS_REVERSED: return "the mips are reversed: they end before they start";
+    case TRACK_LAYERS_EMPTY: return "the layers are empty: they end where they start";
+    case TRACK_LAYERS_REVERSED: return "the layers are reversed: they end before they start";
     case TRACK_SELECTOR_PAST_EXTENT: return "the selector ends past the texture's mips or layers";
     case TRACK_STATE_RESERVED: return "the state is zero, or has the unknown or the complex bit";
     case TRACK_STATE_INCOMPATIBLE: return "the state has an exclusive use beside another use";

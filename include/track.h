@@ -87,8 +87,9 @@ enum track_kind {
     TRACK_CONFLICT = 2 /* two uses exclude each other; what was merged before them stays merged */
 };
 
-/* track_answer.number, where kind is TRACK_REFUSED. Checks are made from the first to the last; calls over a set check 7 to 9 texture by
- * texture, ascending; the sparse call in the order of its list. place is the index of the texture for 7, 8 and 9, otherwise 0. */
+/* track_answer.number, where kind is TRACK_REFUSED. Checks are made from the first of this list to the last: it is in the order of the
+ * checks, not of the numbers. Calls over a set check 7 to 9 texture by texture, ascending; the sparse call in the order of its list. place
+ * is the index of the texture for 7, 8 and 9, otherwise 0. */
 enum track_refusal {
     TRACK_NUMBERS_OUT_OF_LIMITS = 1, /* opening: N, M or W is outside its limits */
     TRACK_FLAGS_BREAK_RULE = 2,      /* opening: EXCLUSIVE has more than 16 bits, or UNINITIALIZED, COMPLEX, UNKNOWN are not one bit of 16
@@ -100,7 +101,11 @@ enum track_refusal {
     TRACK_NO_SUCH_INDEX = 7,         /* the index is not below N */
     TRACK_EXTENT_OUT_OF_LIMITS = 8,  /* mips are not 1 to M, or layers not 1 to W */
     TRACK_EXTENT_DIFFERS = 9,        /* the set owns the texture with other mips or layers */
-    TRACK_SELECTOR_EMPTY = 10,       /* mips or layers have a start that is not below their end */
+    /* 10 is reserved and never returned: TRACK_SELECTOR_EMPTY of earlier versions is split into 16 to 19. */
+    TRACK_MIPS_EMPTY = 16,           /* mips have no length: they end where they start */
+    TRACK_MIPS_REVERSED = 17,        /* mips end before they start */
+    TRACK_LAYERS_EMPTY = 18,         /* layers, or those from start up to end in a call on ranges, have no length */
+    TRACK_LAYERS_REVERSED = 19,      /* layers, or those from start up to end in a call on ranges, end before they start */
     TRACK_SELECTOR_PAST_EXTENT = 11, /* an end is past the texture's mips or layers */
     TRACK_STATE_RESERVED = 12,       /* the state is zero, or has UNKNOWN or COMPLEX */
     TRACK_STATE_INCOMPATIBLE = 13,   /* the state has a bit of EXCLUSIVE and is not one bit */
@@ -165,7 +170,7 @@ uint32_t track_tracker_is_well_formed(const uint32_t table[TRACK_TABLE_LENGTH], 
 /* ---- Merging into a scope ---------------------------------------------------------------------------------------------------- */
 
 /* One use of texture index, which has so many mips and layers. part 0: all of it, and the four numbers after part are not read; otherwise
- * the mips from mip_start up to mip_end and the layers from layer_start up to layer_end. Refuses 4, 7 to 13. */
+ * the mips from mip_start up to mip_end and the layers from layer_start up to layer_end. Refuses 4, 7 to 9, 16 to 19, 11 to 13. */
 track_answer track_merge_single(uint32_t table[TRACK_TABLE_LENGTH], uint32_t *ranges, size_t ranges_length,
                                 uint32_t index, uint32_t mips, uint32_t layers, uint32_t part,
                                 uint32_t mip_start, uint32_t mip_end, uint32_t layer_start, uint32_t layer_end, uint16_t state);
@@ -180,7 +185,7 @@ track_answer track_merge_usage_scope(uint32_t table[TRACK_TABLE_LENGTH], uint32_
 /* A first use is taken as what the texture already is, and nothing is logged. In a device's tracker set each new texture to UNINITIALIZED
  * first, all of it; otherwise the driver is not told of its first uses. */
 
-/* One use of texture index. Refuses 4, 5, 7 to 13, 15. */
+/* One use of texture index. Refuses 4, 5, 7 to 9, 16 to 19, 11 to 13, 15. */
 track_logged_answer track_set_single(uint32_t table[TRACK_TABLE_LENGTH], uint32_t *starts, size_t starts_length,
                                      uint32_t *ends, size_t ends_length,
                                      uint32_t index, uint32_t mips, uint32_t layers,
@@ -218,15 +223,16 @@ track_logged_answer track_empty_log(const uint32_t *log, size_t log_length, size
 
 /* ---- Ranges by themselves: the first `told` are in use; starts and ends are any 32-bit numbers, and states are not looked at --- */
 
-/* Makes what lies from start up to end a run of ranges of its own, gaps filled with default_state. Refuses 10, 14, and 15 if there is
- * no room for the ranges that it leaves. */
+/* Makes what lies from start up to end a run of ranges of its own, gaps filled with default_state. Refuses 18, 19, 14, and 15 if there
+ * is no room for the ranges that it leaves. */
 track_ranges_answer track_isolate(uint32_t *ranges, size_t ranges_length, size_t told, uint32_t start, uint32_t end,
                                   uint32_t default_state);
 
 /* Joins ranges that touch and have one state; those that it frees become zeros. Refuses 14. */
 track_ranges_answer track_coalesce(uint32_t *ranges, size_t ranges_length, size_t told);
 
-/* Lists the overlaps with what lies from start up to end, clipped, in out. Refuses 10, 14, and 15 if they are more than out holds. */
+/* Lists the overlaps with what lies from start up to end, clipped, in out. Refuses 18, 19, 14, and 15 if they are more than out
+ * holds. */
 track_ranges_answer track_iter_filter(const uint32_t *ranges, size_t ranges_length, size_t told, uint32_t start, uint32_t end,
                                       uint32_t *out, size_t out_length);
 

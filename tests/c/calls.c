@@ -349,8 +349,6 @@ static void ranged(void)
     OUT_IS(3, 4, A, 4, 5, D, 0xa5a5a5a5);
     RANGES_ARE(2, 4, A, 4, 6, D, 6, 8, B, 0, 0, 0, 0, 0, 0, 7, 7, 7);
     DONE(COUNTS(0, 0, 0, track_iter_filter(lent.ranges, 18, 3, 8, UINT32_MAX, lent.out, 0)));
-    REFUSED(TRACK_SELECTOR_EMPTY, 0, COUNTS(0, 0, 0, track_isolate(lent.ranges, 18, 3, 4, 4, D)));
-    REFUSED(TRACK_SELECTOR_EMPTY, 0, COUNTS(0, 0, 0, track_iter_filter(lent.ranges, 18, 3, 5, 4, lent.out, 7)));
     REFUSED(TRACK_RANGES_OUT_OF_ORDER, 0, COUNTS(0, 0, 0, track_isolate(lent.ranges, 17, 6, 3, 7, D))); /* 17 numbers are five ranges */
     REFUSED(TRACK_RANGES_OUT_OF_ORDER, 0, COUNTS(0, 0, 0, track_coalesce(lent.ranges, 18, SIZE_MAX)));
     REFUSED(TRACK_RANGES_OUT_OF_ORDER, 0, COUNTS(0, 0, 0, track_coalesce(lent.ranges, 18, 4))); /* the fourth is empty */
@@ -362,6 +360,34 @@ static void ranged(void)
     HOLD(0, 2, A); /* B14 */
     DONE(COUNTS(1, 1, 2, track_isolate(lent.ranges, 18, 1, 5, 7, D)));
     RANGES_ARE(0, 2, A, 5, 7, D);
+}
+
+/* Both calls refuse such a start and end before they look at the ranges (of four the last is empty, which is 14) and at the room (15). */
+#define ENDS(number, from, to) \
+    (REFUSED((number), 0, COUNTS(0, 0, 0, track_isolate(lent.ranges, 18, 3, (from), (to), D))), \
+     REFUSED((number), 0, COUNTS(0, 0, 0, track_isolate(lent.ranges, 18, 4, (from), (to), D))), \
+     REFUSED((number), 0, COUNTS(0, 0, 0, track_isolate(lent.ranges, 9, 3, (from), (to), D))), \
+     REFUSED((number), 0, COUNTS(0, 0, 0, track_iter_filter(lent.ranges, 18, 3, (from), (to), lent.out, 7))), \
+     REFUSED((number), 0, COUNTS(0, 0, 0, track_iter_filter(lent.ranges, 18, 4, (from), (to), lent.out, 7))), \
+     REFUSED((number), 0, COUNTS(0, 0, 0, track_iter_filter(lent.ranges, 18, 3, (from), (to), lent.out, 0))))
+
+static void range_ends(void)
+{
+    start();
+    HOLD(2, 4, A, 4, 6, D, 6, 8, B);
+    ENDS(TRACK_LAYERS_EMPTY, 4, 4);
+    ENDS(TRACK_LAYERS_REVERSED, 5, 4);
+    ENDS(TRACK_LAYERS_EMPTY, 0, 0);
+    ENDS(TRACK_LAYERS_REVERSED, 1, 0);
+    ENDS(TRACK_LAYERS_EMPTY, UINT32_MAX, UINT32_MAX);
+    ENDS(TRACK_LAYERS_REVERSED, UINT32_MAX, 0);
+    REFUSED(TRACK_RANGES_OUT_OF_ORDER, 0, COUNTS(0, 0, 0, track_isolate(lent.ranges, 18, 4, 4, 5, D)));
+    REFUSED(TRACK_NO_FREE_ENTRY, 0, COUNTS(0, 0, 0, track_isolate(lent.ranges, 9, 3, 4, 5, D)));
+    REFUSED(TRACK_RANGES_OUT_OF_ORDER, 0, COUNTS(0, 0, 0, track_iter_filter(lent.ranges, 18, 4, 4, 5, lent.out, 7)));
+    REFUSED(TRACK_NO_FREE_ENTRY, 0, COUNTS(0, 0, 0, track_iter_filter(lent.ranges, 18, 3, 4, 5, lent.out, 0)));
+    DONE(COUNTS(0, 1, 0, track_iter_filter(lent.ranges, 18, 3, 4, 5, lent.out, 7)));
+    OUT_IS(4, 5, D, 0xa5a5a5a5, 0xa5a5a5a5, 0xa5a5a5a5, 0xa5a5a5a5);
+    DONE(COUNTS(1, 1, 4, track_isolate(lent.ranges, 18, 3, 4, 5, D)));
 }
 
 /* ---- Refusals, by their numbers: the edge that passes, and the one that does not ---- */
@@ -416,6 +442,45 @@ static void lent_things(void)
     REFUSED(TRACK_FLAGS_DIFFER, 0, SAME_HEAD(0, 0, from_scope_at(RANGES, 0, 0)));
 }
 
+/* A selector that a scope and a tracker refuse alike. */
+#define SELECTOR(number, a, b, c, d) \
+    (REFUSED((number), 0, merge_part(&lent.scope, (a), (b), (c), (d), 8)), \
+     REFUSED((number), 0, SAME_HEAD(0, 0, set_at(&lent.tracker, 0, (a), (b), (c), (d), 8, 0, 0))))
+
+/* Mips before layers, no length before reversed, and all of that before an end past the extent. */
+static void selectors(void)
+{
+    const uint32_t most = UINT32_MAX;
+    start();
+    DONE(merge(&lent.scope, 0, 8));
+    SELECTOR(TRACK_MIPS_EMPTY, 1, 1, 0, 4);
+    SELECTOR(TRACK_MIPS_EMPTY, 5, 5, 0, 4);
+    SELECTOR(TRACK_MIPS_EMPTY, 1, 1, 2, 2);
+    SELECTOR(TRACK_MIPS_EMPTY, most, most, 3, 2);
+    SELECTOR(TRACK_MIPS_REVERSED, 1, 0, 0, 4);
+    SELECTOR(TRACK_MIPS_REVERSED, 5, 3, 0, 5);
+    SELECTOR(TRACK_MIPS_REVERSED, 1, 0, 2, 2);
+    SELECTOR(TRACK_MIPS_REVERSED, most, 0, 3, 2);
+    SELECTOR(TRACK_LAYERS_EMPTY, 0, 1, 2, 2);
+    SELECTOR(TRACK_LAYERS_EMPTY, 0, 1, 9, 9);
+    SELECTOR(TRACK_LAYERS_EMPTY, 0, 3, 2, 2);
+    SELECTOR(TRACK_LAYERS_EMPTY, 0, most, most, most);
+    SELECTOR(TRACK_LAYERS_REVERSED, 0, 1, 3, 2);
+    SELECTOR(TRACK_LAYERS_REVERSED, 0, 1, 9, 5);
+    SELECTOR(TRACK_LAYERS_REVERSED, 0, 3, 3, 2);
+    SELECTOR(TRACK_LAYERS_REVERSED, 0, most, most, 0);
+    SELECTOR(TRACK_SELECTOR_PAST_EXTENT, 0, 1, 0, 5);
+    SELECTOR(TRACK_SELECTOR_PAST_EXTENT, 0, 3, 0, 4);
+    SELECTOR(TRACK_SELECTOR_PAST_EXTENT, 2, 3, 4, 5);
+    DONE(merge_part(&lent.scope, 1, 2, 3, 4, 8));
+    DONE(set(&lent.tracker, 1, 2, 3, 4, 8));
+
+    /* between 9 and 12 */
+    REFUSED(TRACK_EXTENT_DIFFERS, 0, track_merge_single(lent.scope.table, lent.scope.ranges, RANGES, 0, 1, W, 1, 1, 1, 0, 4, 8));
+    REFUSED(TRACK_MIPS_EMPTY, 0, merge_part(&lent.scope, 1, 1, 0, 4, 0));
+    REFUSED(TRACK_LAYERS_REVERSED, 0, merge_part(&lent.scope, 0, 1, 3, 2, UNKNOWN));
+}
+
 static void uses(void)
 {
     struct scope *s = &lent.scope;
@@ -426,10 +491,6 @@ static void uses(void)
     REFUSED(TRACK_EXTENT_OUT_OF_LIMITS, 1, track_merge_single(s->table, s->ranges, RANGES, 1, M + 1, W, 0, 0, 0, 0, 0, 8));
     REFUSED(TRACK_EXTENT_OUT_OF_LIMITS, 1, track_merge_single(s->table, s->ranges, RANGES, 1, M, 0, 0, 0, 0, 0, 0, 8));
     REFUSED(TRACK_EXTENT_DIFFERS, 1, track_merge_single(s->table, s->ranges, RANGES, 1, M, W - 1, 0, 0, 0, 0, 0, 8));
-    REFUSED(TRACK_SELECTOR_EMPTY, 0, merge_part(s, 0, 1, 2, 2, 8));
-    REFUSED(TRACK_SELECTOR_EMPTY, 0, merge_part(s, 1, 0, 0, 4, 8));
-    REFUSED(TRACK_SELECTOR_PAST_EXTENT, 0, merge_part(s, 0, 1, 0, 5, 8));
-    REFUSED(TRACK_SELECTOR_PAST_EXTENT, 0, merge_part(s, 0, 3, 0, 4, 8));
     REFUSED(TRACK_STATE_RESERVED, 0, merge(s, 0, 0));
     REFUSED(TRACK_STATE_RESERVED, 0, merge(s, 0, 8 + UNKNOWN));
     REFUSED(TRACK_STATE_RESERVED, 0, merge(s, 0, COMPLEX));
@@ -438,8 +499,6 @@ static void uses(void)
 
     /* the same of a tracker */
     REFUSED(TRACK_NO_SUCH_INDEX, 2, SAME_HEAD(0, 0, set_at(&lent.tracker, 2, 0, 1, 0, 1, 8, 0, 0)));
-    REFUSED(TRACK_SELECTOR_EMPTY, 0, SAME_HEAD(0, 0, set_at(&lent.tracker, 0, 0, 1, 2, 2, 8, 0, 0)));
-    REFUSED(TRACK_SELECTOR_PAST_EXTENT, 0, SAME_HEAD(0, 0, set_at(&lent.tracker, 0, 0, 1, 0, 5, 8, 0, 0)));
     REFUSED(TRACK_STATE_RESERVED, 0, SAME_HEAD(0, 0, set_at(&lent.tracker, 0, 0, 1, 0, 4, UNKNOWN, 0, 0)));
     REFUSED(TRACK_STATE_INCOMPATIBLE, 0, SAME_HEAD(0, 0, set_at(&lent.tracker, 0, 0, 1, 0, 4, 24, 0, 0)));
 
@@ -470,8 +529,10 @@ int main(void)
     trackers();
     sets();
     ranged();
+    range_ends();
     opening();
     lent_things();
+    selectors();
     uses();
     printf("C boundary: B1 to B14, %u refusals that changed nothing, %u conflicts; %u comparisons hold\n", refusals, conflicts, checks);
     return 0;

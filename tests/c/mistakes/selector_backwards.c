@@ -1,5 +1,5 @@
 /* Mistake: start and end of a selector swapped.
- * Verdict: refused 10 */
+ * Verdict: refused 19 */
 #include "mistake.h"
 
 int main(void)
