@@ -4,23 +4,24 @@ use crate::{
     storage::state,
     sys::Answer,
     uses,
-    values::{Layer, Mip, Selector, TrackerIndex},
+    values::{Layer, Mip, Selector, Span, TrackerIndex},
 };
 use alloc::string::{String, ToString};
 use core::{error::Error, fmt};
 
 /// A call that was refused. Everything that it borrowed is as it was before.
 ///
-/// There is one case for each number of the table of refusals (`docs/RULES.md` of the repository);
-/// [`number`](Self::number) returns it. Which calls return which:
+/// There is one case for each number of the table of refusals (`docs/RULES.md` of the repository), in the order of the
+/// checks; [`number`](Self::number) returns it. Which calls return which:
 ///
 /// | numbers | returned by |
 /// |---|---|
 /// | 1, 2 | opening a scope or a tracker |
 /// | 6 to 9 | calls that are handed a whole set, or a list of its textures |
-/// | 7 to 13 | `merge_single`, `set_single` |
+/// | 7 to 13, with 16 to 19 in the place of 10 | `merge_single`, `set_single` |
 /// | 15 | calls that borrow a log |
 /// | 3, 4, 5 | none: this crate provides enough memory, and nobody else writes it |
+/// | 10 | none: it is reserved; earlier versions returned it for 16 to 19 |
 /// | 14 | none: the calls on ranges alone are not in this crate |
 ///
 /// ```
@@ -29,6 +30,21 @@ use core::{error::Error, fmt};
 /// assert_eq!(refused, Refusal::NumbersOutOfLimits);
 /// assert_eq!(refused.number(), 1);
 /// assert_eq!(refused.to_string(), "a set has 1 to 64 textures, 1 to 16 mips and 1 to 256 layers (refusal 1)");
+/// ```
+///
+/// 16 to 19 have the mips or layers as they were given:
+///
+/// ```
+/// use texture_tracker::{uses, Extent, Layer, Mip, Refusal, Selector, Texture, TrackerIndex, UsageScope};
+/// # fn main() -> Result<(), Refusal> {
+/// let extent = Extent::new(4, 8);
+/// let mut scope = UsageScope::open(1, extent, uses::FLAGS)?;
+/// let cameras = Selector::new(Mip(0), Layer(7)..Layer(2));
+/// let refused = scope.merge_single(Texture::new(TrackerIndex(0), extent), Some(cameras), uses::RESOURCE).unwrap_err();
+/// assert_eq!(refused, Refusal::LayersReversed(cameras.layers).into());
+/// assert_eq!(refused.to_string(), "layers 7 to 2 are reversed: they end before they start (refusal 19)");
+/// # Ok(())
+/// # }
 /// ```
 #[derive(Clone, Copy, Debug, PartialEq, Eq, Hash)]
 #[non_exhaustive]
@@ -51,8 +67,14 @@ pub enum Refusal {
     ExtentOutOfLimits(TrackerIndex),
     /// 9: the set holds this texture with another extent.
     ExtentDiffers(TrackerIndex),
-    /// 10: the selector has no mips or no layers.
-    SelectorEmpty,
+    /// 16: the mips have no length: they end where they start.
+    MipsEmpty(Span<Mip>),
+    /// 17: the mips are reversed: they end before they start.
+    MipsReversed(Span<Mip>),
+    /// 18: the layers have no length: they end where they start.
+    LayersEmpty(Span<Layer>),
+    /// 19: the layers are reversed: they end before they start.
+    LayersReversed(Span<Layer>),
     /// 11: the selector ends past the texture's extent.
     SelectorPastExtent,
     /// 12: the state is zero, or has `unknown` or `complex` in it.
@@ -80,13 +102,23 @@ impl Refusal {
             7 => Self::NoSuchIndex(index),
             8 => Self::ExtentOutOfLimits(index),
             9 => Self::ExtentDiffers(index),
-            10 => Self::SelectorEmpty,
             11 => Self::SelectorPastExtent,
             12 => Self::StateReserved,
             13 => Self::StateIncompatible,
             14 => Self::RangesOutOfOrder,
             15 => Self::NoFreeEntry,
             other => Self::Unlisted(other),
+        }
+    }
+
+    /// Of a call on a part of a texture, which may be what is wrong.
+    fn of_part(number: u32, place: u32, part: Selector) -> Self {
+        match number {
+            16 => Self::MipsEmpty(part.mips),
+            17 => Self::MipsReversed(part.mips),
+            18 => Self::LayersEmpty(part.layers),
+            19 => Self::LayersReversed(part.layers),
+            _ => Self::new(number, place),
         }
     }
 
@@ -103,7 +135,10 @@ impl Refusal {
             Self::NoSuchIndex(_) => 7,
             Self::ExtentOutOfLimits(_) => 8,
             Self::ExtentDiffers(_) => 9,
-            Self::SelectorEmpty => 10,
+            Self::MipsEmpty(_) => 16,
+            Self::MipsReversed(_) => 17,
+            Self::LayersEmpty(_) => 18,
+            Self::LayersReversed(_) => 19,
             Self::SelectorPastExtent => 11,
             Self::StateReserved => 12,
             Self::StateIncompatible => 13,
@@ -136,7 +171,8 @@ impl Refusal {
             Self::NoSuchIndex(_) => "the set has no such index",
             Self::ExtentOutOfLimits(_) => "it has no mips or layers, or more than the set was opened for",
             Self::ExtentDiffers(_) => "the set holds it with another extent",
-            Self::SelectorEmpty => "the selector has no mips or no layers",
+            Self::MipsEmpty(_) | Self::LayersEmpty(_) => "are empty: they end where they start",
+            Self::MipsReversed(_) | Self::LayersReversed(_) => "are reversed: they end before they start",
             Self::SelectorPastExtent => "the selector ends past the texture's extent",
             Self::StateReserved => "the state is zero, or has unknown or complex in it",
             Self::StateIncompatible => "the state has an exclusive use beside another use",
@@ -149,8 +185,17 @@ impl Refusal {
 
 impl fmt::Display for Refusal {
     fn fmt(&self, f: &mut fmt::Formatter<'_>) -> fmt::Result {
-        if let Some(TrackerIndex(index)) = self.index() {
-            write!(f, "texture {index}: ")?;
+        match *self {
+            Self::NoSuchIndex(index) | Self::ExtentOutOfLimits(index) | Self::ExtentDiffers(index) => {
+                write!(f, "texture {}: ", index.0)?;
+            }
+            Self::MipsEmpty(Span { start, end }) | Self::MipsReversed(Span { start, end }) => {
+                write!(f, "mips {} to {} ", start.0, end.0)?;
+            }
+            Self::LayersEmpty(Span { start, end }) | Self::LayersReversed(Span { start, end }) => {
+                write!(f, "layers {} to {} ", start.0, end.0)?;
+            }
+            _ => {}
         }
         write!(f, "{} (refusal {})", self.words(), self.number())
     }
@@ -296,9 +341,16 @@ pub(crate) fn naming(f: &fmt::Formatter<'_>) -> fn(State) -> String {
 /// What a call returns that may meet a conflict.
 pub(crate) fn merged(answer: Answer) -> Result<(), MergeError> {
     match answer.kind {
-        0 => Ok(()),
-        2 => Err(MergeError::Conflict(conflict(answer))),
-        _ => Err(MergeError::Refused(Refusal::new(answer.number, answer.place))),
+        2 => Err(conflict(answer).into()),
+        _ => Ok(passed(answer)?),
+    }
+}
+
+/// The same of a call on a part of a texture.
+pub(crate) fn merged_part(answer: Answer, part: Selector) -> Result<(), MergeError> {
+    match answer.kind {
+        2 => Err(conflict(answer).into()),
+        _ => Ok(passed_part(answer, part)?),
     }
 }
 
@@ -307,6 +359,14 @@ pub(crate) fn passed(answer: Answer) -> Result<(), Refusal> {
     match answer.kind {
         0 => Ok(()),
         _ => Err(Refusal::new(answer.number, answer.place)),
+    }
+}
+
+/// The same of a call on a part of a texture.
+pub(crate) fn passed_part(answer: Answer, part: Selector) -> Result<(), Refusal> {
+    match answer.kind {
+        0 => Ok(()),
+        _ => Err(Refusal::of_part(answer.number, answer.place, part)),
     }
 }
 

@@ -1,6 +1,6 @@
 //! Usage scopes.
 use crate::{
-    errors::{merged, passed, MergeError, Refusal},
+    errors::{merged, merged_part, passed, MergeError, Refusal},
     state::State,
     states::TextureStates,
     storage::{self, Half, Held, Opening, ScopeStorage},
@@ -74,16 +74,18 @@ impl UsageScope {
     /// [`MergeError::Conflict`] if the use excludes one that the scope holds there. What lies before the conflict is
     /// merged, and stays, as in wgpu-core. [`MergeError::Refused`], before any change, with
     /// [`NoSuchIndex`](Refusal::NoSuchIndex), [`ExtentOutOfLimits`](Refusal::ExtentOutOfLimits),
-    /// [`ExtentDiffers`](Refusal::ExtentDiffers), [`SelectorEmpty`](Refusal::SelectorEmpty),
-    /// [`SelectorPastExtent`](Refusal::SelectorPastExtent), [`StateReserved`](Refusal::StateReserved) or
-    /// [`StateIncompatible`](Refusal::StateIncompatible).
+    /// [`ExtentDiffers`](Refusal::ExtentDiffers), [`MipsEmpty`](Refusal::MipsEmpty),
+    /// [`MipsReversed`](Refusal::MipsReversed), [`LayersEmpty`](Refusal::LayersEmpty),
+    /// [`LayersReversed`](Refusal::LayersReversed), [`SelectorPastExtent`](Refusal::SelectorPastExtent),
+    /// [`StateReserved`](Refusal::StateReserved) or [`StateIncompatible`](Refusal::StateIncompatible).
     pub fn merge_single(
         &mut self,
         texture: Texture,
         selector: Option<Selector>,
         new_state: State,
     ) -> Result<(), MergeError> {
-        merged(sys::merge_single(&mut self.storage, texture, selector, new_state))
+        let answer = sys::merge_single(&mut self.storage, texture, selector, new_state);
+        merged_part(answer, selector.unwrap_or(texture.extent.full_range()))
     }
 
     /// Merges every texture of another scope, by ascending index, up to the first conflict.

@@ -1,7 +1,7 @@
 //! What only this crate can try, since only it reaches the storage: refusals leave every number as it was, damaged
 //! storage is refused and can still be read.
 use crate::{
-    errors::passed,
+    errors::{merged, merged_part, passed, passed_part},
     storage::{LogStorage, Opening, ScopeStorage, TrackerStorage},
     sys, uses, Extent, Layer, Mip, Refusal, Selector, State, Texture, TextureStates, TextureTracker, TrackerIndex,
     TransitionLog, UsageScope,
@@ -37,6 +37,16 @@ fn numbers_of_tracker(tracker: &TextureTracker, log: &TransitionLog) -> (Vec<u32
     ([&table[..], starts, ends, entries].concat(), *written, *free)
 }
 
+/// Of 16 to 19, one each.
+fn bad_parts() -> [Selector; 4] {
+    [
+        Selector::new(Mip(1)..Mip(1), Layer(0)..Layer(4)),
+        Selector::new(Mip(1)..Mip(0), Layer(0)..Layer(4)),
+        Selector::new(Mip(0)..Mip(2), Layer(2)..Layer(2)),
+        Selector::new(Mip(0)..Mip(2), Layer(3)..Layer(2)),
+    ]
+}
+
 #[test]
 fn a_refusal_changes_no_number() {
     let mut scope = scope();
@@ -45,9 +55,17 @@ fn a_refusal_changes_no_number() {
         assert!(scope.merge_single(TEXTURE, None, state).is_err());
         assert_eq!(numbers_of_scope(&scope), before);
     }
+    for part in bad_parts() {
+        assert!(scope.merge_single(TEXTURE, Some(part), uses::RESOURCE).is_err());
+        assert_eq!(numbers_of_scope(&scope), before);
+    }
     let (mut tracker, mut log) = tracker();
     tracker.set_single(TEXTURE, EXTENT.full_range(), uses::RESOURCE, &mut log).unwrap();
     let before = numbers_of_tracker(&tracker, &log);
+    for part in bad_parts() {
+        assert!(tracker.set_single(TEXTURE, part, uses::RESOURCE, &mut log).is_err());
+        assert_eq!(numbers_of_tracker(&tracker, &log), before);
+    }
     let answer = tracker.set_single(TEXTURE, EXTENT.full_range(), uses::COPY_DST, &mut log);
     assert_eq!(answer, Err(Refusal::NoFreeEntry));
     assert_eq!(numbers_of_tracker(&tracker, &log), before);
@@ -95,15 +113,32 @@ fn a_head_past_the_log_5() {
 
 #[test]
 fn every_number_is_decoded() {
-    let numbers = (1..=99).map(|number| {
+    let part = Selector::new(Mip(5)..Mip(4), Layer(3)..Layer(2));
+    for number in 1..=99 {
         let answer = sys::Answer { kind: 1, number, place: 7, ..Default::default() };
-        passed(answer).unwrap_err()
-    });
-    for (number, refusal) in (1..=99).zip(numbers) {
+        let refusal = passed_part(answer, part).unwrap_err();
         assert_eq!(refusal.number(), number);
         assert_eq!(refusal.index(), (7..=9).contains(&number).then_some(TrackerIndex(7)));
         assert!(refusal.to_string().ends_with(&format!("(refusal {number})")));
+        assert_eq!(merged_part(answer, part), Err(refusal.into()));
+        // A call without a part is not refused for one.
+        let without = if (16..=19).contains(&number) { Refusal::Unlisted(number) } else { refusal };
+        assert_eq!((passed(answer), merged(answer)), (Err(without), Err(without.into())));
+        // 10 is reserved.
+        assert_eq!(refusal == Refusal::Unlisted(number), number == 10 || number > 19, "{number}");
     }
+}
+
+/// 16 to 19 have what was given, whatever it is.
+#[test]
+fn the_part_is_handed_on() {
+    let part = Selector::new(Mip(5)..Mip(4), Layer(3)..Layer(2));
+    let told = |number| {
+        let answer = sys::Answer { kind: 1, number, ..Default::default() };
+        passed_part(answer, part).unwrap_err()
+    };
+    assert_eq!([16, 17].map(told), [Refusal::MipsEmpty(part.mips), Refusal::MipsReversed(part.mips)]);
+    assert_eq!([18, 19].map(told), [Refusal::LayersEmpty(part.layers), Refusal::LayersReversed(part.layers)]);
 }
 
 fn read(states: TextureStates<'_>) -> usize {

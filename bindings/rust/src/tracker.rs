@@ -1,6 +1,6 @@
 //! Trackers.
 use crate::{
-    errors::{passed, Refusal},
+    errors::{passed, passed_part, Refusal},
     log::TransitionLog,
     scope::UsageScope,
     state::State,
@@ -113,9 +113,11 @@ impl TextureTracker {
     /// # Errors
     ///
     /// Before any change: [`NoSuchIndex`](Refusal::NoSuchIndex), [`ExtentOutOfLimits`](Refusal::ExtentOutOfLimits),
-    /// [`ExtentDiffers`](Refusal::ExtentDiffers), [`SelectorEmpty`](Refusal::SelectorEmpty),
-    /// [`SelectorPastExtent`](Refusal::SelectorPastExtent), [`StateReserved`](Refusal::StateReserved),
-    /// [`StateIncompatible`](Refusal::StateIncompatible), [`NoFreeEntry`](Refusal::NoFreeEntry).
+    /// [`ExtentDiffers`](Refusal::ExtentDiffers), [`MipsEmpty`](Refusal::MipsEmpty),
+    /// [`MipsReversed`](Refusal::MipsReversed), [`LayersEmpty`](Refusal::LayersEmpty),
+    /// [`LayersReversed`](Refusal::LayersReversed), [`SelectorPastExtent`](Refusal::SelectorPastExtent),
+    /// [`StateReserved`](Refusal::StateReserved), [`StateIncompatible`](Refusal::StateIncompatible),
+    /// [`NoFreeEntry`](Refusal::NoFreeEntry).
     pub fn set_single(
         &mut self,
         texture: Texture,
@@ -123,7 +125,7 @@ impl TextureTracker {
         new_state: State,
         log: &mut TransitionLog,
     ) -> Result<(), Refusal> {
-        passed(sys::set_single(&mut self.storage, texture, selector, new_state, &mut log.storage))
+        passed_part(sys::set_single(&mut self.storage, texture, selector, new_state, &mut log.storage), selector)
     }
 
     /// Sets every texture that a scope owns, by ascending index: the pass that the scope stands for comes next.

@@ -5,6 +5,7 @@ mod built;
 use std::{
     fs,
     io::{self, Write},
+    ops::Range,
     os::unix::fs::PermissionsExt,
     path::{Path, PathBuf},
     process::{Command, Stdio},
@@ -116,7 +117,7 @@ impl Floor {
 // ---- what is recorded ----------------------------------------------------------------------------------------------
 
 /// "mips 0 to 2", "layer 5" at the start of the words, or all of them.
-fn span<'a>(words: &mut &'a [&'a str], one: &str, many: &str, all: u32) -> std::ops::Range<u32> {
+fn span<'a>(words: &mut &'a [&'a str], one: &str, many: &str, all: u32) -> Range<u32> {
     let number = |word: &str| word.parse::<u32>().unwrap();
     let (range, rest) = match **words {
         [word, first, "to", last, ref rest @ ..] if word == many => (number(first)..number(last) + 1, rest),
@@ -187,10 +188,19 @@ impl Chance {
         ((self.0 >> 33) % u64::from(end)) as u32
     }
 
-    /// Mips and layers, some of them none or too many.
+    /// Up to so many from there on, some of them none or reversed.
+    fn span(&mut self, start: u32, most: u32) -> Range<u32> {
+        match self.below(12) {
+            0 => start..start,
+            1 => start + 1..start,
+            _ => start..start + 1 + self.below(most),
+        }
+    }
+
+    /// Mips and layers, some of them bad or too many.
     fn selector(&mut self, extent: Extent) -> Selector {
         let (mip, layer) = (self.below(2), self.below(4));
-        let part = bench::selector(mip..mip + self.below(4).min(1), layer..layer + 1 + self.below(3));
+        let part = bench::selector(self.span(mip, 1), self.span(layer, 3));
         if self.below(3) == 0 {
             extent.full_range()
         } else {
@@ -317,7 +327,7 @@ fn random_calls() {
     for (word, least) in [("done", 100), ("conflict", 10), ("transition", 50), ("emptied", 10)] {
         assert!(kinds(&floor, word) >= least, "{word}: {}", kinds(&floor, word));
     }
-    for number in [7, 9, 10, 11, 12, 13, 15] {
+    for number in [7, 9, 16, 17, 18, 19, 11, 12, 13, 15] {
         assert!(kinds(&floor, &format!("refused {number} ")) > 0, "{number}");
     }
     same_again("random.calls", &floor);

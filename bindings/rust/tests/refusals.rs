@@ -1,7 +1,7 @@
 //! Every refusal that the safe interface can be brought to give, with its place, and that it changes nothing.
 //!
 //! 3, 4 and 5 cannot arise: the crate provides enough memory, nobody else writes it, and the log keeps its own
-//! head. 14 is of calls that are not in this crate.
+//! head. 10 is reserved. 14 is of calls that are not in this crate.
 #![allow(clippy::reversed_empty_ranges)] // they are refused
 mod bench;
 use bench::*;
@@ -100,18 +100,65 @@ fn another_extent_9() {
     assert_eq!((refusal, refusal.number()), (Refusal::ExtentDiffers(TrackerIndex(0)), 9));
 }
 
+fn mips(start: u32, end: u32) -> Span<Mip> {
+    Span { start: Mip(start), end: Mip(end) }
+}
+
+fn layers(start: u32, end: u32) -> Span<Layer> {
+    Span { start: Layer(start), end: Layer(end) }
+}
+
+/// Each by itself; with an end past the extent, which is 11, checked later; and with one another, where the first counts.
 #[test]
-fn selector_10_and_11() {
-    for (mips, layers) in [(0..1, 2..2), (1..1, 0..4), (1..0, 0..4), (0..1, 3..1), (5..5, 0..9)] {
-        let refusal = refused_by_both(TEXTURE, selector(mips, layers), 8);
-        assert_eq!((refusal, refusal.number()), (Refusal::SelectorEmpty, 10));
+fn selector_16_to_19() {
+    let most = u32::MAX;
+    let cases = [
+        (1..1, 0..4, Refusal::MipsEmpty(mips(1, 1)), 16),
+        (5..5, 0..4, Refusal::MipsEmpty(mips(5, 5)), 16),
+        (1..1, 0..5, Refusal::MipsEmpty(mips(1, 1)), 16),
+        (1..1, 2..2, Refusal::MipsEmpty(mips(1, 1)), 16),
+        (1..1, 3..2, Refusal::MipsEmpty(mips(1, 1)), 16),
+        (most..most, most..0, Refusal::MipsEmpty(mips(most, most)), 16),
+        (1..0, 0..4, Refusal::MipsReversed(mips(1, 0)), 17),
+        (5..3, 0..4, Refusal::MipsReversed(mips(5, 3)), 17),
+        (1..0, 0..5, Refusal::MipsReversed(mips(1, 0)), 17),
+        (1..0, 2..2, Refusal::MipsReversed(mips(1, 0)), 17),
+        (1..0, 3..2, Refusal::MipsReversed(mips(1, 0)), 17),
+        (most..0, most..most, Refusal::MipsReversed(mips(most, 0)), 17),
+        (0..1, 2..2, Refusal::LayersEmpty(layers(2, 2)), 18),
+        (0..1, 9..9, Refusal::LayersEmpty(layers(9, 9)), 18),
+        (0..3, 2..2, Refusal::LayersEmpty(layers(2, 2)), 18),
+        (0..most, most..most, Refusal::LayersEmpty(layers(most, most)), 18),
+        (0..1, 3..2, Refusal::LayersReversed(layers(3, 2)), 19),
+        (0..1, 9..5, Refusal::LayersReversed(layers(9, 5)), 19),
+        (0..3, 3..2, Refusal::LayersReversed(layers(3, 2)), 19),
+        (0..most, most..0, Refusal::LayersReversed(layers(most, 0)), 19),
+    ];
+    for (mips, layers, refusal, number) in cases {
+        assert_eq!(refused_by_both(TEXTURE, selector(mips, layers), 8), refusal);
+        assert_eq!((refusal.number(), refusal.index()), (number, None));
     }
+    let last = Selector::one(Mip(most), Layer(most));
+    assert_eq!(refused_by_both(TEXTURE, last, 8), Refusal::MipsEmpty(last.mips));
+}
+
+/// The checks before those of the selector, and after them.
+#[test]
+fn selector_between_9_and_12() {
+    for (mips, layers, number) in [(1..1, 0..4, 16), (1..0, 0..4, 17), (0..1, 2..2, 18), (0..1, 3..2, 19)] {
+        let part = selector(mips, layers);
+        assert_eq!(refused_by_both(texture(0, ONE), part, 8), Refusal::ExtentDiffers(TrackerIndex(0)));
+        assert_eq!(refused_by_both(TEXTURE, part, 0).number(), number);
+        assert_eq!(refused_by_both(TEXTURE, part, 24).number(), number);
+    }
+}
+
+#[test]
+fn selector_11() {
     for (mips, layers) in [(0..1, 0..5), (0..3, 0..4), (2..3, 0..4), (0..u32::MAX, 0..u32::MAX)] {
         let refusal = refused_by_both(TEXTURE, selector(mips, layers), 8);
         assert_eq!((refusal, refusal.number()), (Refusal::SelectorPastExtent, 11));
     }
-    let last = Selector::one(Mip(u32::MAX), Layer(u32::MAX));
-    assert_eq!(refused_by_both(TEXTURE, last, 8), Refusal::SelectorEmpty);
 }
 
 #[test]
@@ -197,7 +244,17 @@ fn a_log_with_room_is_never_short() {
 fn the_words() {
     let words = Refusal::ExtentDiffers(TrackerIndex(3)).to_string();
     assert_eq!(words, "texture 3: the set holds it with another extent (refusal 9)");
-    let error: Box<dyn std::error::Error> = Box::new(MergeError::from(Refusal::SelectorEmpty));
-    assert_eq!(error.to_string(), "the selector has no mips or no layers (refusal 10)");
+    let error: Box<dyn std::error::Error> = Box::new(MergeError::from(Refusal::SelectorPastExtent));
+    assert_eq!(error.to_string(), "the selector ends past the texture's extent (refusal 11)");
     assert!(error.source().is_some());
+}
+
+/// A bad selector is told with its numbers as they were given.
+#[test]
+fn the_words_of_16_to_19() {
+    let words = |mips, layers| refused_by_both(TEXTURE, selector(mips, layers), 8).to_string();
+    assert_eq!(words(1..1, 0..4), "mips 1 to 1 are empty: they end where they start (refusal 16)");
+    assert_eq!(words(1..0, 0..4), "mips 1 to 0 are reversed: they end before they start (refusal 17)");
+    assert_eq!(words(0..1, 2..2), "layers 2 to 2 are empty: they end where they start (refusal 18)");
+    assert_eq!(words(0..1, 7..2), "layers 7 to 2 are reversed: they end before they start (refusal 19)");
 }

@@ -40,7 +40,9 @@ fn the_largest_number() {
     assert_eq!(Span::from(Layer(0)..=Layer(most)), Layer(0)..Layer(most));
     let mut scope = UsageScope::open(1, EXTENT, FLAGS).unwrap();
     let answer = scope.merge_single(TEXTURE, Some(Selector::layer(Layer(most), EXTENT)), State(8));
-    assert_eq!(answer, Err(Refusal::SelectorEmpty.into()));
+    assert_eq!(answer, Err(Refusal::LayersEmpty(Span::from(Layer(most))).into()));
+    let answer = scope.merge_single(TEXTURE, Some(Selector::mip(Mip(most), EXTENT)), State(8));
+    assert_eq!(answer, Err(Refusal::MipsEmpty(Span::from(Mip(most))).into()));
 }
 
 #[test]
