@@ -49,7 +49,7 @@ fn its_own_frame() {
 const OUT: &str = "is not a whole number from 0 to 4294967295";
 const LIMITS: &str = "is out of range: a set has 1 to 64 textures, 1 to 16 mips and 1 to 256 layers (refusal 1)";
 const PAST: &str = "the selector ends past the texture's extent (refusal 11)";
-const EMPTY: &str = "the selector has no mips or no layers (refusal 10)";
+const EMPTY: &str = "are empty: they end just before they begin";
 const A_USE: &str = "write the use: PART, then STATE, then, if it has a name, as NAME";
 
 /// A text, the number of its bad line, and what is said of it.
@@ -90,9 +90,14 @@ fn bad_uses() -> Vec<Bad> {
         line("use a layer 0 mip 0 RESOURCE", 3, A_USE),
         line("use a mips 0 RESOURCE", 3, "write: mip NUMBER, or mips NUMBER to NUMBER"),
         line("use a layer x RESOURCE", 3, &format!("layer: \"x\" {OUT}")),
-        line("use a mips 1 to 0 RESOURCE", 3, &format!("mips 1 to 0 end before they begin: {EMPTY}")),
-        line("use a layers 3 to 2 RESOURCE", 3, &format!("layers 3 to 2 end before they begin: {EMPTY}")),
-        line("use a layers 3 to 0 RESOURCE", 3, &format!("layers 3 to 0 end before they begin: {EMPTY}")),
+        line("use a mips 1 to 0 RESOURCE", 3, &format!("mips 1 to 0 {EMPTY} (refusal 16)")),
+        line("use a mips 5 to 4 RESOURCE", 3, &format!("mips 5 to 4 {EMPTY} (refusal 16)")),
+        line("use a mips 2 to 0 RESOURCE", 3, "mips 2 to 0 are reversed (refusal 17)"),
+        line("use a mips 2 to 0 layers 3 to 2 RESOURCE", 3, "mips 2 to 0 are reversed (refusal 17)"),
+        line("use a layers 3 to 2 RESOURCE", 3, &format!("layers 3 to 2 {EMPTY} (refusal 18)")),
+        line("use a mip 2 layers 3 to 2 RESOURCE", 3, &format!("layers 3 to 2 {EMPTY} (refusal 18)")),
+        line("use a layers 7 to 2 RESOURCE", 3, "layers 7 to 2 are reversed (refusal 19)"),
+        line("use a layers 3 to 0 RESOURCE", 3, "layers 3 to 0 are reversed (refusal 19)"),
         line("use a mip 2 layer 4 RESOURCE", 3, &format!("mip 2 is out of range, the last one is 1: {PAST}")),
         line("use a layer 4 RESOURCE", 3, &format!("layer 4 is out of range, the last one is 3: {PAST}")),
         line("use a layers 1 to 4 RESOURCE", 3, &format!("layer 4 is out of range, the last one is 3: {PAST}")),

@@ -146,13 +146,13 @@ impl<'a> Frame<'a> {
         Ok(())
     }
 
-    /// What the library says of a use, and which number it means.
+    /// What the library says of a use.
     fn try_alone(&mut self, made: &Use) -> Told<()> {
         let alone = Texture { index: TrackerIndex(0), extent: made.texture.extent };
         let trial = &mut self.trials[made.texture.index.0 as usize];
         trial.clear();
         let answer = trial.merge_single(alone, made.selector, made.state);
-        answer.map_err(|refused| format!("{}{refused}", wrong_number(made)))
+        answer.map_err(|refused| worded(made, refused))
     }
 
     fn label(&mut self, made: &Use, name: &'a str) {
@@ -281,17 +281,28 @@ fn use_named(name: &str) -> Told<State> {
     })
 }
 
-/// Which number of a refused use is meant, if it is one.
-fn wrong_number(made: &Use) -> String {
-    let (part, Extent { mips: all_mips, layers: all_layers }) = (made.part(), made.texture.extent);
-    let sides = [("mip", mips(&part), all_mips), ("layer", layers(&part), all_layers)];
-    for (word, side, all) in sides {
-        if side.is_empty() {
-            return format!("{word}s {} to {} end before they begin: ", side.start, side.end - 1);
-        }
-        if side.end > all {
-            return format!("{word} {} is out of range, the last one is {}: ", side.end - 1, all - 1);
-        }
+/// A refusal in the words of this language, which names the last mip or layer and not the one past it.
+fn worded(made: &Use, refused: MergeError) -> String {
+    let MergeError::Refused(refusal) = refused else { return refused.to_string() };
+    let bad = |many: &str, first: u32, end: u32, how: &str| {
+        format!("{many} {first} to {} are {how} (refusal {})", end - 1, refusal.number())
+    };
+    let empty = "empty: they end just before they begin";
+    match refusal {
+        Refusal::MipsEmpty(Span { start, end }) => bad("mips", start.0, end.0, empty),
+        Refusal::MipsReversed(Span { start, end }) => bad("mips", start.0, end.0, "reversed"),
+        Refusal::LayersEmpty(Span { start, end }) => bad("layers", start.0, end.0, empty),
+        Refusal::LayersReversed(Span { start, end }) => bad("layers", start.0, end.0, "reversed"),
+        Refusal::SelectorPastExtent => format!("{}: {refusal}", past(made)),
+        _ => refusal.to_string(),
     }
-    String::new()
+}
+
+/// Which number of a use is past its texture: the mip, or else the layer.
+fn past(made: &Use) -> String {
+    let Selector { mips, layers } = made.part();
+    let all = made.texture.extent;
+    let (word, end, all) =
+        if mips.end.0 > all.mips { ("mip", mips.end.0, all.mips) } else { ("layer", layers.end.0, all.layers) };
+    format!("{word} {} is out of range, the last one is {}", end - 1, all - 1)
 }
