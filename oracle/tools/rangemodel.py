@@ -59,7 +59,7 @@ def read_records(length, lent, numbers):
 def answer_isolate(numbers):
     start, end, default, length, lent, *rest = numbers
     records = read_records(length, lent, rest)
-    refusal = refusals.interval(start, end) or refusals.ranges(length, lent, records)
+    refusal = refusals.ranged(start, end, length, lent, records)
     if refusal:
         return refusal
     position, count, result = isolate(records, start, end, default)
@@ -81,7 +81,7 @@ def answer_coalesce(numbers):
 def answer_iter_filter(numbers):
     start, end, length, lent, lent_out, *rest = numbers
     records = read_records(length, lent, rest)
-    refusal = refusals.interval(start, end) or refusals.ranges(length, lent, records)
+    refusal = refusals.ranged(start, end, length, lent, records)
     if refusal:
         return refusal
     result = overlaps(records, start, end)

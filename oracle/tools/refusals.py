@@ -1,5 +1,6 @@
 """Document 01's table "Turned away", as far as it speaks of numbers and owned textures.
 
+In the place of its number 10, which is never given, stand 16 to 19 of document 02's request 02.
 Every check answers None or a Refusal, its number and place. Numbers 4 and 5 are about storage: storage.py.
 """
 from typing import NamedTuple
@@ -43,20 +44,31 @@ def texture(held, index, mips, layers):
     return None
 
 
-def interval(start, end):
-    return Refusal(10, 0) if start >= end else None
+def mip_interval(start, end):
+    """Request 02: "mips of no length, mips reversed"."""
+    if start == end:
+        return Refusal(16, 0)
+    return Refusal(17, 0) if start > end else None
+
+
+def layer_interval(start, end):
+    """Request 02: "layers of no length, layers reversed"; "strip calls give the layer numbers"."""
+    if start == end:
+        return Refusal(18, 0)
+    return Refusal(19, 0) if start > end else None
+
+
+def past(mips, layers, mip_end, layer_end):
+    return Refusal(11, 0) if mip_end > mips or layer_end > layers else None
 
 
 def selector(mips, layers, given):
+    """Request 02: "16, 17, 18, 19 in that order, at 10's place", so before 11."""
     if given is None:
         return None
     mip_start, mip_end, layer_start, layer_end = given
-    empty = interval(mip_start, mip_end) or interval(layer_start, layer_end)
-    if empty:
-        return empty
-    if mip_end > mips or layer_end > layers:
-        return Refusal(11, 0)
-    return None
+    return (mip_interval(mip_start, mip_end) or layer_interval(layer_start, layer_end)
+            or past(mips, layers, mip_end, layer_end))
 
 
 def state(flags, given):
@@ -86,6 +98,11 @@ def sparse(to, source, indices):
         owned = source.textures.get(index)
         return owned and texture(to, index, owned.mips, owned.layers)
     return flags_differ(to, source) or next(filter(None, map(one, indices)), None)
+
+
+def ranged(start, end, length, lent, records):
+    """Of isolate and iter_filter: layers with any 32-bit ends, and then the ranges."""
+    return layer_interval(start, end) or ranges(length, lent, records)
 
 
 def ranges(length, lent, records):
