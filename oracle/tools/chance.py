@@ -1,6 +1,8 @@
 """Random states, ranges and selectors, few and small, so that they meet."""
 from flags import bits
 
+TOP = 2 ** 32 - 1
+
 
 def pool(rng, flags):
     """The states that a case uses: exclusive ones, UNINITIALIZED, and ones that can be joined."""
@@ -48,6 +50,22 @@ def selector(rng, mips, layers):
     if kind < 0.28:
         return tuple(rng.randrange(max(mips, layers) + 3) for _ in range(4))
     return span(rng, mips) + span(rng, layers)
+
+
+def faulty(rng, length):
+    """An interval of no length, or reversed, mostly near `length`."""
+    end = rng.randrange(length + 3 if rng.random() < 0.8 else TOP)
+    if rng.random() < 0.5:
+        return end, end
+    return rng.choice([end + 1, end + 1, min(end + 1 + rng.randrange(length + 3), TOP), rng.randint(end + 1, TOP)]), end
+
+
+def faulty_selector(rng, mips, layers):
+    """Faulty mips, layers, or both; where only one is, the other may be past the extent."""
+    faults = rng.choice([(True, False), (False, True), (False, True), (True, True)])
+    first, last = (faulty(rng, length) if fault else (0, length + 1) if not length or rng.random() < 0.2
+                   else span(rng, length) for fault, length in zip(faults, (mips, layers)))
+    return first + last
 
 
 def subresources(rng, flags, states, count, unknown):

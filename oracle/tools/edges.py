@@ -5,6 +5,8 @@ Those of the calls on ranged states are in rangecases.py.
 Cases end with a call that passes, so that a refusal that changed something is seen. Sets 0 and 1 are scopes,
 2 and 3 trackers, with N 3, M 2, W 4. Texture 0 is put in as Single, texture 1 as Many; texture 2 is not owned.
 """
+from itertools import product
+
 from damage import Damage
 from flags import bits
 from model import SINGLE_CALLS, SPARSE
@@ -14,6 +16,11 @@ ROOM = 3 * N * M * W
 TOP = 2 ** 32 - 1
 # How many damages a case has.
 DAMAGES = 14
+# Mips and layers that pass, that end past the extent, of no length, reversed, and the last two past the extent.
+MIPS = ["0 1", f"1 {M + 1}", "1 1", "1 0", f"{M + 3} {M + 3}", f"{M + 3} {M + 2}"]
+LAYERS = ["1 2", f"2 {W + 1}", "2 2", "3 2", f"{W + 3} {W + 3}", f"{W + 3} {W + 2}"]
+# A selector for each of 16 to 19.
+FAULTS = ["1 1 0 1", "1 0 0 1", "0 1 2 2", "0 1 3 2"]
 SET_CALLS = ["merge_usage_scope 0 1", "set_from_usage_scope 2 1", "set_from_tracker 2 3", SPARSE + " 2 1 0 1"]
 
 
@@ -25,6 +32,13 @@ def sets_of(line):
     if word.startswith("open_"):
         return [int(rest[0])]
     return [] if word in ("log", "empty_log") else [int(number) for number in rest[:2]]
+
+
+def interval_edges(extent):
+    """Start + 1 = end, start = end and start = end + 1, at the first, the last and the largest number."""
+    ends = [(0, 1), (extent - 1, extent), (0, 0), (extent, extent), (TOP, TOP), (1, 0), (extent + 1, extent),
+            (TOP, TOP - 1), (TOP, 0)]
+    return [f"{start} {end}" for start, end in ends]
 
 
 class Edges:
@@ -198,7 +212,7 @@ class Edges:
         yield self.on_sets([self.open(1, n=N + 2), f"merge_single 1 0 {M} {W} {self.good}", f"{SPARSE} 2 1 4 3",
                             f"{SPARSE} 2 1 5", f"{SPARSE} 2 1 3 0"])
 
-    # ---- selector and state: 10 to 13 ----------------------------------------------------------------
+    # ---- selector and state: 16 to 19, and 11 to 13 --------------------------------------------------
 
     def selectors(self):
         given = [(0, 1, 2, 2), (1, 1, 0, 1), (1, 0, 0, 1), (0, 1, 3, 1), (0, 2, 0, 4), (0, 2, 0, 5), (0, 3, 0, 4),
@@ -218,14 +232,40 @@ class Edges:
         for word in ("merge_single 0", "set_single 2"):
             lines = [f"{word} 0 {M} {W} {state}" for state in given if state is not None]
             yield self.on_sets(lines + [line + " 0 1 1 3" for line in lines] + [self.passing(int(word[-1]))])
-            # Each check before the next one: 7, 8, 9, 10, 11, 12.
+            # Each check before the next one: 7, 8, 9, 16, 17, 18, 19, 11, 12.
             yield self.on_sets([f"{word} {rest}" for rest in (
                 f"{N} 0 9 0 1 1 0 9", f"0 0 {W} 0 1 1 0 9", f"0 1 {W} 0 1 1 0 9", f"0 {M} {W} 0 1 1 0 9",
+                f"0 {M} {W} 0 9 8 9 9", f"0 {M} {W} 0 0 9 9 9", f"0 {M} {W} 0 0 9 9 8",
                 f"0 {M} {W} 0 0 1 0 9", f"0 {M} {W} 0 0 1 0 1")])
+
+    def intervals(self):
+        """Mips and layers of every kind beside each other, each at its edges, and among the other checks."""
+        given = [*product(MIPS, LAYERS), *((mips, "0 1") for mips in interval_edges(M)),
+                 *(("0 1", layers) for layers in interval_edges(W))]
+        for word in ("merge_single 0", "set_single 2"):
+            for index in range(N):
+                use = f"{word} {index} {M} {W} {self.good}"
+                yield self.on_sets([f"{use} {mips} {layers}" for mips, layers in given] + [use])
+            lines = [line for fault in FAULTS for line in self.around(word, fault)]
+            yield self.on_sets(lines + [self.passing(int(word[-1]))])
+
+    def around(self, word, fault):
+        """The fault of a selector after 7, 8, 9, 4 and 5, and before 12, 13 and 15."""
+        number, call = int(word[-1]), f"{word} 1 {M} {W}"
+        for texture in (f"{N} {M} {W}", f"0 0 {W}", f"0 {M} {W - 1}"):
+            yield f"{word} {texture} 0 {fault}"
+        for state in (0, self.flags.unknown | self.good, self.incompatible):
+            if state is not None:
+                yield f"{call} {state} {fault}"
+        call = f"{call} {self.other} {fault}"
+        halves = 1 if number < 2 else 2
+        yield from (f"room {number}" + " 0" * halves, call, f"room {number}" + f" {ROOM}" * halves, call)
+        if number >= 2:
+            yield from ("log 0 9 56", call, "log 0 0 0", call)
 
     def cases(self):
         """Every case, numbered."""
         groups = (self.openings, self.damaged, self.rooms, self.logs, self.free_entries, self.flags_differ,
-                  self.textures, self.whole_sets, self.sparse_lists, self.selectors, self.states)
+                  self.textures, self.whole_sets, self.sparse_lists, self.selectors, self.states, self.intervals)
         lines = (case for group in groups for case in group())
         return [[f"case {at}", *case] for at, case in enumerate(lines)]

@@ -20,10 +20,10 @@ CALLS = {"merge_single": 34, "merge_usage_scope": 22, "set_single": 18, "set_fro
 
 
 class Maker:
-    """Makes one case."""
+    """Makes one case. Faulty selectors are drawn from `apart`, so that the other calls do not depend on them."""
 
-    def __init__(self, kind, flags, rng):
-        self.kind, self.flags, self.rng = kind, flags, rng
+    def __init__(self, kind, flags, rng, apart):
+        self.kind, self.flags, self.rng, self.apart = kind, flags, rng, apart
         self.most = SIZES[kind]
         if kind == "limit":
             self.size = rng.choice(LIMITS)
@@ -124,6 +124,7 @@ class Maker:
             sets = self.scopes if word == "merge_single" else self.trackers
             if sets:
                 self.add(self.single(word, self.rng.choice(sets)))
+                self.add_faulty(self.lines[-1])
             return
         to, source = (self.scopes if word.startswith("merge") else self.trackers,
                       self.trackers if word == "set_from_tracker" else self.scopes)
@@ -139,6 +140,13 @@ class Maker:
             written, free = rng.randrange(3), rng.randrange(7)
             self.lines.append(f"log {written} {free} {max(0, 7 * (written + free) + rng.randint(-1, 6))}")
         self.lines.append(line)
+
+    def add_faulty(self, line):
+        """Now and then the same use again, with a selector that one of 16 to 19 refuses."""
+        if self.apart.random() < 0.03:
+            *use, mips, layers, state = line.split(" ")[:6]
+            selected = chance.faulty_selector(self.apart, int(mips), int(layers))
+            self.lines.append(" ".join([*use, mips, layers, state, *map(str, selected)]))
 
     def single(self, word, number):
         rng = self.rng
@@ -161,4 +169,5 @@ class Maker:
 
 def case(kind, name, flags, seed, number):
     """A case depends on nothing but these."""
-    return Maker(kind, flags, random.Random(f"{seed} {name} {kind} {number}")).case(number)
+    rng, apart = (random.Random(f"{seed} {name} {kind} {number}{more}") for more in ("", " faulty"))
+    return Maker(kind, flags, rng, apart).case(number)

@@ -1,6 +1,7 @@
 """Cases for isolate, coalesce and iter_filter: those that are always made, refused ones, and random ones."""
 import random
 
+import chance
 import rangemodel
 
 TOP = 2 ** 32 - 1
@@ -70,22 +71,38 @@ def always():
 
 
 def refused():
-    """Numbers 10, 14 and 15 at their edges, and each before the next."""
+    """Numbers 18, 19, 14 and 15 at their edges, and each before the next."""
     good = ["2 5 2 4 5 6 8 6", "2 4 2 4 5 6 8 6", "1 3 0 8 5", "1 2 0 8 5", "0 0", "0 1"]
     bad = ["3 2 1 2 5 3 4 5", f"{TOP} 1 0 1 5", "1 0", "1 3 3 3 5", "1 3 4 3 5", "2 5 0 2 5 1 3 5", "2 5 4 5 5 0 1 5",
            "3 9 0 2 5 2 3 5 3 3 5", "1 1 3 3 5"]
     for told in good + bad:
         length, lent, *rest = told.split(" ")
-        for index in ("3 7", "7 7"):
+        for index in ("3 7", "7 7", "8 7"):
             yield f"isolate {index} 9 {told}"
             for room in (0, 1, 2):
                 yield " ".join(["iter_filter", index, length, lent, str(room), *rest])
         yield f"coalesce {told}"
-    for index in ("8 7", f"{TOP} {TOP}", f"{TOP} 0", "0 0", f"0 {TOP}"):
+    for index in ("8 7", f"{TOP} {TOP}", f"{TOP} 0", "0 0", f"0 {TOP}", "7 8", "1 0", "0 1", f"{TOP} {TOP - 1}",
+                  f"{TOP - 1} {TOP}"):
         yield from (f"isolate {index} 9 2 5 2 4 5 6 8 6", f"iter_filter {index} 2 2 2 2 4 5 6 8 6")
+        # Beside 14, and beside 15.
+        yield from (f"isolate {index} 9 2 5 6 8 6 2 4 5", f"iter_filter {index} 2 2 2 6 8 6 2 4 5")
+        yield from (f"isolate {index} 9 2 2 2 4 5 6 8 6", f"iter_filter {index} 2 2 0 2 4 5 6 8 6")
+
+
+def random_refused(rng):
+    """Now and then layers of no length, or reversed; the ranges may be refused too."""
+    if rng.random() >= 0.25:
+        return []
+    _, records = random_records(rng)
+    start, end = chance.faulty(rng, 14)
+    shown = text(records if rng.random() < 0.7 else records[::-1])
+    count, spare = len(records), rng.randrange(3)
+    return [f"isolate {start} {end} 9 {count} {count + spare}{shown}",
+            f"iter_filter {start} {end} {count} {count} {spare}{shown}"]
 
 
 def case(seed, number, count):
-    """A case of random calls."""
-    rng = random.Random(f"{seed} ranges {number}")
-    return [f"case {number}"] + [call for _ in range(count) for call in random_calls(rng)]
+    """A case of random calls. The refused ones are drawn apart, so that the others do not depend on them."""
+    rng, apart = (random.Random(f"{seed} ranges {number}{more}") for more in ("", " refused"))
+    return [f"case {number}"] + [call for _ in range(count) for call in random_calls(rng) + random_refused(apart)]
