@@ -21,6 +21,11 @@ UPDATE_MANY_MANY = """                        }
 
                         *current_layer_state = new_state;"""
 
+MIPS, LAYERS = "mip_interval(mip_start, mip_end)", "layer_interval(layer_start, layer_end)"
+PAST = "past(mips, layers, mip_end, layer_end)"
+SELECTED, STATE = "selector(mips, layers, selected)", "state(held.flags, given)"
+RANGED, RANGES = "layer_interval(start, end)", "ranges(length, lent, records)"
+
 # Of the Rust: each must show as a difference from 01's rules.
 RUST = [
     Broken("texture.rs", "Single with Single: the given state replaces",
@@ -73,7 +78,27 @@ RULES = [
     Broken("rangemodel.py", "isolate fills gaps of no length", "if a > at:", "if a >= at:"),
     Broken("rangemodel.py", "coalesce joins across a gap", "out[-1][1:] == (start, state)", "out[-1][2] == state"),
     Broken("rangemodel.py", "iter_filter lists a range that only touches", "and a < end]", "and a <= end]"),
+    Broken("refusals.py", "no layers are reversed", "Refusal(19, 0) if", "Refusal(18, 0) if"),
     Broken("rangemodel.py", "freed records stay", "[(0, 0, 0)] * (used - len(records))", "[]"),
+]
+
+# Of the table, as a program could misread it: here the program reads by a copy of the tools with one rule broken.
+TABLE = [
+    Broken("refusals.py", "mips of no length are told as reversed", "return Refusal(16, 0)", "return Refusal(17, 0)"),
+    Broken("refusals.py", "mips reversed are told as of no length", "Refusal(17, 0) if", "Refusal(16, 0) if"),
+    Broken("refusals.py", "layers of no length are told as 10", "return Refusal(18, 0)", "return Refusal(10, 0)"),
+    Broken("refusals.py", "layers reversed are told as of no length", "Refusal(19, 0) if", "Refusal(18, 0) if"),
+    Broken("refusals.py", "layers before mips", f"{MIPS} or {LAYERS}", f"{LAYERS} or {MIPS}"),
+    Broken("refusals.py", "mips have the layers' numbers", MIPS, MIPS.replace("mip_interval", "layer_interval")),
+    Broken("refusals.py", "layers have the mips' numbers", LAYERS, LAYERS.replace("layer_interval", "mip_interval")),
+    Broken("refusals.py", "an end past the extent before mips", f"{MIPS} or", f"{PAST} or {MIPS} or"),
+    Broken("refusals.py", "an end past the extent before layers", f"or {LAYERS}", f"or {PAST} or {LAYERS}"),
+    Broken("refusals.py", "the state before the selector",
+           f"{SELECTED}\n            or {STATE}", f"{STATE}\n            or {SELECTED}"),
+    Broken("refusals.py", "the calls on ranges have the mips' numbers",
+           f"{RANGED} or", f"{RANGED} or".replace("layer", "mip")),
+    Broken("refusals.py", "the calls on ranges look at the ranges first",
+           f"{RANGED} or {RANGES}", f"{RANGES} or {RANGED}"),
 ]
 
 # What a program could write wrongly: here `old` is any text that answers have.

@@ -10,10 +10,14 @@ import answer
 import batches
 import differ
 import expect
+import refusals
 import rust
 import samples
 import selftest
 from flags import ORACLE
+
+# Of fewer random calls a seed may miss one of the numbers 16 to 19.
+ENOUGH = 5000
 
 
 def arguments():
@@ -43,27 +47,45 @@ def build():
 
 
 def compare_flags(name, calls, seed, readers):
-    """Runs the share of one set of usage flags, up to the first batch that differs: counts, and differences."""
-    flags, count = expect.FLAGS[name], Counter()
+    """Runs the share of one set of usage flags, up to the first batch that differs: the counts of the fixed cases and
+    of the random ones, and differences."""
+    flags, fixed, count = expect.FLAGS[name], Counter(), Counter()
     for cases in batches.fixed(name, flags):
-        found = differ.examine(readers.given(cases), name, readers, count)
+        found = differ.examine(readers.given(cases), name, readers, fixed)
         if found:
-            return count, found
+            return fixed, count, found
     for kind, share in batches.shares(readers.safe).items():
         wanted, done = calls * share // 100, Counter()
         while done["calls"] < wanted:
             cases = batches.random_batch(kind, name, flags, seed, done["cases"], wanted)
             found = differ.examine(readers.given(cases), name, readers, done)
             if found:
-                return count + done, found
+                return fixed, count + done, found
         count += done
-    return count, []
+    return fixed, count, []
 
 
 def line_of(count):
     words = ("cases", "openings", "calls", "refused calls", "conflicts", "calls with transitions",
              "cases too large for the program", "differences")
     return ", ".join(f"{count[word]:,} {word}" for word in words)
+
+
+def refusals_met(fixed, random, wanted):
+    """Tells how often each number was met; whether none is missing. `wanted`: of the fixed cases, and of the random."""
+    missing = []
+    for name, count, numbers in zip(("fixed", "random"), (fixed, random), wanted):
+        met = ", ".join(f"{number}: {count[number]:,}" for number in refusals.NUMBERS if count[number])
+        print(f"refused in {name} cases: {met or 'none'}")
+        missing += [f"MISSING: no {name} case is refused with {number}" for number in numbers if not count[number]]
+    print("\n".join(missing), end="\n" if missing else "")
+    return not missing
+
+
+def wanted_numbers(names, calls, safe):
+    """What a run must meet. Only with the bench flags every number can arise, and has its fixed cases."""
+    table = [number for number in refusals.NUMBERS if "bench" in names and not (safe and number in refusals.STORAGE)]
+    return table, refusals.INTERVALS if calls >= ENOUGH else ()
 
 
 def samples_hold(readers):
@@ -101,19 +123,21 @@ def tell(difference, readers):
 
 
 def compare(names, calls, seed, readers):
-    """Whether no difference was found."""
-    begin, total, all_found = time.monotonic(), Counter(), []
+    """Whether no difference was found, and every refusal met that had to be."""
+    begin, all_fixed, all_random, all_found = time.monotonic(), Counter(), Counter(), []
     for name in names:
-        count, found = compare_flags(name, calls // len(names), seed, readers)
-        count["differences"] = len(found)
-        print(f"{name}: {line_of(count)}", flush=True)
-        total += count
+        fixed, random, found = compare_flags(name, calls // len(names), seed, readers)
+        fixed["differences"] = len(found)
+        print(f"{name}: {line_of(fixed + random)}", flush=True)
+        all_fixed += fixed
+        all_random += random
         all_found += found
-    seconds = time.monotonic() - begin
+    seconds, total = time.monotonic() - begin, all_fixed + all_random
     print(f"in all: {line_of(total)}; {seconds:.1f} seconds, {total['calls'] / seconds:,.0f} calls a second")
     if all_found:
         tell(min(all_found, key=lambda found: len(found.lines)), readers)
-    return not all_found
+        return False
+    return refusals_met(all_fixed, all_random, wanted_numbers(names, calls, readers.safe))
 
 
 def main():

@@ -32,7 +32,7 @@ class Readers(NamedTuple):
 
 
 def examine(cases, name, readers, count):
-    """The first difference in each case that has one. Counts calls and what became of them."""
+    """The first difference in each case that has one. Counts calls, what became of them, and each refusal's number."""
     try:
         run = expect.run_cases(cases, name, readers.driver)
     except rust.Ended as error:
@@ -62,6 +62,7 @@ def count_calls(steps, count):
             continue
         if isinstance(step.verdict.answer, Refusal):
             count["refused calls"] += 1
+            count[step.verdict.answer.number] += 1
             continue
         count["openings" if step.line.startswith("open_") else "calls"] += 1
         count["conflicts"] += isinstance(step.verdict.answer, Conflict)

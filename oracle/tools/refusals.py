@@ -11,6 +11,9 @@ class Refusal(NamedTuple):
     place: int
 
 
+# In the table's order; then those of the intervals, and those that need storage of the caller's.
+NUMBERS = [*range(1, 10), 16, 17, 18, 19, *range(11, 16)]
+INTERVALS, STORAGE = (16, 17, 18, 19), (3, 4, 5, 14)
 LIMIT_TEXTURES, LIMIT_MIPS, LIMIT_LAYERS = 64, 16, 256
 RANGE_NUMBERS, ENTRY_NUMBERS = 3, 7
 

@@ -51,8 +51,8 @@ def with_edit(path, rule, run):
 
 
 def reported(status, text):
-    """Status 1 and a smallest case: anything else is a fault of the comparison itself."""
-    return status == 1 and "smallest differing case" in text
+    """Status 1 and a smallest case, or a refusal that is missing: anything else is a fault of the comparison itself."""
+    return status == 1 and ("smallest differing case" in text or "MISSING: no fixed case is refused" in text)
 
 
 def build_and_compare(copy):
@@ -70,10 +70,13 @@ def spoiled_program(copy, rule):
     return compare(copy, "--program", str(path))
 
 
-def attempts(copy):
-    """Each broken rule, and what compare says."""
+def attempts(copy, other):
+    """Each broken rule, and what compare says. `other`: a second copy, by which a program reads."""
     for rule in broken.RULES:
         yield rule, with_edit(copy / "tools" / rule.file, rule, lambda: compare(copy))
+    for rule in broken.TABLE:
+        program = str(other / "tools" / "answer.py")
+        yield rule, with_edit(other / "tools" / rule.file, rule, lambda: compare(copy, "--program", program))
     for rule in broken.PROGRAM:
         yield rule, spoiled_program(copy, rule)
     for rule in broken.RUST:
@@ -108,6 +111,7 @@ def main():
         if status != 0:
             print(f"differences without any breakage:\n{text}")
             return 1
-        results = [tell(*attempt) for attempt in attempts(copy)]
+        other = copy_oracle(pathlib.Path(folder) / "other")
+        results = [tell(*attempt) for attempt in attempts(copy, other)]
     print(f"self-test: {sum(results)} of {len(results)} broken rules reported")
     return 0 if all(results) else 1
