@@ -1,15 +1,14 @@
 -- Demand 3, from sets that are good: what holds of one texture in a scope and in a tracker is handed to the lifting of LiftCalls, for every
 -- list of calls.
-use Rattle.model.specs.Prelude.{ℕ, zero, suc, _-_, _+_, _≤_, _<_, arith, _≡_, refl, sym, ap, _∙_, Bool, true, false, and-eq-true-iff, _||_}
-use Rattle.model.specs.Prelude.{false≢true, Option, none, some, Option·map, [], _∷_, _++_, append-nil, List, map, ltb, eqb, bitAnd, bitOr}
-use Rattle.model.specs.Prelude.{replicate, getD, eqb-true, ltb-true, ltb-false, not-false, le-leb, lt-ltb}
+use Rattle.model.specs.Prelude.{ℕ, zero, suc, _-_, _+_, _≤_, _<_, arith, _≡_, refl, sym, ap, _∙_, Bool, true, false, and-eq-true-iff}
+use Rattle.model.specs.Prelude.{false≢true, Option, none, some, Option·map, [], _∷_, append-nil, List, map, eqb, bitAnd, bitOr, replicate}
+use Rattle.model.specs.Prelude.{getD, eqb-true, not-false, le-leb, lt-ltb}
 use Rattle.model.specs.declared.{Extent.Extent, InvalidUse.InvalidUse, Selector.Selector, UsageFlags.UsageFlags}
 use Rattle.model.specs.{Base.{if_then_else_, ruled, orKeep, passes}, Representation.{isFull, Ends, full}}
-use Rattle.model.specs.Sets.{Head, outside, Slot, Set, Tracker, Opening}
-use Rattle.model.specs.Refusals.{textureChecks, selectorChecks, stateChecks, singleRefusal}
+use Rattle.model.specs.{Sets.{Head, outside, Slot, Set, Tracker, Opening}, Refusals.{textureChecks, selectorChecks, singleRefusal}}
 use Rattle.model.specs.Texture.{Held, single, many, Given, givenSingle, givenMany, fromUse, fromHeld, ranged, Entry, merge, invalidUse}
-use Rattle.model.specs.{Texture.{spreadPiece, freshMips}, Subresources.everywhere, ListLaws.{all-left, all-right}}
-use Rattle.model.specs.{BoolLaws.{neither, by-test, and-left}, CheckLaws.{passed, inside, Passed}, Flags.{meets, isBit, apart, flagsFit}}
+use Rattle.model.specs.{Texture.{spreadPiece, freshMips}, Subresources.everywhere, BoolLaws.{neither, by-test, and-left}}
+use Rattle.model.specs.{CheckLaws.{inside, Passed, selector-within, single-passed}, Flags.{meets, isBit, apart, flagsFit}}
 use Rattle.model.specs.Calls.{Answer, done, refused, inConflict, CallResult, Call, callMergeSingle, callMergeUsageScope, callSetSingle}
 use Rattle.model.specs.Calls.{callSetFromUsageScope, callSetFromTracker, callSetAndRemoveSparse, Sets, step, newly}
 use Rattle.model.specs.StateRules.{Move, invalidState, unite}
@@ -60,9 +59,7 @@ use-gives sh (some q) st t = go (isFull sh q) refl
         { single = b; states = tab (namedRow sh q st) 0 (sh .mips) })
     go true e = rw (full-grid sh q st e) gives-one
     go false e =
-        let h = and-eq-true-iff _ _ .0 (not-false _ (t .0)) in
-        let g = neither (ltb (sh .mips) (q .mips .end .0)) (ltb (sh .layers) (q .layers .end .0)) (t .1 .0) in
-        gives-place (ltb-true _ _ (h .1)) (ltb-false _ _ (g .1)) (ltb-true _ _ (h .0)) (ltb-false _ _ (g .0))
+        let w = selector-within sh q t in gives-place (w .span) (w .in-layers) (w .order) (w .in-mips)
 
 held-gives : (sh : Extent) (h : Held) → Fit sh h → Measured sh × Gives sh (fromHeld h) (namedAll (gridOf sh h))
 unfolding gridOf
@@ -82,11 +79,8 @@ pub textures : Textures ranged grid gridOf firstOf WordP FitP GivesP
 unfolding gridOf
 textures = record {
   fresh = λ n. refl;
-  used = λ h i sh sel st z w e. let c = passed _ e in
-      let t = all-left _ (textureChecks h i sh ++ selectorChecks sh sel) (stateChecks (h .flags) st) c in (
-        measured h i sh (all-left _ (textureChecks h i sh) (selectorChecks sh sel) t),
-        use-gives sh sel st (all-right _ (textureChecks h i sh) (selectorChecks sh sel) t),
-      );
+  used = λ h i sh sel st z w e.
+      let c = single-passed h i sh sel st e in (measured h i sh (c .texture), use-gives sh sel st (c .selector));
   passed-on = λ p sh h f. held-gives sh h f;
   inserted = λ p sh g n r. inserted p sh g n (r .0) (r .1);
   merged = λ p sh h g n r f. merged p sh h g n (r .1) f;
@@ -128,14 +122,11 @@ used : (h : Head) (i : ℕ) (sh : Extent) (sel : Option Selector) (st : ℕ) →
     → GivesC (h .flags) sh (fromUse sh sel st) (namedUse sh sel st)
 used h i sh sel st s e =
     let g = textures .used h i sh sel st s tt e in
-    let t = all-right _ (textureChecks h i sh ++ selectorChecks sh sel) (stateChecks (h .flags) st) (passed _ e) in
-    let o = neither (eqb st 0 || meets st (h .flags .unknown)) (meets st (h .flags .complex)) (t .0) in
-    let u = neither (eqb st 0) (meets st (h .flags .unknown)) (o .0) in
     record {
       sure = known-flags (h .flags) s;
       measured = g .0;
       gives = g .1;
-      clear = clear-use (h .flags) sh sel st (clear-state (h .flags) st (u .1));
+      clear = clear-use (h .flags) sh sel st (clear-state (h .flags) st (single-passed h i sh sel st e .state .known));
     }
 
 clear-held : (p : UsageFlags) (h : Held) → ClearHeld p h → ClearGiven p (fromHeld h)

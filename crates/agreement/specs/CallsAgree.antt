@@ -1,11 +1,10 @@
 -- Texture by texture, and call by call from any well-formed sets: ranged and grid share what demand 3 lists, what is well formed stays so,
 -- and both refuse alike.
-use Rattle.model.specs.Prelude.{_<_, ℕ, arith, _≡_, refl, sym, ap, _∙_, _↔_, true, and-eq-true-iff, Option, none, some, List, [], _∷_}
-use Rattle.model.specs.Prelude.{not-true}
+use Rattle.model.specs.Prelude.{_<_, ℕ, arith, _≡_, refl, sym, ap, _∙_, _↔_, true, and-eq-true-iff, Option, List, [], _∷_}
 use Rattle.model.specs.declared.{Extent.Extent, InvalidUse.InvalidUse, Refusal.Refusal, Selector.Selector, UsageFlags.UsageFlags}
 use Rattle.model.specs.{Flags.flagsFit, Representation.Ends, Refusals.selectorChecks, Texture.{Held, insert, merge, update, ranged}}
-use Rattle.model.specs.{WellFormed.{singleFits, heldFits, endsFit, scopeFits, trackerFits}, CheckLaws.Passed, Base.{every, All}}
-use Rattle.model.specs.{Sets.{Tracker, Opening}, Calls.{Answer, done, refused, inConflict, Call, Sets, step, newly}}
+use Rattle.model.specs.{WellFormed.{singleFits, heldFits, endsFit, scopeFits, trackerFits}, CheckLaws.{Passed, passed, accepted-none}}
+use Rattle.model.specs.{Base.{every, All}, Sets.{Tracker, Opening}, Calls.{Answer, done, refused, inConflict, Call, Sets, step, newly}}
 use Rattle.model.specs.ListLaws.{every-all, all-every, all-weak}
 use Rattle.agreement.specs.Grid.{SubresourceConflict, grid}
 use Rattle.agreement.specs.Shared.{Use, ofSelector, ofTexture, rangedUse, gridUse, selectorFits, useFits, TextureShares, toGrids}
@@ -19,8 +18,7 @@ use Rattle.agreement.specs.WellLaws.{opened-well-formed}
 use Rattle.agreement.specs.Decides.{single-to, held-to, held-from, ends-to, ends-from, scope-to, scope-from, tracker-to, tracker-from}
 
 selector-passed : (sh : Extent) (sel : Option Selector) → selectorFits sh sel ≡ true → Passed (selectorChecks sh sel)
-selector-passed sh none e = tt
-selector-passed sh (some q) e = let a = and-eq-true-iff _ _ .0 e in (not-true _ (a .0), (not-true _ (a .1), tt))
+selector-passed sh sel e = passed _ (accepted-none _ e)
 
 module _ (p : UsageFlags) (sh : Extent) (flags : flagsFit p ≡ true) (some-mips : 0 < sh .mips) (some-layers : 0 < sh .layers) where
   sure : FlagFacts p

@@ -8,7 +8,7 @@ use Rattle.model.specs.{Flags.flagsFit, Representation.Ends, Sets.{Slot, Set, T
 use Rattle.model.specs.Refusals.{numberOf, trackerIndex, singleRefusal}
 use Rattle.model.specs.{Calls.{Indexed, refused, Call, callMergeSingle, Sets, step, newly}, RangedStates.{Tiles, isolate, listOf}}
 use Rattle.model.specs.{RangeCalls.ascends, Texture.{Held, Entry, ranged}, WellFormed.{scopeFits, trackerFits}}
-use Rattle.model.specs.{Log.{Log, pending, headCheck, logging}, RangeLaws.isolate-few}
+use Rattle.model.specs.{Log.{Log, pending, headCheck, logging}, RangeLaws.isolate-few, CheckLaws.never-ten}
 use Rattle.agreement.specs.{Grid.grid, Shared.{toGrids, Use, useFits, TextureShares, Shares, Agree, Demand3, afterCalls}}
 use Rattle.agreement.specs.WellFormedSets.{wellFormed, Word, GivenWord}
 use Rattle.agreement.specs.{LogBound.{entries, namedStates, capacityOf, ownedOf, listed}, Layers.{covered, lengths, AddUp}}
@@ -64,6 +64,10 @@ refusals = refused-alike
 pub own : (c : Call) (k : Sets ranged) (r : Refusal) → step ranged c k .answer ≡ refused r
     → listed (numberOf r) (1 ∷ 2 ∷ 3 ∷ 4 ∷ 5 ∷ 14 ∷ 15 ∷ []) ≡ false
 own = own-refusals ranged
+
+-- "10 is never given again": whatever is refused, by an opening, a call or a call on ranges, has another number
+pub retired : (r : Refusal) → numberOf r ≡ 10 → ⊥
+retired = never-ten
 
 -- ---- Ranges
 -- "A strip's ranges never outnumber the layers it covers": any ascending list of nonempty ranges, gaps allowed, that ends at w or before

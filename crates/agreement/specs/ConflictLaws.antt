@@ -1,14 +1,12 @@
 -- A single merge conflicts just where the uses of some named subresource, with the given one, do not fit.
 use Rattle.model.specs.Prelude.{ℕ, zero, suc, _≤_, _<_, arith, _≡_, refl, sym, ap, _∙_, Bool, true, false, _&&_, _||_, not, and-eq-true-iff}
 use Rattle.model.specs.Prelude.{false≢true, Option, none, some, Option·map, List, [], _∷_, _++_, map, leb, ltb, eqb, bitOr, or-zero-r}
-use Rattle.model.specs.Prelude.{replicate, getD, getD-replicate, List·getD-map, not-false, leb-true, ltb-true, ltb-false, le-leb, lt-ltb}
-use Rattle.model.specs.Prelude.{not-true}
+use Rattle.model.specs.Prelude.{replicate, getD, getD-replicate, List·getD-map, leb-true, ltb-true, le-leb, lt-ltb, not-true}
 use Rattle.model.specs.declared.{Extent.Extent, Selector.Selector, UsageFlags.UsageFlags}
 use Rattle.model.specs.{Base.{if_then_else_, Stop, ruled, orKeep, onward, walk₂, All, AllO}, Flags.incompatible}
-use Rattle.model.specs.{Representation.{inMips, holds, full}, Sets.{Slot, Set, headOf, slotAt}}
-use Rattle.model.specs.{Refusals.{textureChecks, selectorChecks, stateChecks, singleRefusal}, Calls.{Indexed, answer, mergeSingle}}
-use Rattle.model.specs.{ListLaws.{all-left, all-right, all-join, all-getD, all-both}, BoolLaws.{neither, by-test}}
-use Rattle.model.specs.CheckLaws.{passed, Passed}
+use Rattle.model.specs.{Representation.{inMips, holds, full}, Sets.{Slot, Set, headOf, slotAt}, Refusals.{selectorChecks, singleRefusal}}
+use Rattle.model.specs.{Calls.{Indexed, answer, mergeSingle}, ListLaws.{all-join, all-getD, all-both}, BoolLaws.by-test}
+use Rattle.model.specs.CheckLaws.{Passed, selector-within, SinglePassed, single-passed}
 use Rattle.agreement.specs.{Grid.{SubresourceConflict, without, singleUnion, manyUnion, namedUse}, WellFormedSets.Word}
 use Rattle.agreement.specs.LogBound.{oneIf}
 use Rattle.agreement.specs.WebGpu.{History, Histories, usesFit, oneUse, handUse, takeState, takeStates, historyMerge, histories}
@@ -200,11 +198,7 @@ abbrev Good-selector : Extent → Option Selector → Type 0
 Good-selector sh sel = Passed (selectorChecks sh sel)
 
 inner : (sh : Extent) (q : Selector) → Good-selector sh (some q) → (q .layers .start .0 < q .layers .end .0) × (q .mips .end .0 ≤ sh .mips)
-inner sh q t =
-    let a = and-eq-true-iff (ltb (q .mips .start .0) (q .mips .end .0))
-    (ltb (q .layers .start .0) (q .layers .end .0)) .0 (not-false _ (t .0)) in
-    let b = neither (ltb (sh .mips) (q .mips .end .0)) (ltb (sh .layers) (q .layers .end .0)) (t .1 .0) in
-    (ltb-true _ _ (a .1), ltb-false _ _ (b .0))
+inner sh q t = let w = selector-within sh q t in (w .span, w .in-mips)
 
 named-names : (sh : Extent) (sel : Option Selector) (st m l : ℕ) → Good-selector sh sel
     → isNamed (getD (getD (namedUse sh sel st .states) m []) l none) ≡ true → Names sh sel m l
@@ -322,14 +316,11 @@ conflict-unfit s i sh sel st w word e =
     u : UseFits p st
     u = use-state (headOf s) i sh sel st word e
 
-    checks : Good-selector sh sel
-    checks = all-right _ (textureChecks (headOf s) i sh) (selectorChecks sh sel)
-        (all-left _ (textureChecks (headOf s) i sh ++ selectorChecks sh sel) (stateChecks p st) (passed _ e))
+    checks : SinglePassed (headOf s) i sh sel st
+    checks = single-passed (headOf s) i sh sel st e
 
     alone : usesFit p (st ∷ []) ≡ true
-    alone =
-        let c = all-right _ (textureChecks (headOf s) i sh ++ selectorChecks sh sel) (stateChecks p st) (passed _ e) .1 .0 in
-        fits-union p (st ∷ []) (u, tt) ∙ rw (or-zero-r st, c)
+    alone = fits-union p (st ∷ []) (u, tt) ∙ rw (or-zero-r st, checks .state .fits)
 
     C : Option SubresourceConflict
     C = historyMerge p sh (slot .held) (handUse sh sel st) .conflict
@@ -347,6 +338,6 @@ conflict-unfit s i sh sel st w word e =
         let t = slot-fits TiedHeld s (histories .fresh 0) i w .held o in
         let tied : TiedHeld p sh (slot .held) = record { sure = t .sure; states = t .states; clear = t .clear } in
         let h = merge-unfit p sh sel st (slot .held) tied u in (
-          λ c. unfit-of o (any-unfit p (slot .held .states) sh sel st checks (sym h ∙ conflicted-has i C c)),
-          λ x. has-conflicted i C (h ∙ unfit-any p (slot .held .states) sh sel st checks alone (of-unfit o x)),
+          λ c. unfit-of o (any-unfit p (slot .held .states) sh sel st (checks .selector) (sym h ∙ conflicted-has i C c)),
+          λ x. has-conflicted i C (h ∙ unfit-any p (slot .held .states) sh sel st (checks .selector) alone (of-unfit o x)),
         )

@@ -1,12 +1,12 @@
 -- Scopes with their histories: their states are the grid's, and each subresource's state less UNKNOWN is the union of the uses that it has
 -- taken.
-use Rattle.model.specs.Prelude.{ℕ, zero, suc, _-_, _+_, _*_, _/_, _%_, arith, _≡_, refl, sym, ap, ap₂, _∙_, Bool, true, false, _||_}
-use Rattle.model.specs.Prelude.{false≢true, Option, none, some, Option·map, List, [], _∷_, _++_, map, eqb, and-step, or-step, and-le-r}
-use Rattle.model.specs.Prelude.{bitAnd, bitOr, and-comm, and-self, or-zero-r, getD, eqb-true, eqb-false, not-false}
+use Rattle.model.specs.Prelude.{ℕ, zero, suc, _-_, _+_, _*_, _/_, _%_, arith, _≡_, refl, sym, ap, ap₂, _∙_, Bool, true, false, false≢true}
+use Rattle.model.specs.Prelude.{Option, none, some, Option·map, List, [], _∷_, _++_, map, eqb, and-step, or-step, and-le-r, bitAnd, bitOr}
+use Rattle.model.specs.Prelude.{and-comm, and-self, or-zero-r, getD, eqb-true, not-false}
 use Rattle.model.specs.declared.{Extent.Extent, Selector.Selector, UsageFlags.UsageFlags}
-use Rattle.model.specs.{Base.{if_then_else_, Stop, ruled, orKeep, onward, walk₂, All, AllO}, Flags.{meets, incompatible, flagsFit}}
-use Rattle.model.specs.{Representation.Ends, Sets.Head, Refusals.{textureChecks, selectorChecks, stateChecks, singleRefusal}}
-use Rattle.model.specs.{StateRules.less, ListLaws.{all-right, all-join}, BoolLaws.{neither, by-test₂}, CheckLaws.passed}
+use Rattle.model.specs.{Base.{if_then_else_, Stop, ruled, orKeep, onward, walk₂, All, AllO}, Flags.{incompatible, flagsFit}}
+use Rattle.model.specs.{Representation.Ends, Sets.Head, Refusals.singleRefusal, StateRules.less, ListLaws.all-join, BoolLaws.by-test₂}
+use Rattle.model.specs.CheckLaws.{single-passed}
 use Rattle.agreement.specs.Grid.{Grid, Named, SubresourceConflict, without, singleUnion, manyUnion, uniteState, uniteStates, namedOr}
 use Rattle.agreement.specs.{Grid.{namedUse, namedAll, gridInsert, gridMerge, gridBarrier, gridUpdate, grid}, Shared.gridAt}
 use Rattle.agreement.specs.WellFormedSets.{Word}
@@ -262,10 +262,8 @@ grid-states = grid-back (Option·map oneUse) statesO one
 pub use-state : (h : Head) (i : ℕ) (sh : Extent) (sel : Option Selector) (st : ℕ) → Word st
     → singleRefusal h i sh sel st ≡ none → UseFits (h .flags) st
 use-state h i sh sel st w e =
-    let t = all-right _ (textureChecks h i sh ++ selectorChecks sh sel) (stateChecks (h .flags) st) (passed _ e) in
-    let o = neither (eqb st 0 || meets st (h .flags .unknown)) (meets st (h .flags .complex)) (t .0) in
-    let u = neither (eqb st 0) (meets st (h .flags .unknown)) (o .0) in
-    record { nonzero = eqb-false st 0 (u .0); word = w; known = eqb-true (bitAnd st (h .flags .unknown)) 0 (not-false _ (u .1)) }
+    let c = single-passed h i sh sel st e .state in
+    record { nonzero = c .nonzero; word = w; known = eqb-true (bitAnd st (h .flags .unknown)) 0 (not-false _ (c .known)) }
 
 pub hand-all : (P : ℕ → Type 0) (Q : History → Type 0) → ((x : ℕ) → P x → Q (oneUse x)) → (g : List (List (Option ℕ))) → GridAll (AllO P) g
     → GridAll (AllO Q) (map (map (Option·map oneUse)) g)

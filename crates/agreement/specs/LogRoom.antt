@@ -3,19 +3,19 @@
 use Rattle.model.specs.Prelude.{ℕ, zero, suc, _+_, _*_, _≤_, _<_, le-trans, zero-add, mul-le-mul, mul-assoc, suc-mul, ℕ-discrete, arith}
 use Rattle.model.specs.Prelude.{_≡_, refl, _∙_, sym, ap, Bool, true, false, _&&_, and-eq-true-iff, false≢true, true≢false, Option, none}
 use Rattle.model.specs.Prelude.{some, List, [], _∷_, _++_, map, ltb, eqb, length, getD, set, getElem?, length-append, length-map, le-leb}
-use Rattle.model.specs.Prelude.{lt-ltb, ltb-true, eq-eqb, ne-eqb, not-false, ltb-false, le-ltb}
+use Rattle.model.specs.Prelude.{lt-ltb, ltb-true, eq-eqb, ne-eqb, le-ltb}
 use Rattle.model.specs.declared.Refusal.the-variants.{NoFreeEntry}
 use Rattle.model.specs.declared.{Extent.Extent, InvalidUse.InvalidUse, Range.Range, Selector.Selector, UsageFlags.UsageFlags}
 use Rattle.model.specs.{Base.{if_then_else_, eachAt₂, zip₂, All}, Representation.{select, full, inMips, holds, Ends}}
 use Rattle.model.specs.{StateRules.{Move, moveOf}, RangedStates.{iterFilter, Tiles}}
 use Rattle.model.specs.Texture.{Held, single, many, Given, givenSingle, givenMany, Piece, Entry, entry, mipEntries, barrier, ranged}
-use Rattle.model.specs.{Texture.{fromUse, fromHeld}, ListLaws.{all-each, all-eachAt, elem-of}, BoolLaws.{by-test, by-test₂, neither}}
+use Rattle.model.specs.{Texture.{fromUse, fromHeld}, ListLaws.{all-each, all-eachAt, elem-of}, BoolLaws.{by-test, by-test₂}}
 use Rattle.model.specs.{RangeLaws.tiles-le, Sets.{Numbers, Slot, Set, Tracker, headOf, emptySlot, slotAt, capacity}}
 use Rattle.model.specs.Refusals.{singleRefusal, setRefusal, sparseRefusal, check}
 use Rattle.model.specs.Calls.{Indexed, CallResult, setSlot, logSlot, setSingle, logGiven, setFrom, noEnds, sparseAll, setAndRemoveSparse}
 use Rattle.model.specs.Calls.{Call, callMergeSingle, callMergeUsageScope, callSetSingle, callSetFromUsageScope, callSetFromTracker}
 use Rattle.model.specs.Calls.{callSetAndRemoveSparse, Sets, into, with₁, with₂, withScopes, withTrackers, mergeSingle, mergeUsageScope}
-use Rattle.model.specs.{Calls.{step, Answer, done, refused, inConflict}, CheckLaws.passed}
+use Rattle.model.specs.{Calls.{step, Answer, done, refused, inConflict}, CheckLaws.{selector-within, single-passed}}
 use Rattle.model.specs.Log.{Log, pendingOf, pending, headCheck, unlessLogged, refusalOf, added, logging}
 use Rattle.agreement.specs.Grid.{Named, Grid, namedTransition, gridBarrier, namedUse, namedAll, grid, tab, namedRow}
 use Rattle.agreement.specs.{Shared.{entriesAt, gridOf, gridEnds, toList, gridAt}, WellFormedSets.{Word, GivenWord, wellFormed}}
@@ -278,17 +278,14 @@ single-few : (t : Tracker Held) (i : ℕ) (sh : Extent) (sel : Selector) (st : �
 single-few t i sh sel st word w =
     unless-by (Within (countStates sh (holds sel)) (ownedStates (t .set .slots))) (singleRefusal (headOf (t .set)) i sh (some sel) st)
     (λ r. (omega arith, omega arith)) λ e.
-    let checks = passed _ e in let a = fromUse sh (some sel) st in let b = namedUse sh (some sel) st in let slot =
+    let q = selector-within sh sel (single-passed (headOf (t .set)) i sh (some sel) st e .selector) in let a = fromUse sh (some sel) st in
+    let b = namedUse sh (some sel) st in let slot =
     slotAt (noEnds ranged) (t .set) i in
     let r = trackers-well .used (headOf (t .set)) i sh (some sel) st (w .flags) word e in
     let x = slot-fits FitEW (t .set) (noEnds ranged) i w in let y = single-at (t .set) (noEnds ranged) i sh (some sel) st e in
     let few = slot-few (t .set .numbers) (t .set .flags) (t .mask) sh a b a b i slot r x y in
-    let ten = and-eq-true-iff (ltb (sel .mips .start .0) (sel .mips .end .0)) (ltb (sel .layers .start .0) (sel .layers .end .0)) .0
-    (not-false _ (checks .1 .1 .1 .0)) in
-    let eleven = neither (ltb (sh .mips) (sel .mips .end .0)) (ltb (sh .layers) (sel .layers .end .0)) (checks .1 .1 .1 .1 .0) in
     let same = state-eq sh (λ m l. oneIf (namedAt b m l)) (λ m l. oneIf (holds sel m l))
-    (λ m l. use-named sh sel st m l (ltb-true (sel .layers .start .0) (sel .layers .end .0) (ten .1))
-    (ltb-false (sh .mips) (sel .mips .end .0) (eleven .0))) in (
+    (λ m l. use-named sh sel st m l (q .span) (q .in-mips)) in (
       omega arith,
       le-trans (slot-most (t .set .numbers) (t .set .flags) (t .mask) sh a b a b i slot r x y .1)
           (slot-in (noEnds ranged) (t .set .slots) i),

@@ -40,7 +40,7 @@ texture-own h i sh = (refl, (refl, (refl, tt)))
 
 selector-own : (sh : Extent) (sel : Option Selector) → OwnChecks (selectorChecks sh sel)
 selector-own sh none = tt
-selector-own sh (some q) = (refl, (refl, tt))
+selector-own sh (some q) = (refl, (refl, (refl, (refl, (refl, tt)))))
 
 state-own : (p : UsageFlags) (st : ℕ) → OwnChecks (stateChecks p st)
 state-own p st = (refl, (refl, tt))

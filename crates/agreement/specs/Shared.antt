@@ -1,10 +1,9 @@
 -- What the ranged and the grid representation share: of one texture, after one call, and demand 3, after each call of a list on sets newly
 -- opened alike.
-use Rattle.model.specs.Prelude.{ℕ, _≤_, _≡_, Bool, true, false, _&&_, not, Option, none, some, Option·map, List, [], _∷_, map, eqb, getD}
-use Rattle.model.specs.Prelude.{length}
+use Rattle.model.specs.Prelude.{ℕ, _≤_, _≡_, Bool, true, false, _&&_, Option, none, some, Option·map, List, [], _∷_, map, eqb, getD, length}
 use Rattle.model.specs.declared.{Extent.Extent, InvalidUse.InvalidUse, Selector.Selector, UsageFlags.UsageFlags}
 use Rattle.model.specs.{Base.{if_then_else_, each}, Representation.{mipStart, layerStart, holds, Ends, Representation}}
-use Rattle.model.specs.{Sets.{Slot, Set, Tracker, Opening}, Refusals.{selectorEmpty, selectorPast}}
+use Rattle.model.specs.{Sets.{Slot, Set, Tracker, Opening}, Refusals.{firstFailing, accepted, selectorChecks}}
 use Rattle.model.specs.{Calls.{Indexed, Answer, done, refused, inConflict, CallResult, Call, Sets, step, newly}, StateRules.Move}
 use Rattle.model.specs.RangedStates.{layerStates}
 use Rattle.model.specs.Texture.{Held, single, many, Given, fromUse, fromHeld, insert, merge, Entry, barrier, update, ranged}
@@ -114,12 +113,11 @@ abbrev pub gridUse : Extent → Use → Named
 gridUse sh (ofSelector sel st) = namedUse sh sel st
 gridUse sh (ofTexture h) = namedAll (gridOf sh h)
 
--- what 10 and 11 let through
+-- what 16 to 19 and 11 let through
 abbrev pub selectorFits : Extent → Option Selector → Bool
-selectorFits sh none = true
-selectorFits sh (some q) = not (selectorEmpty q) && not (selectorPast sh q)
+selectorFits sh sel = accepted (firstFailing (selectorChecks sh sel))
 
--- a use that passes: what 10 to 13 let through, of sixteen bits; a texture that is well formed
+-- a use that passes: what 16 to 19 and 11 to 13 let through, of sixteen bits; a texture that is well formed
 abbrev pub useFits : UsageFlags → Extent → Use → Bool
 useFits p sh (ofSelector sel st) = selectorFits sh sel && singleFits p st
 useFits p sh (ofTexture h) = heldFits p sh h

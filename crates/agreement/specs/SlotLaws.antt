@@ -1,14 +1,13 @@
 -- A set slot by slot: what the checks tell of an index, what holds of every slot, and the set seen through a view of what its slots hold.
 use Rattle.model.specs.Prelude.{ℕ, suc, _+_, zero-add, add-suc, suc-add, add-zero, _≡_, refl, sym, ap, _∙_, true, false, false≢true, Option}
-use Rattle.model.specs.Prelude.{none, some, List, [], _∷_, _++_, map, length, length-set, length-replicate, replicate, getD, set}
-use Rattle.model.specs.Prelude.{List·getD-map, not-false}
+use Rattle.model.specs.Prelude.{none, some, List, [], _∷_, map, length, length-set, length-replicate, replicate, getD, set, List·getD-map}
+use Rattle.model.specs.Prelude.{not-false}
 use Rattle.model.specs.{declared.{Extent.Extent, Refusal.Refusal, Selector.Selector, UsageFlags.UsageFlags}, Base.{eachAt, All}}
 use Rattle.model.specs.Representation.{Ends}
 use Rattle.model.specs.Sets.{Numbers, Slot, Set, Tracker, Head, Opening, headOf, ownExtent, emptySlot, slotAt, outside, withSlots, openSet}
-use Rattle.model.specs.Refusals.{textureChecks, ownedChecks, selectorChecks, stateChecks, singleRefusal, setRefusal, opens}
-use Rattle.model.specs.{Calls.{CallResult, unless, turnedAway}, BoolLaws.neither}
-use Rattle.model.specs.ListLaws.{all-weak, all-left, all-right, all-getD, all-set, all-replicate, map-replicate}
-use Rattle.model.specs.CheckLaws.{Passed, passed, inside, own-extent, same-flags}
+use Rattle.model.specs.{Refusals.{textureChecks, ownedChecks, singleRefusal, setRefusal, opens}, Calls.{CallResult, unless, turnedAway}}
+use Rattle.model.specs.{BoolLaws.neither, ListLaws.{all-weak, all-left, all-right, all-getD, all-set, all-replicate, map-replicate}}
+use Rattle.model.specs.CheckLaws.{Passed, passed, inside, own-extent, same-flags, single-passed}
 use Rattle.agreement.specs.{Shared.gridSlots, Fits.{ExtentFits, SlotFits, SetFits}, OpeningLaws.{opened-numbers, opened-fits}}
 
 -- ---- a call and its refusal
@@ -112,9 +111,8 @@ texture-at h i s sh d c =
 pub single-at : {H : Type 0} (s : Set H) (h : H) (i : ℕ) (sh : Extent) (sel : Option Selector) (st : ℕ)
     → singleRefusal (headOf s) i sh sel st ≡ none → At (s .numbers) (slotAt h s i) sh
 single-at s h i sh sel st e =
-    let t = all-left _ (textureChecks (headOf s) i sh ++ selectorChecks sh sel) (stateChecks (s .flags) st) (passed _ e) in
     texture-at (headOf s) i (slotAt h s i) sh (List·getD-map ownExtent (s .slots) i (emptySlot h))
-    (all-left _ (textureChecks (headOf s) i sh) (selectorChecks sh sel) t)
+    (single-passed (headOf s) i sh sel st e .texture)
 
 -- 6: two sets have the same flags
 pub flags-same : {H G : Type 0} (s : Set H) (g : Set G) → setRefusal (headOf s) (headOf g) ≡ none → s .flags ≡ g .flags

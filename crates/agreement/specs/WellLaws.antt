@@ -1,13 +1,13 @@
 -- Every call keeps every set well formed.
-use Rattle.model.specs.Prelude.{ℕ, _-_, arith, _≡_, refl, sym, ap, _∙_, subst, _||_, Option, none, List, [], _∷_, _++_, map, eqb, bitAnd}
-use Rattle.model.specs.Prelude.{replicate, eqb-true, eqb-false, not-false, ne-eqb}
-use Rattle.model.specs.{declared.{Extent.Extent, Range.Range, Selector.Selector, UsageFlags.UsageFlags}, Flags.meets, Representation.Ends}
-use Rattle.model.specs.{Sets.{Set, Tracker, Head, Opening}, Refusals.{textureChecks, selectorChecks, stateChecks, singleRefusal}}
+use Rattle.model.specs.Prelude.{ℕ, _-_, arith, _≡_, refl, sym, ap, _∙_, subst, Option, none, List, [], _∷_, map, eqb, bitAnd, replicate}
+use Rattle.model.specs.Prelude.{eqb-true, eqb-false, not-false, ne-eqb}
+use Rattle.model.specs.{declared.{Extent.Extent, Range.Range, Selector.Selector, UsageFlags.UsageFlags}, Representation.Ends}
+use Rattle.model.specs.{Sets.{Set, Tracker, Head, Opening}, Refusals.singleRefusal}
 use Rattle.model.specs.Calls.{Call, callMergeSingle, callMergeUsageScope, callSetSingle, callSetFromUsageScope, callSetFromTracker}
 use Rattle.model.specs.{Calls.{callSetAndRemoveSparse, Sets, step, newly}, RangedStates.{layerStates, Tiles}}
 use Rattle.model.specs.{Texture.{Held, single, many, Given, ranged}, Subresources.everywhere}
-use Rattle.model.specs.{ListLaws.{all-weak, all-right, all-join, all-left, all-replicate, first-of, unlike-lists}, BoolLaws.neither}
-use Rattle.model.specs.{CheckLaws.passed, Base.All}
+use Rattle.model.specs.{ListLaws.{all-weak, all-right, all-join, all-left, all-replicate, first-of, unlike-lists}, CheckLaws.single-passed}
+use Rattle.model.specs.Base.{All}
 use Rattle.agreement.specs.{Grid.{Grid, Named, grid, namedOr}, Shared.{firstOf, gridOf, entriesAt, gridAt}}
 use Rattle.agreement.specs.{WellFormedSets.{Word, GivenWord}, TextureLaws.{Measured, Fit}}
 use Rattle.agreement.specs.TrackerLaws.{Known, KnownAll, KnownEnd, FitEnds, ClearHeld, clear-known, UnknownNonzero}
@@ -53,14 +53,12 @@ pub record PairsW (p : UsageFlags) (sh : Extent) (a : Given) (b : Named) (c : Gi
 state-fits : (h : Head) (i : ℕ) (sh : Extent) (sel : Option Selector) (st : ℕ) → Word st
     → singleRefusal h i sh sel st ≡ none → StateFits (h .flags) st
 state-fits h i sh sel st w e =
-    let t = all-right _ (textureChecks h i sh ++ selectorChecks sh sel) (stateChecks (h .flags) st) (passed _ e) in
-    let o = neither (eqb st 0 || meets st (h .flags .unknown)) (meets st (h .flags .complex)) (t .0) in
-    let u = neither (eqb st 0) (meets st (h .flags .unknown)) (o .0) in
+    let c = single-passed h i sh sel st e .state in
     record {
-      nonzero = eqb-false st 0 (u .0);
+      nonzero = c .nonzero;
       word = w;
-      compatible = t .1 .0;
-      plain = eqb-true (bitAnd st (h .flags .complex)) 0 (not-false _ (o .1));
+      compatible = c .fits;
+      plain = eqb-true (bitAnd st (h .flags .complex)) 0 (not-false _ (c .plain));
     }
 
 pub scopes-well : Textures ranged grid gridOf firstOf Word FitW GivesW

@@ -3,14 +3,13 @@ use Rattle.model.specs.Prelude.{ℕ, _<_, _≡_, refl, sym, ap, subst, _∙_, B
 use Rattle.model.specs.declared.Refusal.the-variants.{NotWellFormed}
 use Rattle.model.specs.declared.{UsageFlags.UsageFlags, Extent.Extent, Selection.Selection, InvalidUse.InvalidUse, Refusal.Refusal}
 use Rattle.model.specs.{declared.Outcome.Outcome, Base.Stop, Sets.{Slot, Set, Head, slotAt, withSlots, emptySlot}}
-use Rattle.model.specs.Refusals.{firstFailing, singleRefusal}
+use Rattle.model.specs.{Refusals.{firstFailing, singleRefusal}, CheckLaws.StatePassed}
 use Rattle.model.specs.Calls.{Indexed, CallResult, answer, turnedAway, unless, mergeSlot, mergeSingle}
 use Rattle.model.specs.{Log.{isRefused, outcomeOf, merging}, Texture.{Held, single, Entry, fromUse, ranged}}
 use Rattle.set_storage.specs.{Storage.{flagsOf, scopeOf, startHalf, texturesAt, scopeSlot}, Stays.{only, keeps-refl, keeps-more}}
 use Rattle.set_storage.specs.Lists.{list-at}
 use Rattle.texture_merge.specs.declared.{Stopped.Stopped}
-use Rattle.set_checks.specs.Head.{selectorOf, useRefusal, scope-head, UseTold}
-use Rattle.set_checks.specs.Passed.{StatePassed, use-passed, texture-passed, state-passed}
+use Rattle.set_checks.specs.{Head.{selectorOf, useRefusal, scope-head, UseTold}, Passed.{use-passed, texture-passed, state-passed}}
 use Rattle.set_ready.specs.{Tested.ScopeTested, Half.{HalfReady, scope-texture}, Named.within, Checked.TakenUse}
 use Rattle.call_merge.specs.{declared.single.Use.Use, Met.toldOf, Merged.Merged, Slot.{SlotMerged, scope-view}, Single.UseIs}
 use Rattle.call_merge.specs.Scope.{SlotsMerged}

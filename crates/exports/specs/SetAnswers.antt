@@ -1,10 +1,10 @@
 -- An answer in plain numbers: which numbers tell each outcome of a call, and which outcome the numbers tell.
-use Rattle.model.specs.Prelude.{ℕ, _-_, [], _∷_, eqb, getD}
+use Rattle.model.specs.Prelude.{ℕ, List, [], _∷_, eqb}
 use Rattle.model.specs.{declared.Conflict.Conflict as Conflicting, declared.Outcome.the-variants.{Done, Refused, Conflict}}
 use Rattle.model.specs.declared.Refusal.the-variants.{NumbersOutOfLimits, FlagsBreakRule, ShortRoom, NotWellFormed, LogTooShort}
-use Rattle.model.specs.declared.Refusal.the-variants.{FlagsDiffer, NoSuchIndex, ExtentOutOfLimits, ExtentDiffers, SelectorEmpty}
-use Rattle.model.specs.declared.Refusal.the-variants.{SelectorPastExtent, StateReserved, StateIncompatible, RangesOutOfOrder, NoFreeEntry}
-use Rattle.model.specs.declared.Selection.the-variants.{Full, Part}
+use Rattle.model.specs.declared.Refusal.the-variants.{FlagsDiffer, NoSuchIndex, ExtentOutOfLimits, ExtentDiffers, MipsEmpty, MipsReversed}
+use Rattle.model.specs.declared.Refusal.the-variants.{LayersEmpty, LayersReversed, SelectorPastExtent, StateReserved, StateIncompatible}
+use Rattle.model.specs.{declared.Refusal.the-variants.{RangesOutOfOrder, NoFreeEntry}, declared.Selection.the-variants.{Full, Part}}
 use Rattle.model.specs.declared.{LogHead.LogHead, Outcome.Outcome, Refusal.Refusal, Selection.Selection, Selector.Selector}
 use Rattle.model.specs.{declared.{UsageFlags.UsageFlags, Answered.Answered}, Base.if_then_else_, Refusals.{numberOf, placeOf, trackerIndex}}
 use Rattle.model.specs.Representation.{select, mipStart, mipEnd, layerStart, layerEnd}
@@ -63,15 +63,22 @@ abbrev pub loggedOf : Answered → LoggedAnswer
 loggedOf x = record { answer = answerOf (x .outcome); written = x .head .written; free = x .head .free }
 
 -- ---- The outcome that numbers tell
--- the row of 01's table, by its number, with the place
-abbrev pub refusalFrom : ℕ → ℕ → Refusal
-refusalFrom n i =
-    getD
-    (NumbersOutOfLimits ∷ FlagsBreakRule ∷ ShortRoom ∷ NotWellFormed ∷ LogTooShort ∷ FlagsDiffer
+-- the rows of 01's table, with a place
+abbrev pub rows : ℕ → List Refusal
+rows i = NumbersOutOfLimits ∷ FlagsBreakRule ∷ ShortRoom ∷ NotWellFormed ∷ LogTooShort ∷ FlagsDiffer
     ∷ NoSuchIndex (trackerIndex i) ∷ ExtentOutOfLimits (trackerIndex i) ∷ ExtentDiffers (trackerIndex i)
-    ∷ SelectorEmpty ∷ SelectorPastExtent ∷ StateReserved ∷ StateIncompatible ∷ RangesOutOfOrder ∷ [])
-    (n - 1)
-    NoFreeEntry
+    ∷ MipsEmpty ∷ MipsReversed ∷ LayersEmpty ∷ LayersReversed ∷ SelectorPastExtent ∷ StateReserved ∷ StateIncompatible
+    ∷ RangesOutOfOrder ∷ NoFreeEntry ∷ []
+
+-- the first of some rows with number n. NotWellFormed stands in where no row has it: no answer has such a number, since each has the
+-- numbers of the outcome that it tells
+abbrev pub numbered : ℕ → List Refusal → Refusal
+numbered n [] = NotWellFormed
+numbered n (r ∷ rs) = if eqb (numberOf r) n then r else numbered n rs
+
+-- the row that a number and a place tell
+abbrev pub refusalFrom : ℕ → ℕ → Refusal
+refusalFrom n i = numbered n (rows i)
 
 -- the conflict, by its numbers
 abbrev pub conflictOf : Answer → Conflicting

@@ -40,7 +40,7 @@ module _ {X : Type 0} {was : X} {same : Type 0} {fits : Bool} {m : CallResult In
   pub away-short : fits ≡ true → headWithin (length l / 7) h ≡ false → Called was was same fits m h l (refusedWith LogTooShort h) l
   away-short f z = away LogTooShort (rw f (too-short (logOf l h) was m (lent-is l h z)))
 
-  -- 6 to 13
+  -- 6 to 13, 16 to 19
   pub away-own : (r : Refusal) → fits ≡ true → headWithin (length l / 7) h ≡ true → m .answer ≡ calls.refused r
       → Called was was same fits m h l (refusedWith r h) l
   away-own r f z a = away r (rw f (own-refusal (logOf l h) was m (lent-is l h z) r a))

@@ -1,8 +1,18 @@
--- What a passed check tells, and what the tests of numbers, extents and flags decide.
-use Rattle.model.specs.Prelude.{ℕ, _<_, _≤_, arith, _≡_, refl, Bool, true, false, and-eq-true-iff, none, some, List, [], _∷_, ltb}
-use Rattle.model.specs.Prelude.{eqb, eqb-true, eqb-false, ltb-false, not-false}
-use Rattle.model.specs.{declared.{Extent.Extent, UsageFlags.UsageFlags}, Base.{if_then_else_, All}, Flags.sameFlags}
-use Rattle.model.specs.{Sets.{Slot, ownExtent, outside}, Refusals.{Check, firstFailing, otherExtent, sameExtent}, BoolLaws.neither}
+-- Lists of checks one after another; what passed checks show of a selector, of a state and of a use; what the tests of numbers, extents
+-- and flags decide; and that no refusal has the number 10.
+use Rattle.model.specs.Prelude.{ℕ, _<_, _≤_, arith, _≡_, refl, sym, ap, _∙_, Bool, true, false, _||_, and-eq-true-iff, false≢true}
+use Rattle.model.specs.Prelude.{Option, none, some, List, [], _∷_, _++_, ltb, eqb, eqb-true, eqb-false, ltb-false, not-false}
+use Rattle.model.specs.declared.Refusal.the-variants.{NumbersOutOfLimits, FlagsBreakRule, ShortRoom, NotWellFormed, LogTooShort}
+use Rattle.model.specs.declared.Refusal.the-variants.{FlagsDiffer, NoSuchIndex, ExtentOutOfLimits, ExtentDiffers, MipsEmpty}
+use Rattle.model.specs.declared.Refusal.the-variants.{MipsReversed, LayersEmpty, LayersReversed, SelectorPastExtent, StateReserved}
+use Rattle.model.specs.declared.Refusal.the-variants.{StateIncompatible, RangesOutOfOrder, NoFreeEntry}
+use Rattle.model.specs.declared.Verdict.the-variants.{Accepted, Refused}
+use Rattle.model.specs.declared.{Extent.Extent, Refusal.Refusal, Selector.Selector, UsageFlags.UsageFlags, Verdict.Verdict}
+use Rattle.model.specs.{Base.{if_then_else_, All}, Flags.{meets, incompatible, sameFlags}}
+use Rattle.model.specs.{Representation.{mipStart, mipEnd, layerStart, layerEnd}, Sets.{Slot, Head, ownExtent, outside}, Log.orNext}
+use Rattle.model.specs.{BoolLaws.neither, ListLaws.{all-left, all-right}}
+use Rattle.model.specs.Refusals.{Check, firstFailing, otherExtent, sameExtent, numberOf, accepted, refusedFor, textureChecks}
+use Rattle.model.specs.Refusals.{selectorChecks, stateChecks, singleRefusal}
 
 -- none of these checks failed
 abbrev pub Passed : List Check → Type 0
@@ -21,6 +31,96 @@ pub passed : (cs : List Check) → firstFailing cs ≡ none → Passed cs
 passed [] e = tt
 passed (c ∷ cs) e = let p = first-passed c cs e in (p .0, passed cs (p .1))
 
+-- one list of checks after another
+pub checks-append : (xs ys : List Check) → firstFailing (xs ++ ys) ≡ orNext (firstFailing xs) (firstFailing ys)
+unfolding firstFailing
+checks-append [] ys = refl
+checks-append (c ∷ xs) ys = go (c .fails) (checks-append xs ys)
+  where
+    go : (b : Bool) → firstFailing (xs ++ ys) ≡ orNext (firstFailing xs) (firstFailing ys)
+        → (if b then some (c .answer) else firstFailing (xs ++ ys))
+        ≡ orNext (if b then some (c .answer) else firstFailing xs) (firstFailing ys)
+    go true e = refl
+    go false e = e
+
+-- none of two refusals: none in either
+pub none-both : (p q : Option Refusal) → orNext p q ≡ none → (p ≡ none) × (q ≡ none)
+none-both none q e = (refl, e)
+none-both (some r) q e = absurd (let z : _≡_ {A = ℕ} 0 1 = cc in omega arith)
+
+-- where none of two lists of checks fails, none of either does
+pub both-passed : (xs ys : List Check) → firstFailing (xs ++ ys) ≡ none → (firstFailing xs ≡ none) × (firstFailing ys ≡ none)
+both-passed xs ys e = none-both (firstFailing xs) (firstFailing ys) (sym (checks-append xs ys) ∙ e)
+
+module _ {v : Verdict} (xs ys : List Check) (told : refusedFor v ≡ firstFailing xs) where
+  -- the first list was accepted: the second decides
+  pub accepted-first : v ≡ Accepted → {o : Option Refusal} → o ≡ firstFailing ys → o ≡ firstFailing (xs ++ ys)
+  accepted-first e u = u ∙ sym (checks-append xs ys ∙ ap (λ (o : Option Refusal). orNext o (firstFailing ys)) (sym told ∙ ap refusedFor e))
+
+  -- the first list was refused: it decides
+  pub refused-first : {r : Refusal} → v ≡ Refused r → some r ≡ firstFailing (xs ++ ys)
+  refused-first e = sym (checks-append xs ys ∙ ap (λ (o : Option Refusal). orNext o (firstFailing ys)) (sym told ∙ ap refusedFor e))
+
+-- nothing is refused
+pub accepted-none : (o : Option Refusal) → accepted o ≡ true → o ≡ none
+accepted-none none e = refl
+accepted-none (some r) e = absurd (false≢true e)
+
+-- ---- a selector
+-- an interval that passed both checks starts below its end
+pub starts-below : (a e : ℕ) → eqb a e ≡ false → ltb e a ≡ false → a < e
+starts-below a e n q = omega (arith, eqb-false a e n, ltb-false e a q)
+
+-- a selector that names something of a texture of extent sh, and nothing past it
+pub record SelectorWithin (sh : Extent) (q : Selector) : Type 0 where
+  pub order : mipStart q < mipEnd q
+  pub in-mips : mipEnd q ≤ sh .mips
+  pub span : layerStart q < layerEnd q
+  pub in-layers : layerEnd q ≤ sh .layers
+
+-- what 16 to 19 and 11 let through is such a selector
+pub selector-within : (sh : Extent) (q : Selector) → Passed (selectorChecks sh (some q)) → SelectorWithin sh q
+selector-within sh q p =
+    let layers = p .1 .1 in let past = layers .1 .1 .0 in
+    let ends = neither (ltb (sh .mips) (mipEnd q)) (ltb (sh .layers) (layerEnd q)) past in
+    record {
+      order = starts-below (mipStart q) (mipEnd q) (p .0) (p .1 .0);
+      in-mips = ltb-false (sh .mips) (mipEnd q) (ends .0);
+      span = starts-below (layerStart q) (layerEnd q) (layers .0) (layers .1 .0);
+      in-layers = ltb-false (sh .layers) (layerEnd q) (ends .1);
+    }
+
+-- ---- a state
+-- what 12 and 13 show of it
+pub record StatePassed (p : UsageFlags) (st : ℕ) : Type 0 where
+  pub nonzero : st ≡ 0 → ⊥
+  pub known : meets st (p .unknown) ≡ false
+  pub plain : meets st (p .complex) ≡ false
+  pub fits : incompatible p st ≡ false
+
+pub state-shown : (p : UsageFlags) (st : ℕ) → Passed (stateChecks p st) → StatePassed p st
+state-shown p st t =
+    let o = neither (eqb st 0 || meets st (p .unknown)) (meets st (p .complex)) (t .0) in
+    let u = neither (eqb st 0) (meets st (p .unknown)) (o .0) in
+    record { nonzero = eqb-false st 0 (u .0); known = u .1; plain = o .1; fits = t .1 .0 }
+
+-- ---- a use: its texture, its selector and its state
+pub record SinglePassed (h : Head) (i : ℕ) (sh : Extent) (sel : Option Selector) (st : ℕ) : Type 0 where
+  pub texture : Passed (textureChecks h i sh)
+  pub selector : Passed (selectorChecks sh sel)
+  pub state : StatePassed (h .flags) st
+
+pub single-passed : (h : Head) (i : ℕ) (sh : Extent) (sel : Option Selector) (st : ℕ) → singleRefusal h i sh sel st ≡ none
+    → SinglePassed h i sh sel st
+single-passed h i sh sel st e =
+    let c = passed _ e in let t = all-left _ (textureChecks h i sh ++ selectorChecks sh sel) (stateChecks (h .flags) st) c in
+    record {
+      texture = all-left _ (textureChecks h i sh) (selectorChecks sh sel) t;
+      selector = all-right _ (textureChecks h i sh) (selectorChecks sh sel) t;
+      state = state-shown (h .flags) st (all-right _ (textureChecks h i sh ++ selectorChecks sh sel) (stateChecks (h .flags) st) c);
+    }
+
+-- ---- numbers, extents and flags
 pub inside : (n top : ℕ) → outside n top ≡ false → (0 < n) × (n ≤ top)
 inside n top e = let h = neither (eqb n 0) (ltb top n) e in (omega (arith, eqb-false n 0 (h .0)), ltb-false top n (h .1))
 
@@ -40,3 +140,27 @@ same-flags p q e =
     let x = eqb-true (p .exclusive) (q .exclusive) (f .0) in let u = eqb-true (p .uninitialized) (q .uninitialized) (f .1) in
     let c = eqb-true (p .complex) (q .complex) (g .1) in let n = eqb-true (p .unknown) (q .unknown) (h .1) in
     λ i. record { exclusive = x i; uninitialized = u i; complex = c i; unknown = n i }
+
+-- ---- "10 is never given again": it is no refusal's number
+not-ten : (r : Refusal) → eqb (numberOf r) 10 ≡ false
+not-ten NumbersOutOfLimits = refl
+not-ten FlagsBreakRule = refl
+not-ten ShortRoom = refl
+not-ten NotWellFormed = refl
+not-ten LogTooShort = refl
+not-ten FlagsDiffer = refl
+not-ten (NoSuchIndex i) = refl
+not-ten (ExtentOutOfLimits i) = refl
+not-ten (ExtentDiffers i) = refl
+not-ten MipsEmpty = refl
+not-ten MipsReversed = refl
+not-ten LayersEmpty = refl
+not-ten LayersReversed = refl
+not-ten SelectorPastExtent = refl
+not-ten StateReserved = refl
+not-ten StateIncompatible = refl
+not-ten RangesOutOfOrder = refl
+not-ten NoFreeEntry = refl
+
+pub never-ten : (r : Refusal) → numberOf r ≡ 10 → ⊥
+never-ten r = eqb-false (numberOf r) 10 (not-ten r)

@@ -68,7 +68,7 @@ openings : map (λ o. ofRefusal (openingRefusal o)) (
 unfolding openingRefusal ofRefusal sized flagged
 openings = refl
 
--- ---- 6 to 13: scopes 0 and 1 of four textures, 2 of other flags, 3 of five textures; trackers 0 and 1 of four
+-- ---- 6 to 13, 16 to 19: scopes 0 and 1 of four textures, 2 of other flags, 3 of five textures; trackers 0 and 1 of four
 sets : Sets ranged
 unfolding sized newly
 sets =
@@ -102,6 +102,11 @@ part : Selector → ℕ → Call
 unfolding extent
 part q st = callMergeSingle 0 (trackerIndex 0) (extent 2 4) (some q) st
 
+-- and of a part of texture 0 of tracker 0
+setPart : Selector → Call
+unfolding extent
+setPart q = callSetSingle 0 (trackerIndex 0) (extent 2 4) q 8
+
 sparse : List ℕ → Call
 sparse is = callSetAndRemoveSparse 0 0 is
 
@@ -117,13 +122,25 @@ calls : (
     ∷ after [] (callMergeSingle 0 (trackerIndex 1) (extent 3 4) none 8) ∷ after [] (callMergeSingle 0 (trackerIndex 1) (extent 2 0) none 8)
     -- 9: the index is owned with another extent
     ∷ after (used 0 1 8 ∷ []) (callMergeSingle 0 (trackerIndex 1) (extent 1 4) none 8)
-    -- 10: "layers 2..2 is 10"
-    ∷ after [] (part (select 0 1 2 2) 8) ∷ after [] (part (select 1 1 0 4) 8)
+    -- 16, 17: mips 0..1 pass, 1..1 have no length, 1..0 are reversed
+    ∷ after [] (part (select 0 1 0 4) 8) ∷ after [] (part (select 1 1 0 4) 8) ∷ after [] (part (select 1 0 0 4) 8)
+    -- 18, 19: layers 2..3 pass, "01's edge case 2..2 becomes 18", 3..2 are reversed; and of a tracker's use
+    ∷ after [] (part (select 0 1 2 3) 8) ∷ after [] (part (select 0 1 2 2) 8) ∷ after [] (part (select 0 1 3 2) 8)
+    ∷ after [] (setPart (select 0 1 2 3)) ∷ after [] (setPart (select 0 1 2 2)) ∷ after [] (setPart (select 0 1 3 2))
+    ∷ after [] (setPart (select 1 1 0 4)) ∷ after [] (setPart (select 1 0 0 4))
+    -- two of them: 16 and 18, 16 and 19, 17 and 18, 17 and 19
+    ∷ after [] (part (select 1 1 2 2) 8) ∷ after [] (part (select 1 1 3 2) 8)
+    ∷ after [] (part (select 1 0 2 2) 8) ∷ after [] (part (select 1 0 3 2) 8)
+    -- each beside 11, by its own end and by the other's
+    ∷ after [] (part (select 5 5 0 4) 8) ∷ after [] (part (select 5 4 0 4) 8)
+    ∷ after [] (part (select 0 1 9 9) 8) ∷ after [] (part (select 0 1 9 8) 8)
+    ∷ after [] (part (select 1 1 0 5) 8) ∷ after [] (part (select 1 0 0 5) 8)
+    ∷ after [] (part (select 0 3 2 2) 8) ∷ after [] (part (select 0 3 3 2) 8)
     -- 11: "end 4 of 4 passes, 5 is 11"
     ∷ after [] (part (select 0 1 0 4) 8) ∷ after [] (part (select 0 1 0 5) 8) ∷ after [] (part (select 0 3 0 4) 8)
     -- 12: zero, or with UNKNOWN or COMPLEX; 13: "state 24 is 13, state 16 passes"
     ∷ after [] (used 0 0 0) ∷ after [] (used 0 0 8200) ∷ after [] (used 0 0 4104) ∷ after [] (used 0 0 24) ∷ after [] (used 0 0 16)
-    -- the first that fails is told: 7 before 8, 8 before 10, 10 before 11, 11 before 12, 12 before 13
+    -- the first that fails is told: 7 before 8, 8 before 16, 16 before 12, 11 before 12, 12 before 13
     ∷ after [] (callMergeSingle 0 (trackerIndex 4) (extent 3 4) (some (select 0 0 0 9)) 0)
     ∷ after [] (callMergeSingle 0 (trackerIndex 0) (extent 3 4) (some (select 0 0 0 9)) 0)
     ∷ after [] (part (select 0 0 0 9) 0) ∷ after [] (part (select 0 1 0 9) 0) ∷ after [] (used 0 0 4116)
@@ -142,11 +159,20 @@ calls : (
     passes ∷ turned 7 4
     ∷ turned 8 1 ∷ turned 8 1
     ∷ turned 9 1
-    ∷ turned 10 0 ∷ turned 10 0
+    ∷ passes ∷ turned 16 0 ∷ turned 17 0
+    ∷ passes ∷ turned 18 0 ∷ turned 19 0
+    ∷ passes ∷ turned 18 0 ∷ turned 19 0
+    ∷ turned 16 0 ∷ turned 17 0
+    ∷ turned 16 0 ∷ turned 16 0
+    ∷ turned 17 0 ∷ turned 17 0
+    ∷ turned 16 0 ∷ turned 17 0
+    ∷ turned 18 0 ∷ turned 19 0
+    ∷ turned 16 0 ∷ turned 17 0
+    ∷ turned 18 0 ∷ turned 19 0
     ∷ passes ∷ turned 11 0 ∷ turned 11 0
     ∷ turned 12 0 ∷ turned 12 0 ∷ turned 12 0 ∷ turned 13 0 ∷ passes
     ∷ turned 7 4 ∷ turned 8 0
-    ∷ turned 10 0 ∷ turned 11 0 ∷ turned 12 0
+    ∷ turned 16 0 ∷ turned 11 0 ∷ turned 12 0
     ∷ turned 6 0 ∷ turned 6 0 ∷ turned 6 0
     ∷ turned 7 4
     ∷ turned 9 2
@@ -155,7 +181,7 @@ calls : (
     ∷ turned 9 2 ∷ turned 7 4
     ∷ conflicts
     ∷ [])
-unfolding after used part sparse narrow extent incompatible invalidState insert merge barrier update
+unfolding after used part setPart sparse narrow extent incompatible invalidState insert merge barrier update
 calls = refl
 
 -- ---- 4, 5, 15: tracker 0 in state 4 at texture 0, and a log of `lent` entries
@@ -221,28 +247,36 @@ logs : (
 unfolding setting tracker log damaged mips extent emptying firstFailing incompatible invalidState insert merge barrier update
 logs = refl
 
--- ---- 10, 14, 15: the calls on range records
+-- ---- 18, 19, 14, 15: the calls on range records
 rangeCalls : map ofRefusal (
     -- a run of 2..6 in a gap needs one record more
     isolateRefusal 2 6 9 1 (range 0 2 5 ∷ range 0 0 0 ∷ []) ∷ isolateRefusal 2 6 9 1 (range 0 2 5 ∷ [])
-    ∷ isolateRefusal 2 2 9 1 (range 0 2 5 ∷ [])
+    -- 18 and 19 of `isolate`, before 15, "with any 32-bit ends", and before 14
+    ∷ isolateRefusal 2 2 9 1 (range 0 2 5 ∷ []) ∷ isolateRefusal 3 2 9 1 (range 0 2 5 ∷ [])
+    ∷ isolateRefusal 4294967295 4294967295 9 1 (range 0 2 5 ∷ []) ∷ isolateRefusal 4294967295 0 9 1 (range 0 2 5 ∷ [])
+    ∷ isolateRefusal 2 2 9 2 (range 0 2 5 ∷ []) ∷ isolateRefusal 3 2 9 2 (range 0 2 5 ∷ [])
     -- the told length, an empty range, out of order, overlapping, touching
     ∷ coalesceRefusal 1 (range 0 2 5 ∷ []) ∷ coalesceRefusal 2 (range 0 2 5 ∷ []) ∷ coalesceRefusal 1 (range 2 2 5 ∷ [])
     ∷ coalesceRefusal 2 (range 4 6 5 ∷ range 0 2 5 ∷ [])
     ∷ coalesceRefusal 2 (range 0 3 5 ∷ range 2 4 5 ∷ []) ∷ coalesceRefusal 2 (range 0 2 5 ∷ range 2 4 5 ∷ [])
     -- no record past the told length is looked at
     ∷ coalesceRefusal 1 (range 0 2 5 ∷ range 9 1 0 ∷ [])
-    -- the output's room; 10 before 14 before 15
+    -- the output's room; 18 and 19 before 15 and before 14, 14 before 15
     ∷ filterRefusal 1 3 2 (range 0 2 5 ∷ range 2 4 6 ∷ []) (replicate 2 (range 0 0 0))
     ∷ filterRefusal 1 3 2 (range 0 2 5 ∷ range 2 4 6 ∷ []) (replicate 1 (range 0 0 0))
-    ∷ filterRefusal 3 3 2 (range 0 2 5 ∷ []) [] ∷ filterRefusal 1 3 2 (range 0 2 5 ∷ []) []
+    ∷ filterRefusal 3 3 1 (range 0 9 5 ∷ []) [] ∷ filterRefusal 4 3 1 (range 0 9 5 ∷ []) []
+    ∷ filterRefusal 3 3 2 (range 0 2 5 ∷ []) [] ∷ filterRefusal 4 3 2 (range 0 2 5 ∷ []) [] ∷ filterRefusal 1 3 2 (range 0 2 5 ∷ []) []
     ∷ []) ≡ (
-    passes ∷ turned 15 0 ∷ turned 10 0
+    passes ∷ turned 15 0
+    ∷ turned 18 0 ∷ turned 19 0
+    ∷ turned 18 0 ∷ turned 19 0
+    ∷ turned 18 0 ∷ turned 19 0
     ∷ passes ∷ turned 14 0 ∷ turned 14 0 ∷ turned 14 0
     ∷ turned 14 0 ∷ passes
     ∷ passes
     ∷ passes ∷ turned 15 0
-    ∷ turned 10 0 ∷ turned 14 0
+    ∷ turned 18 0 ∷ turned 19 0
+    ∷ turned 18 0 ∷ turned 19 0 ∷ turned 14 0
     ∷ [])
 unfolding ofRefusal firstFailing isolate coalesce iterFilter
 rangeCalls = refl

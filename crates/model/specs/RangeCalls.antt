@@ -1,8 +1,8 @@
 -- 01, "Strips": the three calls on a lent run of range records, of which the first `told` are in use.
 use Rattle.model.specs.Prelude.{ℕ, _-_, Bool, true, _&&_, _||_, not, Option, List, [], _∷_, _++_, leb, ltb, length, take, drop}
 use Rattle.model.specs.Prelude.{replicate}
-use Rattle.model.specs.declared.Refusal.the-variants.{SelectorEmpty, RangesOutOfOrder, NoFreeEntry}
-use Rattle.model.specs.{declared.{Range.Range, Refusal.Refusal}, Refusals.{Check, check, firstFailing}}
+use Rattle.model.specs.{declared.Refusal.the-variants.{RangesOutOfOrder, NoFreeEntry}, declared.{Range.Range, Refusal.Refusal}}
+use Rattle.model.specs.Refusals.{Check, check, firstFailing, layersChecks}
 use Rattle.model.specs.RangedStates.{range, listOf, isolate, coalesce, iterFilter}
 
 -- no range is empty, out of order or overlaps
@@ -10,18 +10,18 @@ abbrev pub ascends : ℕ → List Range → Bool
 ascends from [] = true
 ascends from (r ∷ s) = leb from (r .start) && ltb (r .start) (r .end) && ascends (r .end) s
 
--- ---- "Strip calls use only 10, 14 and 15, in the table's order, with any 32-bit ends."
--- 10: "mips or layers have start not below end"
-abbrev pub indexCheck : ℕ → ℕ → Check
-indexCheck a e = check (not (ltb a e)) SelectorEmpty
-
+-- ---- "Strip calls use only 10, 14 and 15, in the table's order, with any 32-bit ends"; in 10's place they "give the layer numbers"
 -- 14: "its told length passes what was lent, or a range is empty, out of order or overlaps"
 abbrev pub rangesCheck : ℕ → List Range → Check
 rangesCheck told rs = check (ltb (length rs) told || not (ascends 0 (take told rs))) RangesOutOfOrder
 
+-- 18, 19, and then 14
+abbrev pub runChecks : ℕ → ℕ → ℕ → List Range → List Check
+runChecks a e told rs = layersChecks a e ++ (rangesCheck told rs ∷ [])
+
 -- 15: "the result needs more entries than are free"
-abbrev pub roomCheck : ℕ → ℕ → Check
-roomCheck needed lent = check (ltb lent needed) NoFreeEntry
+abbrev pub roomChecks : ℕ → ℕ → List Check
+roomChecks needed lent = check (ltb lent needed) NoFreeEntry ∷ []
 
 -- ---- `isolate`
 -- "the run's position and count", "the strip's new length", and the records afterwards
@@ -31,10 +31,10 @@ pub record Isolated : Type 0 where
   pub told : ℕ
   pub records : List Range
 
--- 10, 14, and 15 for all ranges that it leaves
+-- 18, 19, 14, and 15 for all ranges that it leaves
 abbrev pub isolateRefusal : ℕ → ℕ → ℕ → ℕ → List Range → Option Refusal
 isolateRefusal a e d told rs =
-    firstFailing (indexCheck a e ∷ rangesCheck told rs ∷ roomCheck (length (listOf (isolate a e d (take told rs)))) (length rs) ∷ [])
+    firstFailing (runChecks a e told rs ++ roomChecks (length (listOf (isolate a e d (take told rs)))) (length rs))
 
 -- "makes the index a run of ranges of its own, gaps filled with the default"; records past the new length stay
 abbrev pub isolated : ℕ → ℕ → ℕ → ℕ → List Range → Isolated
@@ -64,10 +64,10 @@ pub record Filtered : Type 0 where
   pub count : ℕ
   pub output : List Range
 
--- 10, 14, and 15 for the second run
+-- 18, 19, 14, and 15 for the second run
 abbrev pub filterRefusal : ℕ → ℕ → ℕ → List Range → List Range → Option Refusal
 filterRefusal a e told rs out =
-    firstFailing (indexCheck a e ∷ rangesCheck told rs ∷ roomCheck (length (iterFilter a e (take told rs))) (length out) ∷ [])
+    firstFailing (runChecks a e told rs ++ roomChecks (length (iterFilter a e (take told rs))) (length out))
 
 -- "lists overlaps clipped into a second lent run, from its first record on, and tells how many; the strip stays"
 abbrev pub filtered : ℕ → ℕ → ℕ → List Range → List Range → Filtered

@@ -1,16 +1,17 @@
 -- 01, "Turned away": each check is whether it fails, with the refusal that is then the answer, in the table's order.
 use Rattle.model.specs.Prelude.{ℕ, Bool, true, false, _&&_, _||_, not, Option, none, some, List, [], _∷_, _++_, ltb, eqb, getD}
 use Rattle.model.specs.declared.Refusal.the-variants.{NumbersOutOfLimits, FlagsBreakRule, ShortRoom, NotWellFormed, LogTooShort}
-use Rattle.model.specs.declared.Refusal.the-variants.{FlagsDiffer, NoSuchIndex, ExtentOutOfLimits, ExtentDiffers, SelectorEmpty}
-use Rattle.model.specs.declared.Refusal.the-variants.{SelectorPastExtent, StateReserved, StateIncompatible, RangesOutOfOrder}
-use Rattle.model.specs.{declared.Refusal.the-variants.NoFreeEntry, declared.Verdict.the-variants.{Accepted, Refused}}
+use Rattle.model.specs.declared.Refusal.the-variants.{FlagsDiffer, NoSuchIndex, ExtentOutOfLimits, ExtentDiffers, MipsEmpty}
+use Rattle.model.specs.declared.Refusal.the-variants.{MipsReversed, LayersEmpty, LayersReversed, SelectorPastExtent, StateReserved}
+use Rattle.model.specs.declared.Refusal.the-variants.{StateIncompatible, RangesOutOfOrder, NoFreeEntry}
+use Rattle.model.specs.declared.Verdict.the-variants.{Accepted, Refused}
 use Rattle.model.specs.declared.{UsageFlags.UsageFlags, Extent.Extent, Selector.Selector, TrackerIndex.TrackerIndex, Refusal.Refusal}
 use Rattle.model.specs.{declared.Verdict.Verdict, Base.{if_then_else_, each, eachAt}}
 use Rattle.model.specs.{Flags.{meets, incompatible, flagsFit, sameFlags}, Representation.{mipStart, mipEnd, layerStart, layerEnd}}
 use Rattle.model.specs.Sets.{Numbers, Head, Opening, outside, numbersFit, capacity}
 
 -- ---- 01's number and place of a refusal
--- the table's column "No."
+-- the table's column "No."; 10 is no refusal's: "16, 17, 18, 19 in that order, at 10's place; 10 is never given again"
 abbrev pub numberOf : Refusal → ℕ
 numberOf NumbersOutOfLimits = 1
 numberOf FlagsBreakRule = 2
@@ -21,7 +22,10 @@ numberOf FlagsDiffer = 6
 numberOf (NoSuchIndex i) = 7
 numberOf (ExtentOutOfLimits i) = 8
 numberOf (ExtentDiffers i) = 9
-numberOf SelectorEmpty = 10
+numberOf MipsEmpty = 16
+numberOf MipsReversed = 17
+numberOf LayersEmpty = 18
+numberOf LayersReversed = 19
 numberOf SelectorPastExtent = 11
 numberOf StateReserved = 12
 numberOf StateIncompatible = 13
@@ -39,7 +43,10 @@ placeOf FlagsDiffer = 0
 placeOf (NoSuchIndex i) = i .0
 placeOf (ExtentOutOfLimits i) = i .0
 placeOf (ExtentDiffers i) = i .0
-placeOf SelectorEmpty = 0
+placeOf MipsEmpty = 0
+placeOf MipsReversed = 0
+placeOf LayersEmpty = 0
+placeOf LayersReversed = 0
 placeOf SelectorPastExtent = 0
 placeOf StateReserved = 0
 placeOf StateIncompatible = 0
@@ -120,19 +127,29 @@ textureChecks h i sh =
     ∷ check (otherExtent (getD (h .extents) i none) sh) (ExtentDiffers (trackerIndex i))
     ∷ []
 
--- ---- 10, 11: a selector, if one is given
--- "mips or layers have start not below end"
-abbrev pub selectorEmpty : Selector → Bool
-selectorEmpty q = not (ltb (mipStart q) (mipEnd q) && ltb (layerStart q) (layerEnd q))
+-- ---- 16 to 19, 11: a selector, if one is given
+-- an interval "of no length", then one "reversed", with the refusal of each
+abbrev pub intervalChecks : Refusal → Refusal → ℕ → ℕ → List Check
+intervalChecks empty reversed start end = check (eqb start end) empty ∷ check (ltb end start) reversed ∷ []
+
+-- 16, 17: "mips of no length, mips reversed"
+abbrev pub mipsChecks : ℕ → ℕ → List Check
+mipsChecks = intervalChecks MipsEmpty MipsReversed
+
+-- 18, 19: "layers of no length, layers reversed"
+abbrev pub layersChecks : ℕ → ℕ → List Check
+layersChecks = intervalChecks LayersEmpty LayersReversed
 
 -- "an end is past the shape"
 abbrev pub selectorPast : Extent → Selector → Bool
 selectorPast sh q = ltb (sh .mips) (mipEnd q) || ltb (sh .layers) (layerEnd q)
 
--- 10 and 11; nothing is checked where no selector is given
+-- "16, 17, 18, 19 in that order", and then 11; nothing is checked where no selector is given
 abbrev pub selectorChecks : Extent → Option Selector → List Check
 selectorChecks sh none = []
-selectorChecks sh (some q) = check (selectorEmpty q) SelectorEmpty ∷ check (selectorPast sh q) SelectorPastExtent ∷ []
+selectorChecks sh (some q) =
+    mipsChecks (mipStart q) (mipEnd q) ++ layersChecks (layerStart q) (layerEnd q)
+    ++ (check (selectorPast sh q) SelectorPastExtent ∷ [])
 
 -- ---- 12, 13: a state
 -- "it is zero or has UNKNOWN or COMPLEX"
@@ -144,7 +161,7 @@ abbrev pub stateChecks : UsageFlags → ℕ → List Check
 stateChecks p st = check (stateReserved p st) StateReserved ∷ check (incompatible p st) StateIncompatible ∷ []
 
 -- ---- A call on one texture
--- 7 to 13: of `merge_single` and of `set_single`
+-- 7 to 13, with 16 to 19 in 10's place: of `merge_single` and of `set_single`
 abbrev pub singleRefusal : Head → ℕ → Extent → Option Selector → ℕ → Option Refusal
 singleRefusal h i sh sel st = firstFailing (textureChecks h i sh ++ selectorChecks sh sel ++ stateChecks (h .flags) st)
 

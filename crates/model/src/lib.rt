@@ -92,7 +92,7 @@ pub struct Conflict {
     pub found: InvalidUse,
 }
 
-// Why a call is turned away, one case for each number of 01's table.
+// Why a call is turned away, one case for each number of 01's table, in its order. 10 is reserved: 16 to 19 stand in its place.
 pub enum Refusal {
     NumbersOutOfLimits,
     FlagsBreakRule,
@@ -103,7 +103,10 @@ pub enum Refusal {
     NoSuchIndex(TrackerIndex),
     ExtentOutOfLimits(TrackerIndex),
     ExtentDiffers(TrackerIndex),
-    SelectorEmpty,
+    MipsEmpty,
+    MipsReversed,
+    LayersEmpty,
+    LayersReversed,
     SelectorPastExtent,
     StateReserved,
     StateIncompatible,
@@ -144,7 +147,10 @@ pub fn number(r: Refusal) -> u32
         Refusal::NoSuchIndex(_) => 7,
         Refusal::ExtentOutOfLimits(_) => 8,
         Refusal::ExtentDiffers(_) => 9,
-        Refusal::SelectorEmpty => 10,
+        Refusal::MipsEmpty => 16,
+        Refusal::MipsReversed => 17,
+        Refusal::LayersEmpty => 18,
+        Refusal::LayersReversed => 19,
         Refusal::SelectorPastExtent => 11,
         Refusal::StateReserved => 12,
         Refusal::StateIncompatible => 13,
@@ -167,7 +173,10 @@ pub fn place(r: Refusal) -> u32
         Refusal::NoSuchIndex(i) => i.0,
         Refusal::ExtentOutOfLimits(i) => i.0,
         Refusal::ExtentDiffers(i) => i.0,
-        Refusal::SelectorEmpty => 0,
+        Refusal::MipsEmpty => 0,
+        Refusal::MipsReversed => 0,
+        Refusal::LayersEmpty => 0,
+        Refusal::LayersReversed => 0,
         Refusal::SelectorPastExtent => 0,
         Refusal::StateReserved => 0,
         Refusal::StateIncompatible => 0,

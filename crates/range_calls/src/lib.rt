@@ -4,8 +4,8 @@
 // `exports` and `replay_lines`, and beside `range_records`, which has the same calls on a slice of range records.
 //
 // What holds: nothing is required. The first `told` records of the slice are in use. Each answer, and the records afterwards, equal the
-// definitions of model/specs/RangeCalls (specs/RangeContract); a refusal (10, 14, 15) leaves every number as it was, and up to two numbers
-// that make no whole record always stay.
+// definitions of model/specs/RangeCalls (specs/RangeContract); a refusal (18, 19, 14, 15) leaves every number as it was, and up to two
+// numbers that make no whole record always stay.
 use model::Refusal;
 use model::Verdict;
 ghost use Rattle.range_calls.specs.RangeContract.{Isolates, Coalesces, Filters};

@@ -1,31 +1,34 @@
 -- The contracts of this crate and the model's three calls on a lent run (model, RangeCalls): what they refuse, and what they leave.
-use Rattle.model.specs.Prelude.{ℕ, _-_, _*_, _≤_, arith, _≡_, sym, Bool, false, _||_, not, none, List, append-assoc, ltb, length, take}
+use Rattle.model.specs.Prelude.{ℕ, _-_, _*_, _≤_, arith, _≡_, sym, false, not, none, List, [], _∷_, append-assoc, ltb, length, take}
 use Rattle.model.specs.Prelude.{ltb-false}
-use Rattle.model.specs.{BoolLaws.neither, CheckLaws.first-passed, RangedStates.{listOf, isolate, iterFilter}}
-use Rattle.model.specs.RangeCalls.{ascends, isolateRefusal, isolated, coalesceRefusal, coalesced, filterRefusal}
+use Rattle.model.specs.{BoolLaws.neither, CheckLaws.{passed, both-passed}, Refusals.{firstFailing, layersChecks}}
+use Rattle.model.specs.RangedStates.{listOf, isolate, iterFilter}
+use Rattle.model.specs.RangeCalls.{ascends, rangesCheck, runChecks, roomChecks, isolateRefusal, isolated, coalesceRefusal, coalesced}
+use Rattle.model.specs.RangeCalls.{filterRefusal}
 use Rattle.range_isolate.specs.{declared.isolation.Isolated.Isolated as Told, Isolation.{IsolateRoom, Isolating}}
 use Rattle.range_states.specs.{View.{view, decode, view-count}, Coalescing.Coalesced as Coalescing}
 
 -- ---- what is accepted has the room
-pub told-fits : (l : List ℕ) (told : ℕ) (b : Bool) → (ltb (length (view l)) told || b) ≡ false → 3 * told ≤ length l
-told-fits l told b e =
-    let h = ltb-false (length (view l)) told (neither (ltb (length (view l)) told) b e .0) in omega (arith, view-count l)
+told-fits : (l : List ℕ) (told : ℕ) → rangesCheck told (view l) .fails ≡ false → 3 * told ≤ length l
+told-fits l told e =
+    let h = ltb-false (length (view l)) told (neither (ltb (length (view l)) told) (not (ascends 0 (take told (view l)))) e .0) in
+    omega (arith, view-count l)
 
 record-fits : (l : List ℕ) (n : ℕ) → ltb (length (view l)) n ≡ false → 3 * n ≤ length l
 record-fits l n e = let h = ltb-false (length (view l)) n e in omega (arith, view-count l)
 
+-- a run that passed 18, 19 and 14
+pub run-fits : (l : List ℕ) (told a e : ℕ) → firstFailing (runChecks a e told (view l)) ≡ none → 3 * told ≤ length l
+run-fits l told a e h = told-fits l told (passed _ (both-passed (layersChecks a e) (rangesCheck told (view l) ∷ []) h .1) .0)
+
 pub isolate-accepted : (l : List ℕ) (told a e d : ℕ) → isolateRefusal a e d told (view l) ≡ none → IsolateRoom l told a e d
 isolate-accepted l told a e d h =
-    let one = first-passed _ _ h in let two = first-passed _ _ (one .1) in let three = first-passed _ _ (two .1) in
-    record {
-      fits = told-fits l told (not (ascends 0 (take told (view l)))) (two .0);
-      grown = record-fits l (length (listOf (isolate a e d (take told (view l))))) (three .0);
-    }
+    let n = length (listOf (isolate a e d (take told (view l)))) in
+    let p = both-passed (runChecks a e told (view l)) (roomChecks n (length (view l))) h in
+    record { fits = run-fits l told a e (p .0); grown = record-fits l n (passed _ (p .1) .0) }
 
 pub coalesce-accepted : (l : List ℕ) (told : ℕ) → coalesceRefusal told (view l) ≡ none → 3 * told ≤ length l
-coalesce-accepted l told h =
-    let one = first-passed _ _ h in
-    told-fits l told (not (ascends 0 (take told (view l)))) (one .0)
+coalesce-accepted l told h = told-fits l told (passed _ h .0)
 
 pub record FilterRoom (l : List ℕ) (told a e : ℕ) (m : List ℕ) : Type 0 where
   pub fits : 3 * told ≤ length l
@@ -33,11 +36,9 @@ pub record FilterRoom (l : List ℕ) (told a e : ℕ) (m : List ℕ) : Type 0 wh
 
 pub filter-accepted : (l : List ℕ) (told a e : ℕ) (m : List ℕ) → filterRefusal a e told (view l) (view m) ≡ none → FilterRoom l told a e m
 filter-accepted l told a e m h =
-    let one = first-passed _ _ h in let two = first-passed _ _ (one .1) in let three = first-passed _ _ (two .1) in
-    record {
-      fits = told-fits l told (not (ascends 0 (take told (view l)))) (two .0);
-      room = record-fits m (length (iterFilter a e (take told (view l)))) (three .0);
-    }
+    let n = length (iterFilter a e (take told (view l))) in
+    let p = both-passed (runChecks a e told (view l)) (roomChecks n (length (view m))) h in
+    record { fits = run-fits l told a e (p .0); room = record-fits m n (passed _ (p .1) .0) }
 
 -- ---- what is left is what the model's calls leave; that the told length is the model's is the contracts' own `size` and `count`
 pub record TellsIsolated (l : List ℕ) (len a e d : ℕ) (r : Told) (l′ : List ℕ) : Type 0 where

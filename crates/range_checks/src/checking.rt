@@ -1,4 +1,4 @@
-// The checks of the calls on ranged states (01, "Turned away": 10, 14 and 15, in the table's order), on unchanged storage.
+// The checks of the calls on ranged states (01, "Turned away": 18, 19, 14 and 15, in the table's order), on unchanged storage.
 //
 // Each tells the refusal or `Accepted`; what is accepted has the room that the call asks for (specs/Accepted).
 use model::Refusal;
@@ -11,8 +11,8 @@ ghost use mathlib.Core.Bool.{_||_, not};
 ghost use Prim.Native.Nat.{ℕ, _*_, _/_, _≤_};
 ghost use lib.Dec.{ltb};
 ghost use lib.ListN.{length, take};
-ghost use Rattle.model.specs.RangeCalls.{ascends as ascendsOf, isolateRefusal, coalesceRefusal, filterRefusal};
-ghost use Rattle.model.specs.Refusals.{refusedFor};
+ghost use Rattle.model.specs.RangeCalls.{ascends as ascendsOf, runChecks, roomChecks, isolateRefusal, coalesceRefusal, filterRefusal};
+ghost use Rattle.model.specs.Refusals.{firstFailing, refusedFor};
 ghost use Rattle.range_states.specs.View.{view, decode};
 
 // How many whole records a run has.
@@ -55,23 +55,6 @@ fn out_of_order(s: &[u32], told: usize) -> bool
     !ascends(s, told)
 }
 
-// What `isolate` is refused for: 10, 14, or 15 for all ranges that it would leave.
-pub fn check_isolate(s: &[u32], told: usize, start: u32, end: u32) -> Verdict
-    ensures { λ r. ⌜ ((d : ℕ) → refusedFor r ≡ isolateRefusal start end d told (view (now (s .entry)))) ⌝ }
-{
-    if end <= start {
-        return Verdict::Refused(Refusal::SelectorEmpty);
-    }
-    if out_of_order(s, told) {
-        return Verdict::Refused(Refusal::RangesOutOfOrder);
-    }
-    let n = isolated_count(s, told, start, end);
-    if records(s) < n {
-        return Verdict::Refused(Refusal::NoFreeEntry);
-    }
-    Verdict::Accepted
-}
-
 // What `coalesce` is refused for: 14.
 pub fn check_coalesce(s: &[u32], told: usize) -> Verdict
     ensures { λ r. ⌜ refusedFor r ≡ coalesceRefusal told (view (now (s .entry))) ⌝ }
@@ -82,19 +65,45 @@ pub fn check_coalesce(s: &[u32], told: usize) -> Verdict
     Verdict::Accepted
 }
 
-// What `iter_filter` is refused for: 10, 14, or 15 for the second run.
-pub fn check_filter(s: &[u32], told: usize, start: u32, end: u32, out: &[u32]) -> Verdict
-    ensures { λ r. ⌜ refusedFor r ≡ filterRefusal start end told (view (now (s .entry))) (view (now (out .entry))) ⌝ }
+// 18, 19, 14: the layers that are asked for, and the run.
+fn check_run(s: &[u32], told: usize, start: u32, end: u32) -> Verdict
+    ensures { λ r. ⌜ refusedFor r ≡ firstFailing (runChecks start end told (view (now (s .entry)))) ⌝ }
 {
-    if end <= start {
-        return Verdict::Refused(Refusal::SelectorEmpty);
+    if start == end {
+        return Verdict::Refused(Refusal::LayersEmpty);
     }
-    if out_of_order(s, told) {
-        return Verdict::Refused(Refusal::RangesOutOfOrder);
+    if end < start {
+        return Verdict::Refused(Refusal::LayersReversed);
     }
-    let n = filtered_count(s, told, start, end);
-    if records(out) < n {
+    check_coalesce(s, told)
+}
+
+// 15: the result needs more records than were lent.
+fn check_room(needed: usize, lent: usize) -> Verdict
+    ensures { λ r. ⌜ refusedFor r ≡ firstFailing (roomChecks needed lent) ⌝ }
+{
+    if lent < needed {
         return Verdict::Refused(Refusal::NoFreeEntry);
     }
     Verdict::Accepted
+}
+
+// What `isolate` is refused for: 18, 19, 14, or 15 for all ranges that it would leave.
+pub fn check_isolate(s: &[u32], told: usize, start: u32, end: u32) -> Verdict
+    ensures { λ r. ⌜ ((d : ℕ) → refusedFor r ≡ isolateRefusal start end d told (view (now (s .entry)))) ⌝ }
+{
+    match check_run(s, told, start, end) {
+        Verdict::Accepted => check_room(isolated_count(s, told, start, end), records(s)),
+        Verdict::Refused(r) => Verdict::Refused(r),
+    }
+}
+
+// What `iter_filter` is refused for: 18, 19, 14, or 15 for the second run.
+pub fn check_filter(s: &[u32], told: usize, start: u32, end: u32, out: &[u32]) -> Verdict
+    ensures { λ r. ⌜ refusedFor r ≡ filterRefusal start end told (view (now (s .entry))) (view (now (out .entry))) ⌝ }
+{
+    match check_run(s, told, start, end) {
+        Verdict::Accepted => check_room(filtered_count(s, told, start, end), records(out)),
+        Verdict::Refused(r) => Verdict::Refused(r),
+    }
 }

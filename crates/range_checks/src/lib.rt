@@ -1,4 +1,4 @@
-// Range checks: 01's table on the calls on ranged states, 10, 14 and 15 in its order, on unchanged storage.
+// Range checks: 01's table on the calls on ranged states, 18, 19, 14 and 15 in its order, on unchanged storage.
 //
 // Place in the picture: over `range_states` and `range_isolate`, whose counts it asks, and under `range_calls`.
 //

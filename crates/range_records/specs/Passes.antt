@@ -1,6 +1,6 @@
 -- The passes over a run of records: what each computes, in the direction of its loop. That they are the model's calls is proved in proofs/.
 use Rattle.model.specs.Prelude.{ℕ, zero, suc, _+_, _-_, _≤_, min, max, Bool, true, _&&_, _||_, not, List, [], _∷_, leb, ltb, eqb, getD, set}
-use Rattle.model.specs.declared.Refusal.the-variants.{SelectorEmpty, RangesOutOfOrder, NoFreeEntry}
+use Rattle.model.specs.declared.Refusal.the-variants.{LayersEmpty, LayersReversed, RangesOutOfOrder, NoFreeEntry}
 use Rattle.model.specs.{declared.{Range.Range, Refusal.Refusal, Verdict.Verdict}, Base.if_then_else_, RangedStates.{range, joins}}
 use Rattle.range_states.specs.{View.blank, Filtering.{overlaps, clip}}
 use Rattle.range_calls.specs.declared.{CoalesceAnswer.CoalesceAnswer, FilterAnswer.FilterAnswer}
@@ -67,21 +67,37 @@ refusedPlan r = record { answer = isolate.Refused r; len = 0; top = 0 }
 abbrev pub lengthOf : ℕ → ℕ → ℕ → Scan → ℕ
 lengthOf a e told s = told + gapsOf a e s + s .lead + s .tail
 
--- 10, 14, 15, or what `isolate` tells
-unfoldable pub isolatePlan : ℕ → ℕ → Scan → ℕ → ℕ → Plan
-isolatePlan lent told s a e =
-    if leb e a then refusedPlan SelectorEmpty
-    else if ltb lent told || not (s .ascends) then refusedPlan RangesOutOfOrder
-    else if ltb lent (lengthOf a e told s) then refusedPlan NoFreeEntry
-    else record {
-      answer = isolate.Isolated (record { position = s .first + s .lead; count = s .found + gapsOf a e s; told = lengthOf a e told s });
-      len = lengthOf a e told s;
-      top = max (s .from) e;
-    }
-
 -- 14
 unfoldable pub verdictOf : ℕ → ℕ → Scan → Verdict
 verdictOf lent told s = if ltb lent told || not (s .ascends) then verdict.Refused RangesOutOfOrder else verdict.Accepted
+
+-- 18, 19, and then 14
+unfoldable pub runVerdict : ℕ → ℕ → Scan → ℕ → ℕ → Verdict
+unfolding verdictOf
+runVerdict lent told s a e =
+    if eqb a e then verdict.Refused LayersEmpty else if ltb e a then verdict.Refused LayersReversed else verdictOf lent told s
+
+-- what `isolate` tells, if it is not refused
+abbrev pub isolatedPlan : ℕ → Scan → ℕ → ℕ → Plan
+isolatedPlan told s a e = record {
+  answer = isolate.Isolated (record { position = s .first + s .lead; count = s .found + gapsOf a e s; told = lengthOf a e told s });
+  len = lengthOf a e told s;
+  top = max (s .from) e;
+}
+
+-- 15, or what it tells
+abbrev pub roomPlan : ℕ → ℕ → Scan → ℕ → ℕ → Plan
+roomPlan lent told s a e = if ltb lent (lengthOf a e told s) then refusedPlan NoFreeEntry else isolatedPlan told s a e
+
+-- a plan, where the run is accepted
+abbrev pub planFor : Verdict → Plan → Plan
+planFor verdict.Accepted p = p
+planFor (verdict.Refused r) p = refusedPlan r
+
+-- 18, 19, 14, 15, or what `isolate` tells
+unfoldable pub isolatePlan : ℕ → ℕ → Scan → ℕ → ℕ → Plan
+unfolding runVerdict
+isolatePlan lent told s a e = planFor (runVerdict lent told s a e) (roomPlan lent told s a e)
 
 -- what is accepted is done for n records, what is refused for none
 abbrev pub grantedOf : Verdict → ℕ → ℕ
@@ -92,13 +108,19 @@ abbrev pub coalescedOf : Verdict → ℕ → CoalesceAnswer
 coalescedOf verdict.Accepted n = coalesce.Coalesced n
 coalescedOf (verdict.Refused r) n = coalesce.Refused r
 
--- 10, 14, 15, or what `iter_filter` tells
+-- 15, or how many overlaps were found
+abbrev pub roomAnswer : ℕ → ℕ → FilterAnswer
+roomAnswer found room = if ltb room found then filter.Refused NoFreeEntry else filter.Filtered found
+
+-- an answer, where the run is accepted
+abbrev pub filterFor : Verdict → FilterAnswer → FilterAnswer
+filterFor verdict.Accepted x = x
+filterFor (verdict.Refused r) x = filter.Refused r
+
+-- 18, 19, 14, 15, or what `iter_filter` tells
 unfoldable pub filterPlan : ℕ → ℕ → Scan → ℕ → ℕ → ℕ → FilterAnswer
-filterPlan lent told s a e room =
-    if leb e a then filter.Refused SelectorEmpty
-    else if ltb lent told || not (s .ascends) then filter.Refused RangesOutOfOrder
-    else if ltb room (s .found) then filter.Refused NoFreeEntry
-    else filter.Filtered (s .found)
+unfolding runVerdict
+filterPlan lent told s a e room = filterFor (runVerdict lent told s a e) (roomAnswer (s .found) room)
 
 abbrev pub filterCount : FilterAnswer → ℕ
 filterCount (filter.Filtered n) = n

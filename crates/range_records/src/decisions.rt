@@ -16,9 +16,9 @@ ghost use Prim.Native.Nat.{_+_, _-_, _≤_, _<_, min};
 ghost use lib.Dec.{ltb};
 ghost use Rattle.model.specs.RangedStates.{joins as joinsOf};
 ghost use Rattle.range_states.specs.View.{blank as blankOf};
-ghost use Rattle.range_records.specs.Passes.{countOf, followsOf, cutsOf, Few, begun, lookOf};
-ghost use Rattle.range_records.specs.Passes.{isolatePlan, refusedPlan, verdictOf, grantedOf, coalescedOf, filterPlan, filterCount};
-ghost use Rattle.range_records.specs.Passes.{endOf, lowerOf, leftOf, cutPiece, joinOf};
+ghost use Rattle.range_records.specs.Passes.{countOf, followsOf, cutsOf, Few, begun, lookOf, isolatePlan, refusedPlan, verdictOf};
+ghost use Rattle.range_records.specs.Passes.{runVerdict, grantedOf, coalescedOf, filterPlan, filterCount, endOf, lowerOf, leftOf};
+ghost use Rattle.range_records.specs.Passes.{cutPiece, joinOf};
 
 // What `survey` has found among the records so far: where the last one ends, whether they ascend, and how many end at or before the index's
 // start, overlap the index, leave a gap in it, are cut by its start, and by its end.
@@ -120,8 +120,8 @@ pub fn within(told: usize, lent: usize) -> usize
 }
 
 // 14: whether the told length passes what was lent, or the records do not ascend.
-pub fn out_of_order(lent: usize, told: usize, s: Scan) -> bool
-    ensures { λ r. ⌜ (r ≡ (ltb lent told || not (s .ascends))) × (r ≡ false → told ≤ lent) ⌝ }
+fn out_of_order(lent: usize, told: usize, s: Scan) -> bool
+    ensures { λ r. ⌜ r ≡ (ltb lent told || not (s .ascends)) ⌝ }
 {
     if lent < told {
         return true;
@@ -129,32 +129,27 @@ pub fn out_of_order(lent: usize, told: usize, s: Scan) -> bool
     !s.ascends
 }
 
-// What `isolate` answers, after the scan: 10, 14, 15 for all records that it would leave, or what it tells.
-pub fn plan_isolate(lent: usize, told: usize, s: Scan, start: u32, end: u32) -> Plan
-    requires { ⌜ Few s 2305843009213693951 ⌝ }
-    requires { ⌜ lent ≤ 2305843009213693951 ⌝ }
-    ensures { λ x. ⌜ x ≡ isolatePlan lent told s start end ⌝ }
+// What `coalesce` is refused for, after the scan: 14.
+pub fn verdict(lent: usize, told: usize, s: Scan) -> Verdict
+    ensures { λ x. ⌜ x ≡ verdictOf lent told s ⌝ }
 {
-    if end <= start {
-        return refused_plan(Refusal::SelectorEmpty);
-    }
     if out_of_order(lent, told, s) {
-        return refused_plan(Refusal::RangesOutOfOrder);
+        return Verdict::Refused(Refusal::RangesOutOfOrder);
     }
-    let gaps = s.gaps + one(larger(s.from, start) < end);
-    let n = told + gaps + s.lead + s.tail;
-    if lent < n {
-        return refused_plan(Refusal::NoFreeEntry);
+    Verdict::Accepted
+}
+
+// What `isolate` and `iter_filter` are refused for, after the scan, before the room is looked at: 18, 19, 14.
+fn check_run(lent: usize, told: usize, s: Scan, start: u32, end: u32) -> Verdict
+    ensures { λ x. ⌜ x ≡ runVerdict lent told s start end ⌝ }
+{
+    if start == end {
+        return Verdict::Refused(Refusal::LayersEmpty);
     }
-    Plan {
-        answer: IsolateAnswer::Isolated(Isolation {
-            position: s.first + s.lead,
-            count: s.found + gaps,
-            told: n,
-        }),
-        len: n,
-        top: larger(s.from, end),
+    if end < start {
+        return Verdict::Refused(Refusal::LayersReversed);
     }
+    verdict(lent, told, s)
 }
 
 pub fn refused_plan(r: Refusal) -> Plan
@@ -167,14 +162,31 @@ pub fn refused_plan(r: Refusal) -> Plan
     }
 }
 
-// What `coalesce` is refused for, after the scan: 14.
-pub fn verdict(lent: usize, told: usize, s: Scan) -> Verdict
-    ensures { λ x. ⌜ x ≡ verdictOf lent told s ⌝ }
+// What `isolate` answers, after the scan: 18, 19, 14, 15 for all records that it would leave, or what it tells.
+pub fn plan_isolate(lent: usize, told: usize, s: Scan, start: u32, end: u32) -> Plan
+    requires { ⌜ Few s 2305843009213693951 ⌝ }
+    requires { ⌜ lent ≤ 2305843009213693951 ⌝ }
+    ensures { λ x. ⌜ x ≡ isolatePlan lent told s start end ⌝ }
 {
-    if out_of_order(lent, told, s) {
-        return Verdict::Refused(Refusal::RangesOutOfOrder);
+    match check_run(lent, told, s, start, end) {
+        Verdict::Refused(r) => refused_plan(r),
+        Verdict::Accepted => {
+            let gaps = s.gaps + one(larger(s.from, start) < end);
+            let n = told + gaps + s.lead + s.tail;
+            if lent < n {
+                return refused_plan(Refusal::NoFreeEntry);
+            }
+            Plan {
+                answer: IsolateAnswer::Isolated(Isolation {
+                    position: s.first + s.lead,
+                    count: s.found + gaps,
+                    told: n,
+                }),
+                len: n,
+                top: larger(s.from, end),
+            }
+        }
     }
-    Verdict::Accepted
 }
 
 // How many records `coalesce` goes over: none if it is refused.
@@ -197,7 +209,7 @@ pub fn coalesced(v: Verdict, n: usize) -> CoalesceAnswer
     }
 }
 
-// What `iter_filter` answers, after the scan: 10, 14, 15 for the second run, or how many overlaps there are.
+// What `iter_filter` answers, after the scan: 18, 19, 14, 15 for the second run, or how many overlaps there are.
 pub fn plan_filter(
     lent: usize,
     told: usize,
@@ -208,16 +220,15 @@ pub fn plan_filter(
 ) -> FilterAnswer
     ensures { λ x. ⌜ x ≡ filterPlan lent told s start end room ⌝ }
 {
-    if end <= start {
-        return FilterAnswer::Refused(Refusal::SelectorEmpty);
+    match check_run(lent, told, s, start, end) {
+        Verdict::Refused(r) => FilterAnswer::Refused(r),
+        Verdict::Accepted => {
+            if room < s.found {
+                return FilterAnswer::Refused(Refusal::NoFreeEntry);
+            }
+            FilterAnswer::Filtered(s.found)
+        }
     }
-    if out_of_order(lent, told, s) {
-        return FilterAnswer::Refused(Refusal::RangesOutOfOrder);
-    }
-    if room < s.found {
-        return FilterAnswer::Refused(Refusal::NoFreeEntry);
-    }
-    FilterAnswer::Filtered(s.found)
 }
 
 // How many overlaps `iter_filter` writes: none if it is refused.

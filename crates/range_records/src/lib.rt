@@ -8,10 +8,10 @@
 //     strips      the passes over the records, and the three calls
 //
 // What holds: nothing is required of the three calls. Each answer, and the records afterwards, equal the definitions of
-// model/specs/RangeCalls, as those of `range_calls` do (range_calls/specs/RangeContract); a refusal (10, 14, 15) leaves every record as it
-// was, and no room is asked of the caller. specs/Passes says what each pass computes, in the direction of its loop. In proofs/, Laws shows
-// that the passes together are the model's calls, strips/ are the walks, by the rules of crate `walk`, and Walks has a range record as the
-// element of a run.
+// model/specs/RangeCalls, as those of `range_calls` do (range_calls/specs/RangeContract); a refusal (18, 19, 14, 15) leaves every record as
+// it was, and no room is asked of the caller. specs/Passes says what each pass computes, in the direction of its loop. In proofs/, Laws
+// shows that the passes together are the model's calls, strips/ are the walks, by the rules of crate `walk`, and Walks has a range record
+// as the element of a run.
 mod decisions;
 pub mod strips;
 

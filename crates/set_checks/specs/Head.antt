@@ -1,10 +1,9 @@
 -- What the checks read of a table: the head of its view.
-use Rattle.model.specs.Prelude.{ℕ, zero, suc, _<_, arith, _≡_, refl, ap, _∙_, Bool, true, false, Option, none, some, List, [], _∷_, _++_}
-use Rattle.model.specs.Prelude.{map, getD}
+use Rattle.model.specs.Prelude.{ℕ, zero, suc, _<_, _≡_, refl, ap, _∙_, Option, none, some, List, _++_, map, getD}
 use Rattle.model.specs.declared.Selection.the-variants.{Full, Part}
 use Rattle.model.specs.declared.{UsageFlags.UsageFlags, Extent.Extent, Refusal.Refusal, Selector.Selector, Selection.Selection}
-use Rattle.model.specs.{declared.Verdict.Verdict, Base.if_then_else_, Sets.{Head, ownExtent, headOf}}
-use Rattle.model.specs.{Refusals.{Check, firstFailing, textureChecks, selectorChecks, stateChecks, singleRefusal, refusedFor}, Log.orNext}
+use Rattle.model.specs.{declared.Verdict.Verdict, Base.if_then_else_, Sets.{Head, ownExtent, headOf}, CheckLaws.checks-append}
+use Rattle.model.specs.{Refusals.{firstFailing, textureChecks, selectorChecks, stateChecks, singleRefusal, refusedFor}, Log.orNext}
 use Rattle.set_storage.specs.Storage.{numbersOf, flagsOf, ownedOf, extentOf, slotWith, setWith, scopeOf, trackerOf, listFrom, texturesAt}
 use Rattle.set_storage.specs.Lists.{list-at}
 
@@ -67,23 +66,6 @@ tracker-head t s e = head-is _ t
 -- an index within the set
 pub extent-at : (t : List ℕ) (i : ℕ) → i < getD t texturesAt 0 → getD (headIn t .extents) i none ≡ ownedExtent t i
 extent-at t i h = list-at (ownedExtent t) (getD t texturesAt 0) i none h
-
--- ---- one list of checks after another
-pub checks-append : (xs ys : List Check) → firstFailing (xs ++ ys) ≡ orNext (firstFailing xs) (firstFailing ys)
-unfolding firstFailing
-checks-append [] ys = refl
-checks-append (c ∷ xs) ys = go (c .fails) (checks-append xs ys)
-  where
-    go : (b : Bool) → firstFailing (xs ++ ys) ≡ orNext (firstFailing xs) (firstFailing ys)
-        → (if b then some (c .answer) else firstFailing (xs ++ ys))
-        ≡ orNext (if b then some (c .answer) else firstFailing xs) (firstFailing ys)
-    go true e = refl
-    go false e = e
-
--- none of two refusals: none in either
-pub none-both : (p q : Option Refusal) → orNext p q ≡ none → (p ≡ none) × (q ≡ none)
-none-both none q e = (refl, e)
-none-both (some r) q e = absurd (let z : _≡_ {A = ℕ} 0 1 = cc in omega arith)
 
 pub use-splits : (t : List ℕ) (i : ℕ) (sh : Extent) (s : Selection) (st : ℕ)
     → useRefusal t i sh s st ≡ orNext (orNext (textureRefusal t i sh) (selectorRefusal sh s)) (stateRefusal (flagsOf t) st)

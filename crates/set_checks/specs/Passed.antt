@@ -1,14 +1,15 @@
 -- What checks that passed show: of a texture, a selector, a state, a use, a set and a list.
-use Rattle.model.specs.Prelude.{ℕ, _≤_, _<_, arith, _≡_, refl, sym, Bool, true, false, _||_, and-eq-true-iff, Option, none, some, List, ltb}
-use Rattle.model.specs.Prelude.{eqb, length, getD, ltb-true, ltb-false, eqb-false, not-false}
+use Rattle.model.specs.Prelude.{ℕ, _≤_, _<_, arith, _≡_, refl, sym, Bool, true, false, Option, none, some, List, ltb, length, getD}
+use Rattle.model.specs.Prelude.{ltb-true, not-false}
 use Rattle.model.specs.{declared.Refusal.the-variants.FlagsDiffer, declared.Selection.the-variants.Part}
 use Rattle.model.specs.declared.{Extent.Extent, Refusal.Refusal, Selector.Selector, Selection.Selection, UsageFlags.UsageFlags}
-use Rattle.model.specs.{Base.if_then_else_, Flags.{meets, incompatible, sameFlags}, Representation.{mipStart, mipEnd, layerStart, layerEnd}}
-use Rattle.model.specs.{Sets.outside, Refusals.{sameExtent, otherExtent, setRefusal, sparseRefusal}, Log.orNext, BoolLaws.{by-lt, neither}}
-use Rattle.model.specs.CheckLaws.{first-passed, inside, same-extent, same-flags}
+use Rattle.model.specs.{Base.if_then_else_, Flags.sameFlags, Sets.outside, Refusals.{sameExtent, otherExtent, setRefusal, sparseRefusal}}
+use Rattle.model.specs.{Log.orNext, BoolLaws.{by-lt, neither}}
+use Rattle.model.specs.CheckLaws.{passed, first-passed, none-both, inside, same-extent, same-flags, SelectorWithin, selector-within}
+use Rattle.model.specs.CheckLaws.{StatePassed, state-shown}
 use Rattle.set_storage.specs.Storage.{flagsOf, ownedOf, extentOf, layerLimitAt, mipLimitAt, texturesAt}
 use Rattle.set_checks.specs.Head.{ownedExtent, headIn, extent-at, textureRefusal, selectorRefusal, stateRefusal, useRefusal}
-use Rattle.set_checks.specs.Head.{use-splits, none-both}
+use Rattle.set_checks.specs.Head.{use-splits}
 use Rattle.set_checks.specs.Sets.{firstOf, first-none, ownedRefusal, listedRefusal, listedAt, listed-in, listed-past, set-splits}
 use Rattle.set_checks.specs.Sets.{sparse-splits}
 
@@ -21,20 +22,6 @@ pub record TexturePassed (t : List ℕ) (i : ℕ) (sh : Extent) : Type 0 where
   pub low : sh .layers ≤ getD t layerLimitAt 0
   pub own : ownedOf t i ≡ true → extentOf t i ≡ sh
 
--- what 10 and 11 show of a selector in an extent
-pub record SelectorPassed (sh : Extent) (q : Selector) : Type 0 where
-  pub order : mipStart q < mipEnd q
-  pub span : layerStart q < layerEnd q
-  pub in-mips : mipEnd q ≤ sh .mips
-  pub in-layers : layerEnd q ≤ sh .layers
-
--- what 12 and 13 show of a state
-pub record StatePassed (p : UsageFlags) (st : ℕ) : Type 0 where
-  pub nonzero : st ≡ 0 → ⊥
-  pub plain : meets st (p .complex) ≡ false
-  pub known : meets st (p .unknown) ≡ false
-  pub fits : incompatible p st ≡ false
-
 -- what 6 to 9 show of every texture that a given set owns
 pub record SetPassed (t g : List ℕ) : Type 0 where
   pub flags : flagsOf g ≡ flagsOf t
@@ -45,8 +32,6 @@ pub record SparsePassed (t g list : List ℕ) : Type 0 where
   pub flags : flagsOf g ≡ flagsOf t
   pub below : (k : ℕ) → k < length list → getD list k 0 < getD g texturesAt 0
   pub each : (k : ℕ) → k < length list → ownedOf g (getD list k 0) ≡ true → TexturePassed t (getD list k 0) (extentOf g (getD list k 0))
-
--- ---- tests that failed, and what they tell
 
 -- ---- 7, 8, 9
 pub texture-passed : (t : List ℕ) (i : ℕ) (sh : Extent) → textureRefusal t i sh ≡ none → TexturePassed t i sh
@@ -61,30 +46,17 @@ texture-passed t i sh e =
     owned : ownedOf t i ≡ true → otherExtent (ownedExtent t i) sh ≡ false → extentOf t i ≡ sh
     owned o d = same-extent (extentOf t i) sh (not-false (sameExtent (extentOf t i) sh) (rw o at d))
 
--- ---- 10, 11
-pub selector-passed : (sh : Extent) (q : Selector) → selectorRefusal sh (Part q) ≡ none → SelectorPassed sh q
+-- ---- 16 to 19, 11
+pub selector-passed : (sh : Extent) (q : Selector) → selectorRefusal sh (Part q) ≡ none → SelectorWithin sh q
 unfolding selectorRefusal
-selector-passed sh q e =
-    let a = first-passed _ _ e in let b = first-passed _ _ (a .1) in
-    let o = and-eq-true-iff (ltb (mipStart q) (mipEnd q)) (ltb (layerStart q) (layerEnd q)) .0 (not-false _ (a .0)) in
-    let p = neither (ltb (sh .mips) (mipEnd q)) (ltb (sh .layers) (layerEnd q)) (b .0) in
-    record {
-      order = ltb-true (mipStart q) (mipEnd q) (o .0);
-      span = ltb-true (layerStart q) (layerEnd q) (o .1);
-      in-mips = ltb-false (sh .mips) (mipEnd q) (p .0);
-      in-layers = ltb-false (sh .layers) (layerEnd q) (p .1);
-    }
+selector-passed sh q e = selector-within sh q (passed _ e)
 
 -- ---- 12, 13
 pub state-passed : (p : UsageFlags) (st : ℕ) → stateRefusal p st ≡ none → StatePassed p st
 unfolding stateRefusal
-state-passed p st e =
-    let a = first-passed _ _ e in let b = first-passed _ _ (a .1) in
-    let r = neither (eqb st 0 || meets st (p .unknown)) (meets st (p .complex)) (a .0) in
-    let z = neither (eqb st 0) (meets st (p .unknown)) (r .0) in
-    record { nonzero = eqb-false st 0 (z .0); plain = r .1; known = z .1; fits = b .0 }
+state-passed p st e = state-shown p st (passed _ e)
 
--- ---- 7 to 13: all of a use's
+-- ---- 7 to 13, 16 to 19: all of a use's
 pub use-passed : (t : List ℕ) (i : ℕ) (sh : Extent) (s : Selection) (st : ℕ) → useRefusal t i sh s st ≡ none
     → (textureRefusal t i sh ≡ none) × ((selectorRefusal sh s ≡ none) × (stateRefusal (flagsOf t) st ≡ none))
 use-passed t i sh s st e =

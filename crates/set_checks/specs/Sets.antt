@@ -5,8 +5,9 @@ use Rattle.model.specs.{declared.Refusal.the-variants.{FlagsDiffer, NoSuchIndex
 use Rattle.model.specs.{Base.{if_then_else_, each, eachAt}, Flags.sameFlags}
 use Rattle.model.specs.Refusals.{Check, firstFailing, extentOutside, otherExtent, flagsCheck, ownedChecks, setRefusal, sparseChecks}
 use Rattle.model.specs.{Refusals.{sparseRefusal, trackerIndex, refusedFor}, Log.orNext, BoolLaws.by-lt}
+use Rattle.model.specs.CheckLaws.{checks-append, none-both}
 use Rattle.set_storage.specs.Storage.{numbersOf, flagsOf, extentOf, listFrom, ownedAt, texturesAt}
-use Rattle.set_checks.specs.Head.{ownedExtent, headIn, extent-at, checks-append, none-both}
+use Rattle.set_checks.specs.Head.{ownedExtent, headIn, extent-at}
 
 -- ---- The first refusal of f k, f (k + 1) and so on, n of them
 unfoldable pub firstOf : (ℕ → Option Refusal) → ℕ → ℕ → Option Refusal

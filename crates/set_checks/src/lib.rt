@@ -1,4 +1,4 @@
-// Set checks: 01's table from 6 to 13, on the numbers of a table: what a call answers before it changes anything.
+// Set checks: 01's table from 6 to 13, 16 to 19 in 10's place, on the numbers of a table: what a call answers before it changes anything.
 //
 // Place in the picture: over `set_storage` and `usage`, under the public calls, which test the sets first (4, `set_wellformed`) and count
 // the log's entries last (15, `texture_barrier`). Each check equals the model's (model/specs/Refusals) at the head of the view: the
@@ -71,15 +71,21 @@ pub fn check_texture(table: &Table, index: TrackerIndex, extent: Extent) -> Verd
     Verdict::Accepted
 }
 
-// 10, 11: a selector.
+// 16 to 19, 11: a selector.
 pub fn check_selector(extent: Extent, q: Selector) -> Verdict
     ensures { λ x. ⌜ SelectorTold extent (Selection.Part q) x ⌝ }
 {
-    if q.mips.end.0 <= q.mips.start.0 {
-        return Verdict::Refused(Refusal::SelectorEmpty);
+    if q.mips.start.0 == q.mips.end.0 {
+        return Verdict::Refused(Refusal::MipsEmpty);
     }
-    if q.layers.end.0 <= q.layers.start.0 {
-        return Verdict::Refused(Refusal::SelectorEmpty);
+    if q.mips.end.0 < q.mips.start.0 {
+        return Verdict::Refused(Refusal::MipsReversed);
+    }
+    if q.layers.start.0 == q.layers.end.0 {
+        return Verdict::Refused(Refusal::LayersEmpty);
+    }
+    if q.layers.end.0 < q.layers.start.0 {
+        return Verdict::Refused(Refusal::LayersReversed);
     }
     if extent.mips < q.mips.end.0 {
         return Verdict::Refused(Refusal::SelectorPastExtent);
@@ -90,7 +96,7 @@ pub fn check_selector(extent: Extent, q: Selector) -> Verdict
     Verdict::Accepted
 }
 
-// 10, 11: a selector, if one is given.
+// 16 to 19, 11: a selector, if one is given.
 pub fn check_selection(extent: Extent, selection: Selection) -> Verdict
     ensures { λ x. ⌜ SelectorTold extent selection x ⌝ }
 {
@@ -113,7 +119,7 @@ pub fn check_state(p: UsageFlags, state: u32) -> Verdict
     Verdict::Accepted
 }
 
-// 7 to 13: a use of one texture.
+// 7 to 13, 16 to 19 in 10's place: a use of one texture.
 pub fn check_single(
     table: &Table,
     index: TrackerIndex,

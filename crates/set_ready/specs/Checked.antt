@@ -2,12 +2,12 @@
 use Rattle.model.specs.Prelude.{ℕ, _+_, _≡_, sym, ap, subst, _∙_, Bool, true, false, and-eq-true-iff, List, bitAnd, bitOr, getD, ne-eqb}
 use Rattle.model.specs.Prelude.{not-false, eqb-true}
 use Rattle.model.specs.{declared.{UsageFlags.UsageFlags, Extent.Extent, Selector.Selector}, Flags.meets, Sets.Numbers}
-use Rattle.model.specs.{Representation.{isFull, full}, RangedStates.Tiles}
+use Rattle.model.specs.{Representation.{isFull, full}, RangedStates.Tiles, CheckLaws.{SelectorWithin, StatePassed}}
 use Rattle.set_storage.specs.{Storage.{numbersOf, flagsOf, extentOf, ownedOf, startHalf, endHalf, mipOf, ownedAt}, Frames.Measured}
-use Rattle.set_storage.specs.Texture.{TextureReady, TextureHeld, SelectorWithin}
+use Rattle.set_storage.specs.Texture.{TextureReady, TextureHeld}
 use Rattle.texture_merge.specs.Uses.{UseReady, HeldReady}
 use Rattle.texture_update.specs.Update.{UpdateReady, Selecting}
-use Rattle.set_checks.specs.Passed.{TexturePassed, SelectorPassed, StatePassed}
+use Rattle.set_checks.specs.Passed.{TexturePassed}
 use Rattle.set_ready.specs.Tested.{HalfFits, not-bit, union-not-bit}
 
 -- ---- A state that passed the checks
@@ -41,7 +41,7 @@ full-is sh q e =
 -- a use of a texture with the extent sh that passed the checks, by the flags of the table t
 pub record TakenUse (t : List ℕ) (sh : Extent) (all : Bool) (q : Selector) (p : UsageFlags) (new : ℕ) : Type 0 where
   pub flags : p ≡ flagsOf t
-  pub selector : SelectorPassed sh q
+  pub selector : SelectorWithin sh q
   pub whole : all ≡ true → q ≡ full sh
   pub state : StatePassed p new
 
@@ -71,16 +71,13 @@ module _ {h i : ℕ} {t r : List ℕ} {sh : Extent} (m : Measured (numbersOf t) 
   }
 
 -- ---- A use of it
-pub selector-within : {sh : Extent} {q : Selector} → SelectorPassed sh q → SelectorWithin sh q
-selector-within s = record { order = s .order; in-mips = s .in-mips; span = s .span; in-layers = s .in-layers }
-
 module _ {t : List ℕ} {sh : Extent} {all : Bool} {q : Selector} {p : UsageFlags} {new : ℕ} (u : TakenUse t sh all q p new) where
   -- in a table with the same flags
   pub use-ready : {d : Numbers} {h i : ℕ} {t′ r : List ℕ} → TextureReady d h t′ r i sh → flagsOf t′ ≡ flagsOf t
       → UseReady d h t′ r i sh all q p new
   use-ready x e = record {
     texture = x;
-    selector = selector-within (u .selector);
+    selector = u .selector;
     flags = u .flags ∙ sym e;
     whole = u .whole;
     plain = state-plain (u .state);
@@ -99,4 +96,4 @@ module _ {t : List ℕ} {sh : Extent} {all : Bool} {q : Selector} {p : UsageFlag
   update-ready x y = record { start = x; end = y; flags = u .flags; plain = state-plain (u .state) }
 
   pub selecting : Selecting sh q p new
-  selecting = record { selector = selector-within (u .selector); known = state-known (u .state) }
+  selecting = record { selector = u .selector; known = state-known (u .state) }

@@ -1,7 +1,6 @@
 -- A texture of a set in one half of its storage: what every function over it may count on, and what a change elsewhere leaves of that.
 use Rattle.model.specs.Prelude.{ℕ, _≤_, _<_, min-eq-left, arith, _≡_, refl, sym, subst, _∙_, List, [], length, getD, lt-leb}
-use Rattle.model.specs.{declared.{Extent.Extent, Selector.Selector}, Sets.Numbers, Representation.{mipStart, mipEnd, layerStart, layerEnd}}
-use Rattle.model.specs.{RangedStates.Tiles, BoolLaws.by-lt}
+use Rattle.model.specs.{declared.Extent.Extent, Sets.Numbers, RangedStates.Tiles, BoolLaws.by-lt}
 use Rattle.set_storage.specs.Storage.{numbersOf, flagsOf, startHalf, mipsIn, mipOf, countAt, mipsAt, layersAt, stateAt, complexAt}
 use Rattle.set_storage.specs.Storage.{exclusiveAt, layerLimitAt, mipLimitAt, texturesAt, uninitializedAt, unknownAt}
 use Rattle.set_storage.specs.{Stays.HalfFrame, Frames.Measured, Slots.half-low}
@@ -25,13 +24,6 @@ RangesTile d h t r i sh = getD t (stateAt h i) 0 ≡ getD t complexAt 0 → (k :
 pub record TextureHeld (d : Numbers) (h : ℕ) (t r : List ℕ) (i : ℕ) (sh : Extent) : Type 0 where
   pub ready : TextureReady d h t r i sh
   pub tiled : RangesTile d h t r i sh
-
--- a selector that names something of a texture of extent sh, and nothing past it
-pub record SelectorWithin (sh : Extent) (q : Selector) : Type 0 where
-  pub order : mipStart q < mipEnd q
-  pub in-mips : mipEnd q ≤ sh .mips
-  pub span : layerStart q < layerEnd q
-  pub in-layers : layerEnd q ≤ sh .layers
 
 -- ranges that tile the layers are no more than there is room for
 pub tiles-few : (d : Numbers) (h : ℕ) (t r : List ℕ) (i k w : ℕ) → 0 < w → Tiles 0 (mipOf d h t r i k) w

@@ -1,10 +1,10 @@
 -- The model's `barrier` of a stored texture, by what its word tells: Many, or one state.
 use Rattle.model.specs.Prelude.{ℕ, _+_, _-_, arith, _≡_, refl, Bool, true, false, List, [], _∷_, getD}
 use Rattle.model.specs.{declared.{Range.Range, Selector.Selector, Extent.Extent, UsageFlags.UsageFlags}, Base.{if_then_else_, eachAt}}
-use Rattle.model.specs.{Representation.{full, mipStart, mipEnd}, StateRules.moveOf}
+use Rattle.model.specs.{Representation.{full, mipStart, mipEnd}, StateRules.moveOf, CheckLaws.SelectorWithin}
 use Rattle.model.specs.Texture.{Given, givenSingle, givenMany, fromHeld, single, many, entry, barrier}
 use Rattle.set_storage.specs.{Storage.{numbersOf, mipOf, listFrom, heldOf, complexAt}, Slots.{held-many, held-single}}
-use Rattle.set_storage.specs.Texture.{TextureHeld, SelectorWithin, texture-mips}
+use Rattle.set_storage.specs.Texture.{TextureHeld, texture-mips}
 use Rattle.texture_barrier.specs.{declared.mip.Step.the-variants.From, Steps.stepEntries}
 use Rattle.texture_barrier.specs.Textures.{piece, stepOf, single-to-state, many-to-state, single-to-piece, many-to-piece}
 use Rattle.texture_barrier.specs.{Textures.{single-to-many, many-to-many}, Ready.{mipsEntries, pairEntries}}

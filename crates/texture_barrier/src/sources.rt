@@ -24,12 +24,13 @@ ghost use mathlib.Core.Bool.{true};
 ghost use mathlib.Core.List.{[], _∷_};
 ghost use Prim.Native.Nat.{_≤_, _<_};
 ghost use Rattle.model.specs.Base.{if_then_else_};
+ghost use Rattle.model.specs.CheckLaws.{SelectorWithin};
 ghost use Rattle.model.specs.Representation.{full as fullOf};
 ghost use Rattle.model.specs.StateRules.{moveOf};
 ghost use Rattle.model.specs.Texture.{givenSingle, givenMany, fromHeld, entry};
 ghost use Rattle.set_storage.specs.Storage.{numbersOf, endHalf, heldOf};
 ghost use Rattle.texture_barrier.specs.Adds.{RoomFor, Adds, entriesAt};
-ghost use Rattle.set_storage.specs.Texture.{TextureHeld, SelectorWithin};
+ghost use Rattle.set_storage.specs.Texture.{TextureHeld};
 ghost use Rattle.texture_barrier.specs.Steps.{logTop};
 ghost use Rattle.texture_barrier.specs.Textures.{piece, taskOf, stepOf, barrierAt};
 

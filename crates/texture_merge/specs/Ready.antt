@@ -3,13 +3,14 @@
 use Rattle.model.specs.Prelude.{ℕ, _+_, _*_, _-_, _≤_, _<_, arith, _≡_, sym, ap, subst, _∙_, List, [], _∷_, _++_, length, getD, set, take}
 use Rattle.model.specs.Prelude.{drop, getD-replicate}
 use Rattle.model.specs.{declared.{Extent.Extent, Range.Range, Selector.Selector}, Representation.{mipStart, mipEnd, layerStart, layerEnd}}
-use Rattle.model.specs.{Sets.Numbers, RangedStates.{range, coalesce, paint, Tiles}, Texture.{onMips, freshMips}, RangeLaws.tiles-one}
+use Rattle.model.specs.{Sets.Numbers, RangedStates.{range, coalesce, paint, Tiles}, Texture.{onMips, freshMips}, CheckLaws.SelectorWithin}
+use Rattle.model.specs.RangeLaws.{tiles-one}
 use Rattle.range_states.specs.View.{decode}
 use Rattle.range_isolate.specs.{Isolation.IsolateRoom, Tiling.isolate-room}
 use Rattle.set_storage.specs.{declared.Located.Located, Part.{baseOf, partOf, part-length}}
 use Rattle.set_storage.specs.Storage.{numbersOf, mipsIn, countAt, mipPart, mipOf, mipsOf, endHalf, complexAt, layerLimitAt, layersAt}
 use Rattle.set_storage.specs.{Storage.mipLimitAt, Frames.{Measured, MipsBecome, MipReady, mip-is, mip-at, mip-put, room-of}}
-use Rattle.set_storage.specs.{Locate.LocatedAt, Texture.{TextureReady, TextureHeld, SelectorWithin, tiles-few, texture-mips}}
+use Rattle.set_storage.specs.{Locate.LocatedAt, Texture.{TextureReady, TextureHeld, tiles-few, texture-mips}}
 
 -- the mips once what a selector names took a state: the others stay, and each of these is coalesced
 abbrev pub updatedMips : ℕ → Selector → ℕ → List (List Range) → List (List Range)
@@ -113,7 +114,7 @@ pub record PieceReady (h : ℕ) (t r : List ℕ) (i m a e : ℕ) : Type 0 where
   pub order : a < e
   pub inside : e ≤ getD t (layersAt i) 0
 
--- ---- A selector that the checks 10 and 11 pass, on texture i
+-- ---- A selector that the checks 16 to 19 and 11 pass, on texture i
 pub record Selects (d : Numbers) (t : List ℕ) (i : ℕ) (q : Selector) : Type 0 where
   pub mips : mipStart q < mipEnd q
   pub layers : layerStart q < layerEnd q

@@ -3,11 +3,10 @@ use Rattle.model.specs.Prelude.{ℕ, _+_, arith, _≡_, refl, sym, ap, Bool, tr
 use Rattle.model.specs.Prelude.{getD}
 use Rattle.model.specs.declared.{UsageFlags.UsageFlags, Extent.Extent, Selector.Selector, Range.Range, InvalidUse.InvalidUse}
 use Rattle.model.specs.{Base.{if_then_else_, Stop, fine, stopped, andThen, walk}, StateRules.{invalidState, unite}, Sets.Numbers}
-use Rattle.model.specs.Representation.{full}
+use Rattle.model.specs.{Representation.full, CheckLaws.SelectorWithin}
 use Rattle.model.specs.Texture.{Held, single, many, Given, givenSingle, givenMany, freshMips, spreadPiece, mergeMip, mergeEvery, invalidUse}
 use Rattle.model.specs.Texture.{asMany, merge}
-use Rattle.set_storage.specs.{Storage.{numbersOf, flagsOf, complexAt}, Slots.HalfBecomes}
-use Rattle.set_storage.specs.Texture.{TextureReady, RangesTile, SelectorWithin}
+use Rattle.set_storage.specs.{Storage.{numbersOf, flagsOf, complexAt}, Slots.HalfBecomes, Texture.{TextureReady, RangesTile}}
 use Rattle.texture_merge.specs.{declared.Stopped.Stopped, Walks.stoppedOf, Ready.updatedMips}
 
 -- a use of all of a texture, or of what a selector names

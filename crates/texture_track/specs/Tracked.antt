@@ -40,7 +40,7 @@ module _ {named : ℕ → Type 0} {fits : Bool} {m : CallResult InvalidUse (List
   pub away-short : fits ≡ true → headWithin (length l / 7) h ≡ false → Tracked named fits m h t s e l (refusedWith LogTooShort h) t s e l
   away-short f z = record { call = called.away-short (refl, (refl, refl)) f z; stays = both-refl t s e }
 
-  -- 6 to 13
+  -- 6 to 13, 16 to 19
   pub away-own : (r : Refusal) → fits ≡ true → headWithin (length l / 7) h ≡ true → m .answer ≡ calls.refused r
       → Tracked named fits m h t s e l (refusedWith r h) t s e l
   away-own r f z a = record { call = called.away-own (refl, (refl, refl)) r f z a; stays = both-refl t s e }

@@ -1,8 +1,8 @@
 -- `update` of one texture of a tracker: what the code needs, and the model's `update` of one use, case by case.
 use Rattle.model.specs.Prelude.{ℕ, _≡_, refl, ap, _∙_, false, false≢true, List, getD, ne-eqb}
-use Rattle.model.specs.declared.{UsageFlags.UsageFlags, Extent.Extent, Selector.Selector, Range.Range}
+use Rattle.model.specs.{declared.{UsageFlags.UsageFlags, Extent.Extent, Selector.Selector, Range.Range}, CheckLaws.SelectorWithin}
 use Rattle.model.specs.Texture.{Held, single, many, givenSingle, learnAll, metBy, spreadEnd, updateAll, update}
-use Rattle.set_storage.specs.{Storage.{numbersOf, flagsOf, startHalf, endHalf, complexAt, stateAt}, Texture.{TextureHeld, SelectorWithin}}
+use Rattle.set_storage.specs.{Storage.{numbersOf, flagsOf, startHalf, endHalf, complexAt, stateAt}, Texture.TextureHeld}
 use Rattle.texture_merge.specs.{Ready.{updatedMips, HalfTiled, many-of}, Uses.{useOf, UseReady, brokenUp}}
 use Rattle.texture_update.specs.Learning.{BothReady}
 

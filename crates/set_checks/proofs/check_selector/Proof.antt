@@ -1,4 +1,4 @@
--- `check_selector` is 01's table, 10 and 11.
+-- `check_selector` is 01's table, 16 to 19 and 11.
 use Rattle.model.specs.Refusals.{firstFailing}
 use Rattle.set_checks.specs.Head.{selectorRefusal}
 use Rattle.set_checks.proofs.check_selector.Statement.{statement}
@@ -25,5 +25,13 @@ returns-5 : tie.Need-returns-5
 unfolding selectorRefusal firstFailing
 returns-5 c = record { is = search tests }
 
+returns-6 : tie.Need-returns-6
+unfolding selectorRefusal firstFailing
+returns-6 c = record { is = search tests }
+
+returns-7 : tie.Need-returns-7
+unfolding selectorRefusal firstFailing
+returns-7 c = record { is = search tests }
+
 pub check-selector-spec : {M : Type 1} → statement M
-check-selector-spec = tie.close (tie.spec returns returns-2 returns-3 returns-4 returns-5)
+check-selector-spec = tie.close (tie.spec returns returns-2 returns-3 returns-4 returns-5 returns-6 returns-7)

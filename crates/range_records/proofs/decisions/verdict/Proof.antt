@@ -6,5 +6,5 @@ use Rattle.range_records.proofs.decisions.verdict.Tie as tie
 
 pub verdict-spec : {M : Type 1} → statement M
 unfolding verdictOf
-verdict-spec = tie.close (tie.spec (λ c κs. search needs) (λ c. rw (sym ((c .before .out-of-order .ensures) .0) ∙ (c .if1 .taken)))
-    (λ c. rw (sym ((c .before .out-of-order .ensures) .0) ∙ (c .if1 .left))))
+verdict-spec = tie.close (tie.spec (λ c κs. search needs) (λ c. rw (sym (c .before .out-of-order .ensures) ∙ (c .if1 .taken)))
+    (λ c. rw (sym (c .before .out-of-order .ensures) ∙ (c .if1 .left))))

@@ -1,10 +1,9 @@
 -- `barrier_texture` goes by the given texture's word and then by its own.
 use Rattle.model.specs.Prelude.{arith, refl, needs}
-use Rattle.model.specs.Representation.{full}
+use Rattle.model.specs.{Representation.full, CheckLaws.SelectorWithin}
 use Rattle.texture_barrier.proofs.Holding.{told-many, told-single, given-single, given-many, given-from}
 use Rattle.texture_barrier.proofs.sources.barrier_texture.Statement.{statement}
 use Rattle.texture_barrier.specs.{Ready.ready, Adds.adds-within}
-use Rattle.set_storage.specs.Texture.{SelectorWithin}
 use Rattle.texture_barrier.proofs.sources.barrier_texture.Tie as tie
 
 barrier-use-requires : tie.Need-barrier-use-requires

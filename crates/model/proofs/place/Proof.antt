@@ -1,0 +1,28 @@
+-- `place` is the model's, case by case.
+use Rattle.model.specs.Prelude.{needs}
+use Rattle.model.proofs.place.Statement.{statement}
+use Rattle.model.proofs.place.Tie as tie
+
+pub place-spec : {M : Type 1} → statement M
+place-spec = tie.close (tie.spec
+    (λ c. search needs) (λ c. search needs) (λ c. search needs) (λ c. search needs) (λ c. search needs) (λ c. search needs)
+    (λ c. search needs) (λ c. search needs) (λ c. search needs) (λ c. search needs) (λ c. search needs) (λ c. search needs)
+    (λ c. search needs) (λ c. search needs) (λ c. search needs) (λ c. search needs) (λ c. search needs) (λ c. search needs)
+    (λ c. rw ((c .enum-told .given) .1))
+    (λ c. rw ((c .enum-told2 .given) .1))
+    (λ c. rw ((c .enum-told3 .given) .1))
+    (λ c. rw ((c .enum-told4 .given) .1))
+    (λ c. rw ((c .enum-told5 .given) .1))
+    (λ c. rw ((c .enum-told6 .given) .1))
+    (λ c. rw ((c .before .r .given) .1))
+    (λ c. rw ((c .before .r2 .given) .1))
+    (λ c. rw ((c .before .r3 .given) .1))
+    (λ c. rw ((c .enum-told7 .given) .1))
+    (λ c. rw ((c .enum-told8 .given) .1))
+    (λ c. rw ((c .enum-told9 .given) .1))
+    (λ c. rw ((c .enum-told10 .given) .1))
+    (λ c. rw ((c .enum-told11 .given) .1))
+    (λ c. rw ((c .enum-told12 .given) .1))
+    (λ c. rw ((c .enum-told13 .given) .1))
+    (λ c. rw ((c .enum-told14 .given) .1))
+    (λ c. rw ((c .enum-told15 .given) .1)))
