@@ -25,7 +25,7 @@ extern "C" {
 /* ---- Version ----------------------------------------------------------------------------------------------------------------- */
 
 #define TRACK_VERSION_MAJOR 0
-#define TRACK_VERSION_MINOR 1
+#define TRACK_VERSION_MINOR 2
 #define TRACK_VERSION_PATCH 0
 #define TRACK_VERSION (TRACK_VERSION_MAJOR * 10000 + TRACK_VERSION_MINOR * 100 + TRACK_VERSION_PATCH)
 
