@@ -124,12 +124,12 @@ static inline tt_flags tt_wgpu_flags(void)
     return flags;
 }
 
-/* One mip, and one layer. The largest number has none past it: the end is then 0, before the start, which a call refuses. */
+/* One mip, and one layer. Past the largest number there is none: of that it is empty, which a call refuses (16, 18). */
 static inline tt_mips tt_mip(uint32_t mip)
 {
     tt_mips mips;
     mips.start = mip;
-    mips.end = mip + 1;
+    mips.end = mip == UINT32_MAX ? mip : mip + 1;
     return mips;
 }
 
@@ -137,7 +137,7 @@ static inline tt_layers tt_layer(uint32_t layer)
 {
     tt_layers layers;
     layers.start = layer;
-    layers.end = layer + 1;
+    layers.end = layer == UINT32_MAX ? layer : layer + 1;
     return layers;
 }
 

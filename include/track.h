@@ -102,9 +102,9 @@ enum track_refusal {
     TRACK_EXTENT_OUT_OF_LIMITS = 8,  /* mips are not 1 to M, or layers not 1 to W */
     TRACK_EXTENT_DIFFERS = 9,        /* the set owns the texture with other mips or layers */
     /* 10 is reserved and never returned: TRACK_SELECTOR_EMPTY of earlier versions is split into 16 to 19. */
-    TRACK_MIPS_EMPTY = 16,           /* mips have no length: they end where they start */
+    TRACK_MIPS_EMPTY = 16,           /* mips end where they start */
     TRACK_MIPS_REVERSED = 17,        /* mips end before they start */
-    TRACK_LAYERS_EMPTY = 18,         /* layers, or those from start up to end in a call on ranges, have no length */
+    TRACK_LAYERS_EMPTY = 18,         /* layers, or those from start up to end in a call on ranges, end where they start */
     TRACK_LAYERS_REVERSED = 19,      /* layers, or those from start up to end in a call on ranges, end before they start */
     TRACK_SELECTOR_PAST_EXTENT = 11, /* an end is past the texture's mips or layers */
     TRACK_STATE_RESERVED = 12,       /* the state is zero, or has UNKNOWN or COMPLEX */

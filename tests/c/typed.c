@@ -248,15 +248,15 @@ static void own_refusals(void)
     EXPECT(memcmp(typed.log + 1, (uint32_t[]){ ENTRIES }, 4) == 0);
 }
 
-/* Of the largest number there is none: what tt_mip and tt_layer make of it ends at 0. */
+/* Past the largest number there is none: what tt_mip and tt_layer make of it is empty. */
 static void largest(void)
 {
     const tt_texture t = { .index = 0, .mips = M, .layers = W };
     const tt_selector mip = { .mips = tt_mip(UINT32_MAX), .layers = tt_layer(0) };
     const tt_selector layer = { .mips = tt_mip(0), .layers = tt_layer(UINT32_MAX) };
     start();
-    EXPECT(refused(tt_merge_single(scope[0], t, mip, 8), TRACK_MIPS_REVERSED));
-    EXPECT(refused(tt_set_single(tracker[0], transitions, t, layer, 8), TRACK_LAYERS_REVERSED));
+    EXPECT(refused(tt_merge_single(scope[0], t, mip, 8), TRACK_MIPS_EMPTY));
+    EXPECT(refused(tt_set_single(tracker[0], transitions, t, layer, 8), TRACK_LAYERS_EMPTY));
 }
 
 /* A refused opening leaves a handle that every call refuses; one byte less than is needed is too short. */
