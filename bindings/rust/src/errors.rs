@@ -32,7 +32,7 @@ use core::{error::Error, fmt};
 /// assert_eq!(refused.to_string(), "a set has 1 to 64 textures, 1 to 16 mips and 1 to 256 layers (refusal 1)");
 /// ```
 ///
-/// 16 to 19 have the mips or layers as they were given:
+/// 16 to 19 have the mips or layers of the selector, whose end is not one of them:
 ///
 /// ```
 /// use texture_tracker::{uses, Extent, Layer, Mip, Refusal, Selector, Texture, TrackerIndex, UsageScope};
@@ -67,11 +67,11 @@ pub enum Refusal {
     ExtentOutOfLimits(TrackerIndex),
     /// 9: the set holds this texture with another extent.
     ExtentDiffers(TrackerIndex),
-    /// 16: the mips have no length: they end where they start.
+    /// 16: the mips are empty: they end where they start.
     MipsEmpty(Span<Mip>),
     /// 17: the mips are reversed: they end before they start.
     MipsReversed(Span<Mip>),
-    /// 18: the layers have no length: they end where they start.
+    /// 18: the layers are empty: they end where they start.
     LayersEmpty(Span<Layer>),
     /// 19: the layers are reversed: they end before they start.
     LayersReversed(Span<Layer>),
@@ -111,7 +111,7 @@ impl Refusal {
         }
     }
 
-    /// Of a call on a part of a texture, which may be what is wrong.
+    /// The refusal of a call on a part of a texture: the part may be what is wrong.
     fn of_part(number: u32, place: u32, part: Selector) -> Self {
         match number {
             16 => Self::MipsEmpty(part.mips),

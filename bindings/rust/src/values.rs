@@ -106,7 +106,7 @@ impl<T: PartialOrd> Span<T> {
         self.start <= *one && *one < self.end
     }
 
-    /// Whether there are none.
+    /// Whether there are none: it ends where it starts, or before.
     pub fn is_empty(&self) -> bool {
         self.start >= self.end
     }

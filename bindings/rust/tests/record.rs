@@ -188,7 +188,7 @@ impl Chance {
         ((self.0 >> 33) % u64::from(end)) as u32
     }
 
-    /// Up to so many from there on, some of them none or reversed.
+    /// Up to `most` from `start` on; now and then none, or reversed.
     fn span(&mut self, start: u32, most: u32) -> Range<u32> {
         match self.below(12) {
             0 => start..start,

@@ -249,7 +249,8 @@ fn the_words() {
     assert!(error.source().is_some());
 }
 
-/// A bad selector is told with its numbers as they were given.
+/// A bad selector is told with the start and the end of its span, and the end is not one of it: also not where it was
+/// given with `..=`.
 #[test]
 fn the_words_of_16_to_19() {
     let words = |mips, layers| refused_by_both(TEXTURE, selector(mips, layers), 8).to_string();
@@ -257,4 +258,6 @@ fn the_words_of_16_to_19() {
     assert_eq!(words(1..0, 0..4), "mips 1 to 0 are reversed: they end before they start (refusal 17)");
     assert_eq!(words(0..1, 2..2), "layers 2 to 2 are empty: they end where they start (refusal 18)");
     assert_eq!(words(0..1, 7..2), "layers 7 to 2 are reversed: they end before they start (refusal 19)");
+    let inclusive = Selector::new(Mip(0), Layer(7)..=Layer(1));
+    assert_eq!(inclusive, selector(0..1, 7..2));
 }

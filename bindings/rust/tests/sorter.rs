@@ -49,7 +49,7 @@ fn its_own_frame() {
 const OUT: &str = "is not a whole number from 0 to 4294967295";
 const LIMITS: &str = "is out of range: a set has 1 to 64 textures, 1 to 16 mips and 1 to 256 layers (refusal 1)";
 const PAST: &str = "the selector ends past the texture's extent (refusal 11)";
-const EMPTY: &str = "are empty: they end just before they begin";
+const EMPTY: &str = "are empty: they end just before they start";
 const A_USE: &str = "write the use: PART, then STATE, then, if it has a name, as NAME";
 
 /// A text, the number of its bad line, and what is said of it.

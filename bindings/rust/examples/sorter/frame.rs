@@ -287,7 +287,7 @@ fn worded(made: &Use, refused: MergeError) -> String {
     let bad = |many: &str, first: u32, end: u32, how: &str| {
         format!("{many} {first} to {} are {how} (refusal {})", end - 1, refusal.number())
     };
-    let empty = "empty: they end just before they begin";
+    let empty = "empty: they end just before they start";
     match refusal {
         Refusal::MipsEmpty(Span { start, end }) => bad("mips", start.0, end.0, empty),
         Refusal::MipsReversed(Span { start, end }) => bad("mips", start.0, end.0, "reversed"),
