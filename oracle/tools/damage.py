@@ -2,9 +2,9 @@
 
 A damage is a list of `poke` lines and the list that mends it. Offsets: README.md, "Storage".
 """
+from chance import TOP
 from storage import COUNTS, HALVES, LAYERS, MIPS, OWNED
 
-TOP = 2 ** 32 - 1
 N, M, W = 3, 2, 4
 # Where the ranges of texture 1 begin: mip 0 has three, mip 1 two.
 MIP0, MIP1 = 3 * (1 * M + 0) * W, 3 * (1 * M + 1) * W

@@ -7,13 +7,13 @@ Cases end with a call that passes, so that a refusal that changed something is s
 """
 from itertools import product
 
+from chance import TOP
 from damage import Damage
 from flags import bits
 from model import SINGLE_CALLS, SPARSE
 
 N, M, W = 3, 2, 4
 ROOM = 3 * N * M * W
-TOP = 2 ** 32 - 1
 # How many damages a case has.
 DAMAGES = 14
 # Mips and layers that pass, that end past the extent, of no length, reversed, and the last two past the extent.
@@ -250,7 +250,7 @@ class Edges:
             yield self.on_sets(lines + [self.passing(int(word[-1]))])
 
     def around(self, word, fault):
-        """The fault of a selector after 7, 8, 9, 4 and 5, and before 12, 13 and 15."""
+        """The fault of a selector after 4, 5, 7, 8 and 9, and before 12, 13 and 15."""
         number, call = int(word[-1]), f"{word} 1 {M} {W}"
         for texture in (f"{N} {M} {W}", f"0 0 {W}", f"0 {M} {W - 1}"):
             yield f"{word} {texture} 0 {fault}"

@@ -1,10 +1,8 @@
 """Cases for isolate, coalesce and iter_filter: those that are always made, refused ones, and random ones."""
 import random
 
-import chance
 import rangemodel
-
-TOP = 2 ** 32 - 1
+from chance import TOP, faulty
 
 
 def text(records):
@@ -95,7 +93,7 @@ def random_refused(rng):
     if rng.random() >= 0.25:
         return []
     _, records = random_records(rng)
-    start, end = chance.faulty(rng, 14)
+    start, end = faulty(rng, 14)
     shown = text(records if rng.random() < 0.7 else records[::-1])
     count, spare = len(records), rng.randrange(3)
     return [f"isolate {start} {end} 9 {count} {count + spare}{shown}",

@@ -12,8 +12,10 @@ import rust
 from flags import ORACLE
 
 QUICK = ["--no-build", "--flags", "bench", "--calls", "2000"]
-# A copy has its drivers where nobody has said otherwise.
+# A copy has its drivers where nobody has said otherwise. No compiled Python is kept: of two copies of one size, broken within a second,
+# the second would be run as the first.
 PLAIN = {name: value for name, value in os.environ.items() if name not in ("CARGO_TARGET_DIR", "ORACLE_VENDOR")}
+PLAIN["PYTHONDONTWRITEBYTECODE"] = "1"
 SPOILED = """#!{python}
 import subprocess, sys
 text = subprocess.run([{python!r}, {answer!r}], input=sys.stdin.read(), text=True, stdout=subprocess.PIPE).stdout
