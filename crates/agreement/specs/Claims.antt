@@ -5,10 +5,10 @@ use Rattle.model.specs.Prelude.{ℕ, _≤_, _<_, _≡_, _↔_, true, false, _||
 use Rattle.model.specs.declared.Refusal.the-variants.{NoFreeEntry}
 use Rattle.model.specs.{declared.{Extent.Extent, Range.Range, Refusal.Refusal, Selector.Selector, UsageFlags.UsageFlags}, Base.{every, All}}
 use Rattle.model.specs.{Flags.flagsFit, Representation.Ends, Sets.{Slot, Set, Tracker, headOf, Opening}}
-use Rattle.model.specs.Refusals.{numberOf, trackerIndex, singleRefusal}
+use Rattle.model.specs.Refusals.{numberOf, placeOf, refusalFrom, trackerIndex, singleRefusal}
 use Rattle.model.specs.{Calls.{Indexed, refused, Call, callMergeSingle, Sets, step, newly}, RangedStates.{Tiles, isolate, listOf}}
 use Rattle.model.specs.{RangeCalls.ascends, Texture.{Held, Entry, ranged}, WellFormed.{scopeFits, trackerFits}}
-use Rattle.model.specs.{Log.{Log, pending, headCheck, logging}, RangeLaws.isolate-few, CheckLaws.never-ten}
+use Rattle.model.specs.{Log.{Log, pending, headCheck, logging}, RangeLaws.isolate-few, CheckLaws.{never-ten, refusal-told}}
 use Rattle.agreement.specs.{Grid.grid, Shared.{toGrids, Use, useFits, TextureShares, Shares, Agree, Demand3, afterCalls}}
 use Rattle.agreement.specs.WellFormedSets.{wellFormed, Word, GivenWord}
 use Rattle.agreement.specs.{LogBound.{entries, namedStates, capacityOf, ownedOf, listed}, Layers.{covered, lengths, AddUp}}
@@ -68,6 +68,10 @@ own = own-refusals ranged
 -- "10 is never given again": whatever is refused, by an opening, a call or a call on ranges, has another number
 pub retired : (r : Refusal) → numberOf r ≡ 10 → ⊥
 retired = never-ten
+
+-- "The answer is the number and a place": the two tell the refusal, so no two rows of the table have one number
+pub told-apart : (r : Refusal) → refusalFrom (numberOf r) (placeOf r) ≡ r
+told-apart = refusal-told
 
 -- ---- Ranges
 -- "A strip's ranges never outnumber the layers it covers": any ascending list of nonempty ranges, gaps allowed, that ends at w or before

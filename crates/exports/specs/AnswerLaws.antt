@@ -1,33 +1,8 @@
 -- Nothing is lost in the numbers: each outcome is told by numbers that tell it alone, and none by 10.
 use Rattle.model.specs.Prelude.{arith, _≡_, refl, ap}
 use Rattle.model.specs.declared.Outcome.the-variants.{Done, Refused, Conflict}
-use Rattle.model.specs.declared.Refusal.the-variants.{NumbersOutOfLimits, FlagsBreakRule, ShortRoom, NotWellFormed, LogTooShort}
-use Rattle.model.specs.declared.Refusal.the-variants.{FlagsDiffer, NoSuchIndex, ExtentOutOfLimits, ExtentDiffers, MipsEmpty, MipsReversed}
-use Rattle.model.specs.declared.Refusal.the-variants.{LayersEmpty, LayersReversed, SelectorPastExtent, StateReserved, StateIncompatible}
-use Rattle.model.specs.declared.Refusal.the-variants.{RangesOutOfOrder, NoFreeEntry}
-use Rattle.model.specs.{declared.{Outcome.Outcome, Refusal.Refusal, Answered.Answered}, Refusals.{numberOf, placeOf}, CheckLaws.never-ten}
-use Rattle.exports.specs.SetAnswers.{answerOf, outcomeOf, refusalFrom, loggedOf, answeredOf}
-
--- a refusal, by its number and place
-pub refusal-told : (r : Refusal) → refusalFrom (numberOf r) (placeOf r) ≡ r
-refusal-told NumbersOutOfLimits = refl
-refusal-told FlagsBreakRule = refl
-refusal-told ShortRoom = refl
-refusal-told NotWellFormed = refl
-refusal-told LogTooShort = refl
-refusal-told FlagsDiffer = refl
-refusal-told (NoSuchIndex i) = refl
-refusal-told (ExtentOutOfLimits i) = refl
-refusal-told (ExtentDiffers i) = refl
-refusal-told MipsEmpty = refl
-refusal-told MipsReversed = refl
-refusal-told LayersEmpty = refl
-refusal-told LayersReversed = refl
-refusal-told SelectorPastExtent = refl
-refusal-told StateReserved = refl
-refusal-told StateIncompatible = refl
-refusal-told RangesOutOfOrder = refl
-refusal-told NoFreeEntry = refl
+use Rattle.model.specs.{declared.{Outcome.Outcome, Refusal.Refusal, Answered.Answered}, CheckLaws.{refusal-told, never-ten}}
+use Rattle.exports.specs.SetAnswers.{answerOf, outcomeOf, loggedOf, answeredOf}
 
 -- an outcome
 pub outcome-told : (x : Outcome) → outcomeOf (answerOf x) ≡ x

@@ -1,8 +1,8 @@
 -- An answer of the calls on ranges in plain numbers: which numbers tell each answer, and which answer the numbers tell.
 use Rattle.model.specs.Prelude.{ℕ, eqb}
-use Rattle.model.specs.{declared.Outcome.Outcome, declared.Outcome.the-variants.{Done, Refused}, Base.if_then_else_}
+use Rattle.model.specs.{declared.Outcome.Outcome, declared.Outcome.the-variants.{Done, Refused}, Base.if_then_else_, Refusals.refusalFrom}
 use Rattle.range_calls.specs.declared.{IsolateAnswer.IsolateAnswer, CoalesceAnswer.CoalesceAnswer, FilterAnswer.FilterAnswer}
-use Rattle.exports.specs.{declared.RangesAnswer.RangesAnswer, SetAnswers.{answerOf, refusalFrom}}
+use Rattle.exports.specs.{declared.RangesAnswer.RangesAnswer, SetAnswers.answerOf}
 use Rattle.range_calls.specs.declared.IsolateAnswer.the-variants as isolate
 use Rattle.range_calls.specs.declared.CoalesceAnswer.the-variants as coalesce
 use Rattle.range_calls.specs.declared.FilterAnswer.the-variants as filter

@@ -1,12 +1,9 @@
 -- An answer in plain numbers: which numbers tell each outcome of a call, and which outcome the numbers tell.
-use Rattle.model.specs.Prelude.{ℕ, List, [], _∷_, eqb}
+use Rattle.model.specs.Prelude.{ℕ, eqb}
 use Rattle.model.specs.{declared.Conflict.Conflict as Conflicting, declared.Outcome.the-variants.{Done, Refused, Conflict}}
-use Rattle.model.specs.declared.Refusal.the-variants.{NumbersOutOfLimits, FlagsBreakRule, ShortRoom, NotWellFormed, LogTooShort}
-use Rattle.model.specs.declared.Refusal.the-variants.{FlagsDiffer, NoSuchIndex, ExtentOutOfLimits, ExtentDiffers, MipsEmpty, MipsReversed}
-use Rattle.model.specs.declared.Refusal.the-variants.{LayersEmpty, LayersReversed, SelectorPastExtent, StateReserved, StateIncompatible}
-use Rattle.model.specs.{declared.Refusal.the-variants.{RangesOutOfOrder, NoFreeEntry}, declared.Selection.the-variants.{Full, Part}}
-use Rattle.model.specs.declared.{LogHead.LogHead, Outcome.Outcome, Refusal.Refusal, Selection.Selection, Selector.Selector}
-use Rattle.model.specs.{declared.{UsageFlags.UsageFlags, Answered.Answered}, Base.if_then_else_, Refusals.{numberOf, placeOf, trackerIndex}}
+use Rattle.model.specs.declared.Selection.the-variants.{Full, Part}
+use Rattle.model.specs.declared.{LogHead.LogHead, Outcome.Outcome, Selection.Selection, Selector.Selector, UsageFlags.UsageFlags}
+use Rattle.model.specs.{declared.Answered.Answered, Base.if_then_else_, Refusals.{numberOf, placeOf, trackerIndex, refusalFrom}}
 use Rattle.model.specs.Representation.{select, mipStart, mipEnd, layerStart, layerEnd}
 use Rattle.exports.specs.declared.{Answer.Answer, LoggedAnswer.LoggedAnswer}
 
@@ -62,24 +59,8 @@ answerOf (Conflict c) = conflictAs c
 abbrev pub loggedOf : Answered → LoggedAnswer
 loggedOf x = record { answer = answerOf (x .outcome); written = x .head .written; free = x .head .free }
 
--- ---- The outcome that numbers tell
--- the rows of 01's table, with a place
-abbrev pub rows : ℕ → List Refusal
-rows i = NumbersOutOfLimits ∷ FlagsBreakRule ∷ ShortRoom ∷ NotWellFormed ∷ LogTooShort ∷ FlagsDiffer
-    ∷ NoSuchIndex (trackerIndex i) ∷ ExtentOutOfLimits (trackerIndex i) ∷ ExtentDiffers (trackerIndex i)
-    ∷ MipsEmpty ∷ MipsReversed ∷ LayersEmpty ∷ LayersReversed ∷ SelectorPastExtent ∷ StateReserved ∷ StateIncompatible
-    ∷ RangesOutOfOrder ∷ NoFreeEntry ∷ []
-
--- the first of some rows with number n. NotWellFormed stands in where no row has it: no answer has such a number, since each has the
--- numbers of the outcome that it tells
-abbrev pub numbered : ℕ → List Refusal → Refusal
-numbered n [] = NotWellFormed
-numbered n (r ∷ rs) = if eqb (numberOf r) n then r else numbered n rs
-
--- the row that a number and a place tell
-abbrev pub refusalFrom : ℕ → ℕ → Refusal
-refusalFrom n i = numbered n (rows i)
-
+-- ---- The outcome that numbers tell; a refusal's number is looked up (model, `refusalFrom`). One that no row of the table has is no
+-- answer's, since an answer has the numbers of the outcome that it tells.
 -- the conflict, by its numbers
 abbrev pub conflictOf : Answer → Conflicting
 conflictOf a = record {

@@ -1,5 +1,5 @@
 -- Lists of checks one after another; what passed checks show of a selector, of a state and of a use; what the tests of numbers, extents
--- and flags decide; and that no refusal has the number 10.
+-- and flags decide; and that a number and a place tell a refusal.
 use Rattle.model.specs.Prelude.{ℕ, _<_, _≤_, arith, _≡_, refl, sym, ap, _∙_, Bool, true, false, _||_, and-eq-true-iff, false≢true}
 use Rattle.model.specs.Prelude.{Option, none, some, List, [], _∷_, _++_, ltb, eqb, eqb-true, eqb-false, ltb-false, not-false}
 use Rattle.model.specs.declared.Refusal.the-variants.{NumbersOutOfLimits, FlagsBreakRule, ShortRoom, NotWellFormed, LogTooShort}
@@ -12,7 +12,7 @@ use Rattle.model.specs.{Base.{if_then_else_, All}, Flags.{meets, incompa
 use Rattle.model.specs.{Representation.{mipStart, mipEnd, layerStart, layerEnd}, Sets.{Slot, Head, ownExtent, outside}, Log.orNext}
 use Rattle.model.specs.{BoolLaws.neither, ListLaws.{all-left, all-right}}
 use Rattle.model.specs.Refusals.{Check, firstFailing, otherExtent, sameExtent, numberOf, accepted, refusedFor, textureChecks}
-use Rattle.model.specs.Refusals.{selectorChecks, stateChecks, singleRefusal}
+use Rattle.model.specs.Refusals.{selectorChecks, stateChecks, singleRefusal, placeOf, refusalFrom}
 
 -- none of these checks failed
 abbrev pub Passed : List Check → Type 0
@@ -141,26 +141,30 @@ same-flags p q e =
     let c = eqb-true (p .complex) (q .complex) (g .1) in let n = eqb-true (p .unknown) (q .unknown) (h .1) in
     λ i. record { exclusive = x i; uninitialized = u i; complex = c i; unknown = n i }
 
--- ---- "10 is never given again": it is no refusal's number
-not-ten : (r : Refusal) → eqb (numberOf r) 10 ≡ false
-not-ten NumbersOutOfLimits = refl
-not-ten FlagsBreakRule = refl
-not-ten ShortRoom = refl
-not-ten NotWellFormed = refl
-not-ten LogTooShort = refl
-not-ten FlagsDiffer = refl
-not-ten (NoSuchIndex i) = refl
-not-ten (ExtentOutOfLimits i) = refl
-not-ten (ExtentDiffers i) = refl
-not-ten MipsEmpty = refl
-not-ten MipsReversed = refl
-not-ten LayersEmpty = refl
-not-ten LayersReversed = refl
-not-ten SelectorPastExtent = refl
-not-ten StateReserved = refl
-not-ten StateIncompatible = refl
-not-ten RangesOutOfOrder = refl
-not-ten NoFreeEntry = refl
+-- ---- numbers of refusals
+-- no two refusals have one number and one place: the two tell the refusal
+pub refusal-told : (r : Refusal) → refusalFrom (numberOf r) (placeOf r) ≡ r
+refusal-told NumbersOutOfLimits = refl
+refusal-told FlagsBreakRule = refl
+refusal-told ShortRoom = refl
+refusal-told NotWellFormed = refl
+refusal-told LogTooShort = refl
+refusal-told FlagsDiffer = refl
+refusal-told (NoSuchIndex i) = refl
+refusal-told (ExtentOutOfLimits i) = refl
+refusal-told (ExtentDiffers i) = refl
+refusal-told MipsEmpty = refl
+refusal-told MipsReversed = refl
+refusal-told LayersEmpty = refl
+refusal-told LayersReversed = refl
+refusal-told SelectorPastExtent = refl
+refusal-told StateReserved = refl
+refusal-told StateIncompatible = refl
+refusal-told RangesOutOfOrder = refl
+refusal-told NoFreeEntry = refl
 
+-- "10 is never given again": it is no refusal's number
 pub never-ten : (r : Refusal) → numberOf r ≡ 10 → ⊥
-never-ten r = eqb-false (numberOf r) 10 (not-ten r)
+never-ten r e =
+    let told : refusalFrom 10 (placeOf r) ≡ r = ap (λ n. refusalFrom n (placeOf r)) (sym e) ∙ refusal-told r in
+    let other : 4 ≡ numberOf r = ap numberOf told in omega (arith, e, other)

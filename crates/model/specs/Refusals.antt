@@ -10,6 +10,10 @@ use Rattle.model.specs.{declared.Verdict.Verdict, Base.{if_then_else_, e
 use Rattle.model.specs.{Flags.{meets, incompatible, flagsFit, sameFlags}, Representation.{mipStart, mipEnd, layerStart, layerEnd}}
 use Rattle.model.specs.Sets.{Numbers, Head, Opening, outside, numbersFit, capacity}
 
+-- a position as the code's `TrackerIndex`
+abbrev pub trackerIndex : ℕ → TrackerIndex
+trackerIndex i = record { 0 = i }
+
 -- ---- 01's number and place of a refusal
 -- the table's column "No."; 10 is no refusal's: "16, 17, 18, 19 in that order, at 10's place; 10 is never given again"
 abbrev pub numberOf : Refusal → ℕ
@@ -52,6 +56,24 @@ placeOf StateReserved = 0
 placeOf StateIncompatible = 0
 placeOf RangesOutOfOrder = 0
 placeOf NoFreeEntry = 0
+
+-- ---- The refusal that a number and a place tell
+-- the rows of the table, with a place
+abbrev pub rows : ℕ → List Refusal
+rows i =
+    NumbersOutOfLimits ∷ FlagsBreakRule ∷ ShortRoom ∷ NotWellFormed ∷ LogTooShort ∷ FlagsDiffer
+    ∷ NoSuchIndex (trackerIndex i) ∷ ExtentOutOfLimits (trackerIndex i) ∷ ExtentDiffers (trackerIndex i)
+    ∷ MipsEmpty ∷ MipsReversed ∷ LayersEmpty ∷ LayersReversed ∷ SelectorPastExtent ∷ StateReserved ∷ StateIncompatible
+    ∷ RangesOutOfOrder ∷ NoFreeEntry ∷ []
+
+-- the first of some rows with number n; NotWellFormed stands in where none has it
+abbrev pub numbered : ℕ → List Refusal → Refusal
+numbered n [] = NotWellFormed
+numbered n (r ∷ rs) = if eqb (numberOf r) n then r else numbered n rs
+
+-- the row with that number
+abbrev pub refusalFrom : ℕ → ℕ → Refusal
+refusalFrom n i = numbered n (rows i)
 
 -- what checks tell: the refusal, if one fails
 abbrev pub refusedFor : Verdict → Option Refusal
@@ -102,10 +124,6 @@ abbrev pub flagsCheck : Head → Head → Check
 flagsCheck into given = check (not (sameFlags (into .flags) (given .flags))) FlagsDiffer
 
 -- ---- 7, 8, 9: a texture
--- a position as the code's `TrackerIndex`
-abbrev pub trackerIndex : ℕ → TrackerIndex
-trackerIndex i = record { 0 = i }
-
 -- two extents are the same
 abbrev pub sameExtent : Extent → Extent → Bool
 sameExtent a b = eqb (a .mips) (b .mips) && eqb (a .layers) (b .layers)
