@@ -59,8 +59,10 @@ answerOf (Conflict c) = conflictAs c
 abbrev pub loggedOf : Answered → LoggedAnswer
 loggedOf x = record { answer = answerOf (x .outcome); written = x .head .written; free = x .head .free }
 
--- ---- The outcome that numbers tell; a refusal's number is looked up (model, `refusalFrom`). One that no row of the table has is no
--- answer's, since an answer has the numbers of the outcome that it tells.
+-- ---- The outcome that numbers tell
+-- (a refusal is looked up by its number, model's `refusalFrom`; a number that no row of the table has is no answer's, since an answer has
+-- the numbers of the outcome that it tells)
+
 -- the conflict, by its numbers
 abbrev pub conflictOf : Answer → Conflicting
 conflictOf a = record {

@@ -53,13 +53,17 @@ pub both-passed : (xs ys : List Check) → firstFailing (xs ++ ys) ≡ none → 
 both-passed xs ys e = none-both (firstFailing xs) (firstFailing ys) (sym (checks-append xs ys) ∙ e)
 
 module _ {v : Verdict} (xs ys : List Check) (told : refusedFor v ≡ firstFailing xs) where
+  -- what the first list told, or else what the second does
+  both-told : {w : Verdict} → v ≡ w → orNext (refusedFor w) (firstFailing ys) ≡ firstFailing (xs ++ ys)
+  both-told e = ap (λ (o : Option Refusal). orNext o (firstFailing ys)) (sym (ap refusedFor e) ∙ told) ∙ sym (checks-append xs ys)
+
   -- the first list was accepted: the second decides
   pub accepted-first : v ≡ Accepted → {o : Option Refusal} → o ≡ firstFailing ys → o ≡ firstFailing (xs ++ ys)
-  accepted-first e u = u ∙ sym (checks-append xs ys ∙ ap (λ (o : Option Refusal). orNext o (firstFailing ys)) (sym told ∙ ap refusedFor e))
+  accepted-first e u = u ∙ both-told e
 
   -- the first list was refused: it decides
   pub refused-first : {r : Refusal} → v ≡ Refused r → some r ≡ firstFailing (xs ++ ys)
-  refused-first e = sym (checks-append xs ys ∙ ap (λ (o : Option Refusal). orNext o (firstFailing ys)) (sym told ∙ ap refusedFor e))
+  refused-first e = both-told e
 
 -- nothing is refused
 pub accepted-none : (o : Option Refusal) → accepted o ≡ true → o ≡ none
