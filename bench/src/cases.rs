@@ -2,6 +2,7 @@
 //! A call leaves its sets as they were, or the next one brings them back, so laps can follow each other; only the sparse call, which
 //! takes textures out of a scope, has them put back between laps, and that is not timed.
 use crate::port::{self, LoggedAnswer, Size};
+use crate::states::{Pattern, States};
 use driver::direct::{self as rust, Half, Selector};
 use std::hint::black_box;
 
@@ -15,12 +16,14 @@ pub enum Kind {
     Cut,
 }
 
-/// What a set holds: textures, how, and their layers. Each has two mips, so that one mip is a part.
+/// What a set holds: textures, how, their layers and states. Each has two mips, so that one mip is a part.
 #[derive(Clone, Copy)]
 pub struct Shape {
     pub textures: u32,
     pub kind: Kind,
     pub layers: u32,
+    /// For a test or a merge. Calls that set need states which differ from those held, and have their own.
+    pub states: States,
 }
 
 const MIPS: u32 = 2;
@@ -73,39 +76,39 @@ impl Shape {
             .collect()
     }
 
-    fn scopes(self, states: [u16; 2]) -> (rust::Scope, port::Scope) {
-        let half = self.half(states);
+    pub fn scopes(self, pattern: Pattern) -> (rust::Scope, port::Scope) {
+        let halves = pattern.map(|states| self.half(states));
         let mut scopes = (
             rust::Scope::open(self.textures as usize),
             port::Scope::open(self.size()),
         );
         for (i, texture) in self.textures().iter().enumerate() {
-            scopes.0.put(texture, &half);
-            scopes.1.put(i, MIPS, self.layers, &half);
+            let half = &halves[i % 2];
+            scopes.0.put(texture, half);
+            scopes.1.put(i, MIPS, self.layers, half);
         }
         scopes
     }
 
-    fn trackers(self, states: [u16; 2]) -> (rust::Tracker, port::Tracker) {
-        let half = self.half(states);
+    pub fn trackers(self, pattern: Pattern) -> (rust::Tracker, port::Tracker) {
+        let halves = pattern.map(|states| self.half(states));
         let mut trackers = (
             rust::Tracker::open(self.textures as usize, MASK),
             port::Tracker::open(self.size(), MASK),
         );
         for (i, texture) in self.textures().iter().enumerate() {
-            trackers.0.put(texture, &half, &half);
-            trackers.1.put(i, MIPS, self.layers, &half, &half);
+            let half = &halves[i % 2];
+            trackers.0.put(texture, half, half);
+            trackers.1.put(i, MIPS, self.layers, half, half);
         }
         trackers
     }
 }
 
-/// The same calls through the Rust and through the port.
-pub trait Case {
+/// The port's test of the sets that calls are handed. wgpu-core has none.
+pub trait Tested {
     /// Calls in a lap.
     fn calls(&self) -> u32;
-    fn rust(&mut self, laps: u32);
-    fn port(&mut self, laps: u32);
     /// Of the port's laps only the test of the sets that each call is handed.
     fn test(&self, laps: u32);
     /// Brings the sets back: whether that is needed before each lap.
@@ -114,14 +117,20 @@ pub trait Case {
     }
 }
 
+/// The same calls through the Rust and through the port.
+pub trait Case: Tested {
+    fn rust(&mut self, laps: u32);
+    fn port(&mut self, laps: u32);
+}
+
 /// What the port logged: it must have been done.
 fn logged(answer: LoggedAnswer) -> usize {
     assert_eq!(answer.answer.kind, 0);
     answer.written
 }
 
-/// `merge_single` of a use that the texture has already.
-pub struct MergeSingle {
+/// `merge_single` of a use that the texture has already: a constant, as a state that is read would be an instruction more in each call.
+struct MergeSingle<const STATE: u16> {
     rust: rust::Scope,
     port: port::Scope,
     texture: rust::Texture,
@@ -130,9 +139,19 @@ pub struct MergeSingle {
     part: Option<Selector>,
 }
 
-impl MergeSingle {
-    pub fn new(shape: Shape) -> Self {
-        let (rust, port) = shape.scopes([2, 8]);
+/// For the state that the named texture has in an even layer, as the named one is.
+pub fn merge_single(shape: Shape) -> Box<dyn Case> {
+    let (index, _) = shape.named();
+    match shape.states.pattern()[index as usize % 2][0] {
+        2 => Box::new(MergeSingle::<2>::new(shape)),
+        4 => Box::new(MergeSingle::<4>::new(shape)),
+        state => panic!("no merge of state {state}"),
+    }
+}
+
+impl<const STATE: u16> MergeSingle<STATE> {
+    fn new(shape: Shape) -> Self {
+        let (rust, port) = shape.scopes(shape.states.pattern());
         let (index, part) = shape.named();
         let texture = rust::Texture::new(index, MIPS, shape.layers);
         Self {
@@ -146,17 +165,13 @@ impl MergeSingle {
     }
 }
 
-impl Case for MergeSingle {
-    fn calls(&self) -> u32 {
-        1
-    }
-
+impl<const STATE: u16> Case for MergeSingle<STATE> {
     fn rust(&mut self, laps: u32) {
         for _ in 0..laps {
             let part = black_box(self.part);
             assert!(self
                 .rust
-                .merge_single(black_box(&self.texture), part, black_box(2)));
+                .merge_single(black_box(&self.texture), part, black_box(STATE)));
         }
     }
 
@@ -168,10 +183,16 @@ impl Case for MergeSingle {
                 MIPS,
                 self.layers,
                 part,
-                black_box(2),
+                black_box(STATE),
             );
             assert_eq!(answer.kind, 0);
         }
+    }
+}
+
+impl<const STATE: u16> Tested for MergeSingle<STATE> {
+    fn calls(&self) -> u32 {
+        1
     }
 
     fn test(&self, laps: u32) {
@@ -189,7 +210,8 @@ pub struct MergeScope {
 
 impl MergeScope {
     pub fn new(shape: Shape) -> Self {
-        let (to, from) = (shape.scopes([2, 8]), shape.scopes([2, 8]));
+        let pattern = shape.states.pattern();
+        let (to, from) = (shape.scopes(pattern), shape.scopes(pattern));
         Self {
             rust: [to.0, from.0],
             port: [to.1, from.1],
@@ -198,10 +220,6 @@ impl MergeScope {
 }
 
 impl Case for MergeScope {
-    fn calls(&self) -> u32 {
-        1
-    }
-
     fn rust(&mut self, laps: u32) {
         let [to, from] = &mut self.rust;
         for _ in 0..laps {
@@ -214,6 +232,12 @@ impl Case for MergeScope {
         for _ in 0..laps {
             assert_eq!(to.merge_usage_scope(black_box(from)).kind, 0);
         }
+    }
+}
+
+impl Tested for MergeScope {
+    fn calls(&self) -> u32 {
+        1
     }
 
     fn test(&self, laps: u32) {
@@ -237,7 +261,7 @@ pub struct SetSingle {
 
 impl SetSingle {
     pub fn new(shape: Shape) -> Self {
-        let (rust, port) = shape.trackers([4, 8]);
+        let (rust, port) = shape.trackers([[4, 8]; 2]);
         let (index, part) = shape.named();
         let texture = rust::Texture::new(index, MIPS, shape.layers);
         let part = part.unwrap_or([0, MIPS, 0, shape.layers]);
@@ -253,10 +277,6 @@ impl SetSingle {
 }
 
 impl Case for SetSingle {
-    fn calls(&self) -> u32 {
-        2
-    }
-
     fn rust(&mut self, laps: u32) {
         for _ in 0..laps {
             for state in [16, 4] {
@@ -285,6 +305,12 @@ impl Case for SetSingle {
             }
         }
     }
+}
+
+impl Tested for SetSingle {
+    fn calls(&self) -> u32 {
+        2
+    }
 
     fn test(&self, laps: u32) {
         for _ in 0..2 * laps {
@@ -307,8 +333,8 @@ pub struct SetScope {
 
 impl SetScope {
     pub fn new(shape: Shape) -> Self {
-        let tracker = shape.trackers([4, 8]);
-        let (other, first) = (shape.scopes([16, 2]), shape.scopes([4, 8]));
+        let tracker = shape.trackers([[4, 8]; 2]);
+        let (other, first) = (shape.scopes([[16, 2]; 2]), shape.scopes([[4, 8]; 2]));
         Self {
             rust: (tracker.0, [other.0, first.0]),
             port: (tracker.1, [other.1, first.1]),
@@ -318,10 +344,6 @@ impl SetScope {
 }
 
 impl Case for SetScope {
-    fn calls(&self) -> u32 {
-        2
-    }
-
     fn rust(&mut self, laps: u32) {
         let (tracker, scopes) = &mut self.rust;
         for _ in 0..laps {
@@ -343,6 +365,12 @@ impl Case for SetScope {
                 );
             }
         }
+    }
+}
+
+impl Tested for SetScope {
+    fn calls(&self) -> u32 {
+        2
     }
 
     fn test(&self, laps: u32) {
@@ -366,7 +394,7 @@ pub struct Join {
 impl Join {
     pub fn new(shape: Shape) -> Self {
         let (start, end) = (shape.half([16, 2]), shape.half([4, 8]));
-        let (to, mut from) = (shape.trackers([4, 8]), shape.trackers([4, 8]));
+        let (to, mut from) = (shape.trackers([[4, 8]; 2]), shape.trackers([[4, 8]; 2]));
         for (i, texture) in shape.textures().iter().enumerate() {
             from.0.put(texture, &start, &end);
             from.1.put(i, MIPS, shape.layers, &start, &end);
@@ -380,10 +408,6 @@ impl Join {
 }
 
 impl Case for Join {
-    fn calls(&self) -> u32 {
-        1
-    }
-
     fn rust(&mut self, laps: u32) {
         let [to, from] = &mut self.rust;
         for _ in 0..laps {
@@ -401,6 +425,12 @@ impl Case for Join {
                 self.transitions
             );
         }
+    }
+}
+
+impl Tested for Join {
+    fn calls(&self) -> u32 {
+        1
     }
 
     fn test(&self, laps: u32) {
@@ -424,13 +454,13 @@ pub struct Sparse {
 
 impl Sparse {
     pub fn new(shape: Shape) -> Self {
-        let tracker = shape.trackers([4, 8]);
+        let tracker = shape.trackers([[4, 8]; 2]);
         // Enough calls a lap to bear the clock, and few enough to stay in the nearest cache.
         let scopes = if shape.ranges() > 256 { 2 } else { 16 };
         let states = [[16, 2], [4, 8]];
         let (mut ours, mut theirs) = (vec![], vec![]);
         for k in 0..scopes {
-            let scope = shape.scopes(states[k % 2]);
+            let scope = shape.scopes([states[k % 2]; 2]);
             ours.push(scope.0);
             theirs.push(scope.1);
         }
@@ -447,10 +477,6 @@ impl Sparse {
 }
 
 impl Case for Sparse {
-    fn calls(&self) -> u32 {
-        self.rust.1.len() as u32
-    }
-
     fn rust(&mut self, laps: u32) {
         let (tracker, scopes) = &mut self.rust;
         for _ in 0..laps {
@@ -471,6 +497,12 @@ impl Case for Sparse {
                 assert_eq!(logged(answer), self.transitions);
             }
         }
+    }
+}
+
+impl Tested for Sparse {
+    fn calls(&self) -> u32 {
+        self.rust.1.len() as u32
     }
 
     fn test(&self, laps: u32) {

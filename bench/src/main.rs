@@ -1,15 +1,22 @@
 //! Measures the port and wgpu-core's Rust, in one process, on the same calls.
 //!
 //!     bench [ROUNDS]                       the table of docs/BENCH.md
-//!     bench count CALL HELD TEXTURES LAYERS rust|port|test LAPS
+//!     bench time CALL|SET HELD TEXTURES LAYERS STATES ROUNDS
+//!                                          a row of the tables by the states held
+//!     bench count CALL|SET HELD TEXTURES LAYERS [STATES] rust|port|test CALLS
 //!                                          only makes the calls, for an instruction counter
+//!
+//! A SET is scope or tracker, of which there is only the test. STATES tells how many different states are held that meet EXCLUSIVE:
+//! none, as where it is left out, one or several; calls that set have their own.
 mod cases;
 mod measure;
 #[rustfmt::skip]
 mod port;
+mod states;
 
-use cases::{Case, Join, Kind, MergeScope, MergeSingle, SetScope, SetSingle, Shape, Sparse};
-use measure::{measure, Times};
+use cases::{merge_single, Case, Join, Kind, MergeScope, SetScope, SetSingle, Shape, Sparse};
+use measure::{measure, measure_test, Times};
+use states::States;
 
 const CALLS: [&str; 6] = [
     "merge_single",
@@ -23,7 +30,7 @@ const TEXTURES: [u32; 3] = [1, 16, 64];
 
 fn case(call: &str, shape: Shape) -> Box<dyn Case> {
     match call {
-        "merge_single" => Box::new(MergeSingle::new(shape)),
+        "merge_single" => merge_single(shape),
         "merge_usage_scope" => Box::new(MergeScope::new(shape)),
         "set_single" => Box::new(SetSingle::new(shape)),
         "set_from_usage_scope" => Box::new(SetScope::new(shape)),
@@ -70,6 +77,17 @@ fn beside(times: Times) -> String {
     format!("{:.2}", (times.port - times.test) / times.rust)
 }
 
+/// Rust, port, ratio and test.
+fn compared(times: Times) -> String {
+    format!(
+        "{} | {} | {:.2} | {}",
+        nanoseconds(times.rust),
+        nanoseconds(times.port),
+        times.port / times.rust,
+        nanoseconds(times.test),
+    )
+}
+
 fn table(rounds: usize) {
     println!("| call | textures | held | layers | Rust ns | port ns | ratio | of it the test | ratio beside the test |");
     println!("|---|---|---|---|---|---|---|---|---|");
@@ -80,14 +98,12 @@ fn table(rounds: usize) {
                     textures,
                     kind,
                     layers,
+                    states: States::Plain,
                 };
                 let times = measure(&mut *case(call, shape), rounds);
                 println!(
-                    "| {call} | {textures} | {name} | {layers} | {} | {} | {:.2} | {} | {} |",
-                    nanoseconds(times.rust),
-                    nanoseconds(times.port),
-                    times.port / times.rust,
-                    nanoseconds(times.test),
+                    "| {call} | {textures} | {name} | {layers} | {} | {} |",
+                    compared(times),
                     beside(times),
                 );
             }
@@ -95,22 +111,54 @@ fn table(rounds: usize) {
     }
 }
 
-fn count(words: &[String]) {
-    let [call, kind, textures, layers, part, calls] = words else {
-        panic!("count CALL HELD TEXTURES LAYERS rust|port|test CALLS");
+fn number(word: &str) -> u32 {
+    word.parse().expect("a number")
+}
+
+/// What a call is made on, or the sets that are tested.
+fn shape(call: &str, words: &[String]) -> Shape {
+    let [kind, textures, layers, states @ ..] = words else {
+        panic!("no HELD TEXTURES LAYERS: {words:?}");
     };
-    let kind = match kind.as_str() {
-        "Single" => Kind::Single,
-        "Many" => Kind::Many,
-        "cut" => Kind::Cut,
-        _ => panic!("no such kind: {kind}"),
-    };
-    let number = |word: &String| word.parse().expect("a number");
-    let shape = Shape {
+    Shape {
         textures: number(textures),
-        kind,
+        kind: match kind.as_str() {
+            "Single" => Kind::Single,
+            "Many" => Kind::Many,
+            "cut" => Kind::Cut,
+            _ => panic!("no such kind: {kind}"),
+        },
         layers: number(layers),
+        states: match states {
+            [] => States::Plain,
+            [word] if !call.starts_with("set_") => States::named(word),
+            _ => panic!("no states for {call}: {states:?}"),
+        },
+    }
+}
+
+fn time(words: &[String]) {
+    let [call, held, textures, layers, states, rounds] = words else {
+        panic!("time CALL|SET HELD TEXTURES LAYERS STATES ROUNDS");
     };
+    let shape = shape(call, &words[1..5]);
+    let rounds = number(rounds) as usize;
+    let times = match states::set(call, shape) {
+        Some(mut set) => nanoseconds(measure_test(&mut *set, rounds)),
+        None => compared(measure(&mut *case(call, shape), rounds)),
+    };
+    println!("| {call} | {textures} | {held} | {layers} | {states} | {times} |");
+}
+
+fn count(words: &[String]) {
+    let [call, held @ .., part, calls] = words else {
+        panic!("count CALL|SET HELD TEXTURES LAYERS [STATES] rust|port|test CALLS");
+    };
+    let shape = shape(call, held);
+    if let Some(set) = states::set(call, shape) {
+        assert_eq!(part, "test", "of a set there is only the test");
+        return set.test(number(calls));
+    }
     let mut case = case(call, shape);
     let laps = number(calls) / case.calls();
     match part.as_str() {
@@ -124,6 +172,7 @@ fn count(words: &[String]) {
 fn main() {
     let words: Vec<String> = std::env::args().skip(1).collect();
     match words.first().map(String::as_str) {
+        Some("time") => time(&words[1..]),
         Some("count") => count(&words[1..]),
         Some(rounds) => table(rounds.parse().expect("a number of rounds")),
         None => table(15),
