@@ -66,12 +66,12 @@ split-bits s u =
             and-step (n - bitAnd u n) (bitAnd u n) ∙ rw (x, y, h, z)
 
 -- ---- one bit of k
-zero-ones : (k n : ℕ) → onesIn k n ≡ 0 → n < 2 ^ k → n ≡ 0
+pub zero-ones : (k n : ℕ) → onesIn k n ≡ 0 → n < 2 ^ k → n ≡ 0
 unfolding onesIn
 zero-ones zero n e h = omega arith
 zero-ones (suc k) n e h = let ih = zero-ones k (n / 2) (omega arith) (omega arith) in omega arith
 
-ones-zero : (k : ℕ) → onesIn k 0 ≡ 0
+pub ones-zero : (k : ℕ) → onesIn k 0 ≡ 0
 unfolding onesIn
 ones-zero zero = refl
 ones-zero (suc k) = let h = ones-zero k in omega arith
