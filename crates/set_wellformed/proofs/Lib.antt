@@ -6,3 +6,4 @@ pub mod Agreeing
 pub mod Known
 pub mod Ends
 pub mod Telling
+pub mod Parting

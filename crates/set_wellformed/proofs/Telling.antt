@@ -20,18 +20,19 @@ module _ (fits single : ℕ → Bool) where
   pub words-none : WordsAre fits single 0 (record { fit = true; plain = true })
   words-none = record { fit = sym (every-none fits itself); plain = sym (every-none single itself) }
 
-  pub words-more : (n : ℕ) {a b x y : Bool} → WordsAre fits single n (record { fit = a; plain = b }) → x ≡ fits n → y ≡ single n → WordsAre fits single (n + 1) (record { fit = a && x; plain = b && y })
+  pub words-more : (n : ℕ) {a b x y : Bool} → WordsAre fits single n (record { fit = a; plain = b }) → x ≡ fits n → y ≡ single n
+      → WordsAre fits single (n + 1) (record { fit = a && x; plain = b && y })
   words-more n w e f = record { fit = rw (every-next fits itself n, w .fit, e); plain = rw (every-next single itself n, w .plain, f) }
 
 -- ---- the words
 module _ (t : List ℕ) where
-  abbrev absent : ℕ → Bool
+  abbrev pub absent : ℕ → Bool
   absent i = eqb (getD t (ownedAt i) 0) 0
 
-  abbrev extent : ℕ → Bool
+  abbrev pub extent : ℕ → Bool
   extent i = extentFits (getD t mipLimitAt 0) (getD t layerLimitAt 0) (getD t (mipsAt i) 0) (getD t (layersAt i) 0)
 
-  abbrev isMany : ℕ → ℕ → Bool
+  abbrev pub isMany : ℕ → ℕ → Bool
   isMany h i = eqb (getD t (h + i) 0) (getD t complexAt 0)
 
   abbrev single : ℕ → ℕ → Bool
@@ -110,14 +111,16 @@ module _ (t s e : List ℕ) (i : ℕ) where
     tracker-extents : absent t i ≡ false → Extents t i
     tracker-extents o = extents t i (both (extent t i) (either || (single t startHalf i && single t endHalf i)) (fit-both o) .0)
 
-    pub tracker-plain : TextureStored (numbersOf t) startHalf t s i → TextureStored (numbersOf t) endHalf t e i → trackerWordPlain t i ≡ true → trackerSlotFits t s e i ≡ true
+    pub tracker-plain : TextureStored (numbersOf t) startHalf t s i → TextureStored (numbersOf t) endHalf t e i
+        → trackerWordPlain t i ≡ true → trackerSlotFits t s e i ≡ true
     tracker-plain q r p =
         by-case (trackerSlotFits t s e i ≡ true) (absent t i) (λ o. rw o)
         (λ o. let m = both (not (isMany t startHalf i)) (not (isMany t endHalf i)) (rw o at p) in
         let a = not-true (isMany t startHalf i) (m .0) in let b = not-true (isMany t endHalf i) (m .1) in
         let x = both (extent t i) (single t startHalf i && single t endHalf i) (rw (o, a, b) at f) in
         let y = both (single t startHalf i) (single t endHalf i) (x .1) in
-        let h : HalvesFit (flagsOf t) t s e i = record { start = sym (held-is t startHalf s i a) ∙ y .0; end = sym (held-is t endHalf e i b) ∙ y .1 } in
+        let h : HalvesFit (flagsOf t) t s e i =
+        record { start = sym (held-is t startHalf s i a) ∙ y .0; end = sym (held-is t endHalf e i b) ∙ y .1 } in
         let z = tracker-extents o in
         let g : EndsReady (flagsOf t) t s e i = record { start = q; end = r; flags = refl; top = z .0 .high; some = z .1 .low } in
         let w = ends-single g h (eqb-false _ _ a) (eqb-false _ _ b) in
@@ -135,7 +138,7 @@ module _ (t s e : List ℕ) (i : ℕ) where
       tracker-many = rw (present, both (extent t i) (either || (single t startHalf i && single t endHalf i)) (fit-both present) .0)
 
 -- ---- every index: one whose words do not fit decides, and so do words that fit where none is Many
-not-every : (a b : Bool) → (b ≡ true → a ≡ true) → a ≡ false → false ≡ b
+pub not-every : (a b : Bool) → (b ≡ true → a ≡ true) → a ≡ false → false ≡ b
 not-every a true f e = absurd (false≢true (sym e ∙ f refl))
 not-every a false f e = refl
 
@@ -146,7 +149,8 @@ module _ (t : List ℕ) (n : ℕ) where
         not-every (every (scopeWordFits t) (listFrom itself 0 n)) (scopeSlotsFit t r n)
         (every-also (slotFits heldFits (numbersOf t) (flagsOf t)) (scopeSlot t r) (scopeWordFits t) itself n (λ i l. scope-word t r i))
 
-    pub scope-all : every (scopeWordFits t) (listFrom itself 0 n) ≡ true → every (scopeWordPlain t) (listFrom itself 0 n) ≡ true → true ≡ scopeSlotsFit t r n
+    pub scope-all : every (scopeWordFits t) (listFrom itself 0 n) ≡ true
+        → every (scopeWordPlain t) (listFrom itself 0 n) ≡ true → true ≡ scopeSlotsFit t r n
     scope-all f p =
         sym (every-also (scopeWordFits t) itself (slotFits heldFits (numbersOf t) (flagsOf t)) (scopeSlot t r) n
         (λ i l g. scope-plain t r i g (every-at (scopeWordPlain t) itself n i p l)) f)
@@ -155,9 +159,12 @@ module _ (t : List ℕ) (n : ℕ) where
     pub tracker-not : every (trackerWordFits t) (listFrom itself 0 n) ≡ false → false ≡ trackerSlotsFit t s e n
     tracker-not =
         not-every (every (trackerWordFits t) (listFrom itself 0 n)) (trackerSlotsFit t s e n)
-        (every-also (slotFits endsFit (numbersOf t) (flagsOf t)) (trackerSlot t s e) (trackerWordFits t) itself n (λ i l. tracker-word t s e i))
+        (every-also (slotFits endsFit (numbersOf t) (flagsOf t)) (trackerSlot t s e) (trackerWordFits t) itself n
+        (λ i l. tracker-word t s e i))
 
-    pub tracker-all : n ≡ getD t texturesAt 0 → Measured (numbersOf t) startHalf t s → Measured (numbersOf t) endHalf t e → every (trackerWordFits t) (listFrom itself 0 n) ≡ true → every (trackerWordPlain t) (listFrom itself 0 n) ≡ true → true ≡ trackerSlotsFit t s e n
+    pub tracker-all : n ≡ getD t texturesAt 0 → Measured (numbersOf t) startHalf t s → Measured (numbersOf t) endHalf t e
+        → every (trackerWordFits t) (listFrom itself 0 n) ≡ true → every (trackerWordPlain t) (listFrom itself 0 n) ≡ true
+        → true ≡ trackerSlotsFit t s e n
     tracker-all z a b f p =
         sym (every-also (trackerWordFits t) itself (slotFits endsFit (numbersOf t) (flagsOf t)) (trackerSlot t s e) n
         (λ i l g. tracker-plain t s e i g (record { measured = a; texture = omega arith }) (record { measured = b; texture = omega arith })

@@ -4,11 +4,12 @@
 // model's definition (model/specs/WellFormed) at the view, so that a call that passes it has a well-formed set, and one that it
 // refuses has not; it also tells how long the table is.
 //
-// What holds: nothing is required and nothing is written. Every call pays for the test, so it is made in two passes: the words of every
-// index (`words`), which decide a set of Single textures, and then the ranges of the textures that are Many, once each. A scope is tested
-// by `scope_fits`, a tracker by `tracker_fits`, which looks a second time at the ranges of a Many half, for one that is UNKNOWN, and a
-// third time at a mip that has one, to compare start and end. Tests of numbers are written with `&` and `|`, which make no branch, and are
-// the definitions word for word.
+// What holds: nothing is required of a set and nothing is written. Every call pays for the test, so it is made in two passes: the words of
+// every index (`words`; twice where they have several exclusive states), which decide a set of Single textures, and then the ranges of
+// the textures that are Many, once each. A scope is tested by `scope_fits`, a tracker by `tracker_fits`, which looks a second time at the
+// ranges of a Many half, for one that is UNKNOWN, and a third time at a mip that has one, to compare start and end. Both have the table of
+// bits once and hand it down. Tests of numbers are the definitions word for word, written with `&` and `|`, which make no branch; only
+// EXCLUSIVE, which needs a look-up, is tested by itself: of words last, of a range first.
 pub mod unknowns;
 pub mod words;
 
@@ -28,9 +29,11 @@ use set_storage::flags_of;
 use set_storage::table_len;
 use set_storage::wide;
 pub use unknowns::tracker_fits;
-use usage::flags_fit;
-use usage::incompatible;
+use usage::OnesTable;
+use usage::flags_fit_by;
+use usage::incompatible_by;
 use usage::meets;
+use usage::ones_table;
 use words::plain_words;
 use words::scope_words;
 ghost use mathlib.Core.Path.{_≡_};
@@ -41,31 +44,53 @@ ghost use lib.ListN.{length, getD};
 ghost use Rattle.model.specs.Base.{every};
 ghost use Rattle.model.specs.Sets.{outside as outsideOf, numbersFit};
 ghost use Rattle.model.specs.WellFormed.{stateFits, singleFits, rangesFit, heldFits};
+ghost use Rattle.usage.specs.Ones.{CountsOnes};
 ghost use Rattle.range_states.specs.View.{decode};
 ghost use Rattle.set_storage.specs.Storage.{numbersOf, flagsOf, extentOf, mipOf, mipsOf, heldOf, listFrom};
 ghost use Rattle.set_storage.specs.Storage.{texturesAt, mipLimitAt, mipsAt, layersAt, startHalf};
 ghost use Rattle.set_storage.specs.Frames.{Measured, MipReady};
 ghost use Rattle.set_wellformed.specs.Parts.{TextureStored, numbers, extentFits, headFits, scopeSlotFits, scopeSlotsFit};
+ghost use Rattle.set_wellformed.specs.Proper.{stateProper, singleProper};
 ghost use Rattle.set_wellformed.specs.Unknowns.{itself};
 ghost use Rattle.set_wellformed.specs.Words.{scopeWordFits};
 ghost use Rattle.set_wellformed.specs.Whole.{TestsScope};
 
-// "states nonzero, compatible, without COMPLEX", of 16 bits.
-pub fn state_fits(p: UsageFlags, s: u32) -> bool
-    ensures { λ r. ⌜ r ≡ stateFits p s ⌝ }
+// "states nonzero, compatible, without COMPLEX", of 16 bits: all of it but "compatible", a proper state.
+fn state_proper(p: UsageFlags, s: u32) -> bool
+    ensures { λ r. ⌜ r ≡ stateProper p s ⌝ }
 {
-    (s != 0) & (s < 65536) & !incompatible(p, s) & !meets(s, p.complex)
+    (s != 0) & (s < 65536) & !meets(s, p.complex)
 }
 
-// A Single texture's state: without UNKNOWN too.
-pub fn single_fits(p: UsageFlags, s: u32) -> bool
+// The same of a Single texture's state: without UNKNOWN too.
+fn single_proper(p: UsageFlags, s: u32) -> bool
+    ensures { λ r. ⌜ r ≡ singleProper p s ⌝ }
+{
+    state_proper(p, s) & !meets(s, p.unknown)
+}
+
+// The whole test of a range's state.
+fn state_fits(ones: &OnesTable, p: UsageFlags, s: u32) -> bool
+    requires { ⌜ CountsOnes (now ones) ⌝ }
+    ensures { λ r. ⌜ r ≡ stateFits p s ⌝ }
+{
+    if incompatible_by(ones, p, s) {
+        return false;
+    }
+    state_proper(p, s)
+}
+
+// The whole test of a Single texture's state.
+fn single_fits(ones: &OnesTable, p: UsageFlags, s: u32) -> bool
+    requires { ⌜ CountsOnes (now ones) ⌝ }
     ensures { λ r. ⌜ r ≡ singleFits p s ⌝ }
 {
-    state_fits(p, s) & !meets(s, p.unknown)
+    state_fits(ones, p, s) & !meets(s, p.unknown)
 }
 
 // Whether the first `len` ranges tile the layers from 0 to `layers`, each in a state that fits.
-fn ranges_fit(s: &[u32], len: usize, p: UsageFlags, layers: u32) -> bool
+fn ranges_fit(ones: &OnesTable, s: &[u32], len: usize, p: UsageFlags, layers: u32) -> bool
+    requires { ⌜ CountsOnes (now ones) ⌝ }
     requires { ⌜ 3 * len ≤ length (now s) ⌝ }
     ensures { λ r. ⌜ r ≡ rangesFit p layers 0 (decode len (now (s .entry))) ⌝ }
 {
@@ -79,7 +104,7 @@ fn ranges_fit(s: &[u32], len: usize, p: UsageFlags, layers: u32) -> bool
         if r.end <= at {
             return false;
         }
-        if !state_fits(p, r.state) {
+        if !state_fits(ones, p, r.state) {
             return false;
         }
         at = r.end;
@@ -90,6 +115,7 @@ fn ranges_fit(s: &[u32], len: usize, p: UsageFlags, layers: u32) -> bool
 
 // The ranges of mip m of texture i.
 fn mip_fits(
+    ones: &OnesTable,
     table: &Table,
     ranges: &[u32],
     half: usize,
@@ -98,6 +124,7 @@ fn mip_fits(
     p: UsageFlags,
     layers: u32,
 ) -> bool
+    requires { ⌜ CountsOnes (now ones) ⌝ }
     requires { ⌜ MipReady (numbersOf (now table)) half (now table) (now ranges) i m ⌝ }
     requires { ⌜ 0 < layers ⌝ }
     ensures { λ x. let t = now (table .entry) in
@@ -112,11 +139,12 @@ fn mip_fits(
     }
     let b = base(i, k, all, deep, ranges.len());
     let e = b + deep * 3;
-    ranges_fit(&ranges[b..e], len, p, layers)
+    ranges_fit(ones, &ranges[b..e], len, p, layers)
 }
 
 // Every mip of texture i.
 fn mips_fit(
+    ones: &OnesTable,
     table: &Table,
     ranges: &[u32],
     half: usize,
@@ -125,6 +153,7 @@ fn mips_fit(
     p: UsageFlags,
     layers: u32,
 ) -> bool
+    requires { ⌜ CountsOnes (now ones) ⌝ }
     requires { ⌜ TextureStored (numbersOf (now table)) half (now table) (now ranges) i ⌝ }
     requires { ⌜ (mips ≡ getD (now table) (mipsAt i) 0) × ((mips ≤ getD (now table) mipLimitAt 0) × (0 < layers)) ⌝ }
     ensures { λ x. let t = now (table .entry) in
@@ -132,7 +161,7 @@ fn mips_fit(
 {
     let mut m = 0;
     while m < mips {
-        if !mip_fits(table, ranges, half, i, m, p, layers) {
+        if !mip_fits(ones, table, ranges, half, i, m, p, layers) {
             return false;
         }
         m += 1;
@@ -141,7 +170,15 @@ fn mips_fit(
 }
 
 // What a half holds of texture i, whose extent is within the set's.
-pub fn held_fits(table: &Table, ranges: &[u32], half: usize, i: usize, p: UsageFlags) -> bool
+fn held_fits(
+    ones: &OnesTable,
+    table: &Table,
+    ranges: &[u32],
+    half: usize,
+    i: usize,
+    p: UsageFlags,
+) -> bool
+    requires { ⌜ CountsOnes (now ones) ⌝ }
     requires { ⌜ TextureStored (numbersOf (now table)) half (now table) (now ranges) i ⌝ }
     requires { ⌜ p ≡ flagsOf (now table) ⌝ }
     requires { ⌜ (getD (now table) (mipsAt i) 0 ≤ getD (now table) mipLimitAt 0) × (0 < getD (now table) (layersAt i) 0) ⌝ }
@@ -151,6 +188,7 @@ pub fn held_fits(table: &Table, ranges: &[u32], half: usize, i: usize, p: UsageF
     let state = table[half + i];
     if state == p.complex {
         return mips_fit(
+            ones,
             table,
             ranges,
             half,
@@ -160,7 +198,7 @@ pub fn held_fits(table: &Table, ranges: &[u32], half: usize, i: usize, p: UsageF
             table[LAYERS + i],
         );
     }
-    single_fits(p, state)
+    single_fits(ones, p, state)
 }
 
 // Whether x is not from 1 to top.
@@ -193,20 +231,22 @@ pub fn room_fits(n: u32, m: u32, w: u32, room: usize) -> bool
 }
 
 // The opening checks, of a table that may hold anything: what they let pass can be indexed.
-pub fn head_fits(table: &Table, room: usize) -> bool
+fn head_fits(ones: &OnesTable, table: &Table, room: usize) -> bool
+    requires { ⌜ CountsOnes (now ones) ⌝ }
     ensures { λ x. ⌜ x ≡ headFits (now (table .entry)) room ⌝ }
 {
     if !numbers_fit(table[TEXTURES], table[MIP_LIMIT], table[LAYER_LIMIT]) {
         return false;
     }
-    if !flags_fit(flags_of(table)) {
+    if !flags_fit_by(ones, flags_of(table)) {
         return false;
     }
     room_fits(table[TEXTURES], table[MIP_LIMIT], table[LAYER_LIMIT], room)
 }
 
 // Index i of a scope, whose words fit: where it is Many, its ranges.
-fn slot_fits(table: &Table, ranges: &[u32], i: usize, p: UsageFlags) -> bool
+fn slot_fits(ones: &OnesTable, table: &Table, ranges: &[u32], i: usize, p: UsageFlags) -> bool
+    requires { ⌜ CountsOnes (now ones) ⌝ }
     requires { ⌜ TextureStored (numbersOf (now table)) startHalf (now table) (now ranges) i ⌝ }
     requires { ⌜ p ≡ flagsOf (now table) ⌝ }
     requires { ⌜ scopeWordFits (now table) i ≡ true ⌝ }
@@ -216,6 +256,7 @@ fn slot_fits(table: &Table, ranges: &[u32], i: usize, p: UsageFlags) -> bool
         return true;
     }
     mips_fit(
+        ones,
         table,
         ranges,
         START,
@@ -227,7 +268,8 @@ fn slot_fits(table: &Table, ranges: &[u32], i: usize, p: UsageFlags) -> bool
 }
 
 // Every index of a scope whose words fit.
-fn slots_fit(table: &Table, ranges: &[u32], n: usize, p: UsageFlags) -> bool
+fn slots_fit(ones: &OnesTable, table: &Table, ranges: &[u32], n: usize, p: UsageFlags) -> bool
+    requires { ⌜ CountsOnes (now ones) ⌝ }
     requires { ⌜ Measured (numbersOf (now table)) startHalf (now table) (now ranges) ⌝ }
     requires { ⌜ (n ≡ getD (now table) texturesAt 0) × (p ≡ flagsOf (now table)) ⌝ }
     requires { ⌜ every (scopeWordFits (now table)) (listFrom itself 0 n) ≡ true ⌝ }
@@ -235,7 +277,7 @@ fn slots_fit(table: &Table, ranges: &[u32], n: usize, p: UsageFlags) -> bool
 {
     let mut i = 0;
     while i < n {
-        if !slot_fits(table, ranges, i, p) {
+        if !slot_fits(ones, table, ranges, i, p) {
             return false;
         }
         i += 1;
@@ -244,19 +286,20 @@ fn slots_fit(table: &Table, ranges: &[u32], n: usize, p: UsageFlags) -> bool
 }
 
 // Every index of a scope: the words first, and the ranges only if there are any.
-fn all_fit(table: &Table, ranges: &[u32], n: usize, p: UsageFlags) -> bool
+fn all_fit(ones: &OnesTable, table: &Table, ranges: &[u32], n: usize, p: UsageFlags) -> bool
+    requires { ⌜ CountsOnes (now ones) ⌝ }
     requires { ⌜ Measured (numbersOf (now table)) startHalf (now table) (now ranges) ⌝ }
     requires { ⌜ (n ≡ getD (now table) texturesAt 0) × (p ≡ flagsOf (now table)) ⌝ }
     ensures { λ x. ⌜ x ≡ scopeSlotsFit (now (table .entry)) (now (ranges .entry)) n ⌝ }
 {
-    let x = scope_words(table, n, p);
+    let x = scope_words(ones, table, n, p);
     if !x.fit {
         return false;
     }
     if x.plain {
         return true;
     }
-    slots_fit(table, ranges, n, p)
+    slots_fit(ones, table, ranges, n, p)
 }
 
 // Whether a scope's storage is a well-formed scope with room for its ranges.
@@ -264,8 +307,9 @@ pub fn scope_fits(table: &Table, ranges: &[u32]) -> bool
     ensures { λ x. ⌜ TestsScope (now (table .entry)) (now (ranges .entry)) x ⌝ }
 {
     table_len(table);
-    if !head_fits(table, ranges.len()) {
+    let ones = ones_table();
+    if !head_fits(&ones, table, ranges.len()) {
         return false;
     }
-    all_fit(table, ranges, wide(table[TEXTURES]), flags_of(table))
+    all_fit(&ones, table, ranges, wide(table[TEXTURES]), flags_of(table))
 }

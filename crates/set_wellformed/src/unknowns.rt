@@ -23,12 +23,15 @@ use set_storage::base;
 use set_storage::flags_of;
 use set_storage::table_len;
 use set_storage::wide;
+use usage::OnesTable;
+use usage::ones_table;
 ghost use mathlib.Core.Path.{_≡_};
 ghost use mathlib.Core.Bool.{true};
 ghost use Prim.Native.Nat.{_*_, _≤_};
 ghost use lib.ListN.{length, getD};
 ghost use Rattle.model.specs.Base.{every};
 ghost use Rattle.model.specs.WellFormed.{endsFit};
+ghost use Rattle.usage.specs.Ones.{CountsOnes};
 ghost use Rattle.range_states.specs.View.{decode};
 ghost use Rattle.set_storage.specs.Storage.{numbersOf, flagsOf, extentOf, startHalf, endHalf, mipOf, mipsOf, endsOf, listFrom, texturesAt};
 ghost use Rattle.set_storage.specs.Frames.{Measured};
@@ -199,22 +202,38 @@ fn ends_agree(table: &Table, starts: &[u32], ends: &[u32], i: usize, p: UsageFla
 }
 
 // What a tracker holds of texture i, whose extent is within the set's.
-fn ends_fit(table: &Table, starts: &[u32], ends: &[u32], i: usize, p: UsageFlags) -> bool
+fn ends_fit(
+    ones: &OnesTable,
+    table: &Table,
+    starts: &[u32],
+    ends: &[u32],
+    i: usize,
+    p: UsageFlags,
+) -> bool
+    requires { ⌜ CountsOnes (now ones) ⌝ }
     requires { ⌜ EndsReady p (now table) (now starts) (now ends) i ⌝ }
     ensures { λ x. let t = now (table .entry) in
         ⌜ x ≡ endsFit p (extentOf t i) (endsOf (numbersOf t) t (now (starts .entry)) (now (ends .entry)) i) ⌝ }
 {
-    if !held_fits(table, starts, START, i, p) {
+    if !held_fits(ones, table, starts, START, i, p) {
         return false;
     }
-    if !held_fits(table, ends, END, i, p) {
+    if !held_fits(ones, table, ends, END, i, p) {
         return false;
     }
     ends_agree(table, starts, ends, i, p)
 }
 
 // Index i of a tracker, whose words fit: where a half is Many, what it holds.
-fn slot_fits(table: &Table, starts: &[u32], ends: &[u32], i: usize, p: UsageFlags) -> bool
+fn slot_fits(
+    ones: &OnesTable,
+    table: &Table,
+    starts: &[u32],
+    ends: &[u32],
+    i: usize,
+    p: UsageFlags,
+) -> bool
+    requires { ⌜ CountsOnes (now ones) ⌝ }
     requires { ⌜ TextureStored (numbersOf (now table)) startHalf (now table) (now starts) i ⌝ }
     requires { ⌜ TextureStored (numbersOf (now table)) endHalf (now table) (now ends) i ⌝ }
     requires { ⌜ p ≡ flagsOf (now table) ⌝ }
@@ -224,11 +243,19 @@ fn slot_fits(table: &Table, starts: &[u32], ends: &[u32], i: usize, p: UsageFlag
     if plain_pair(p, table[OWNED + i], table[START + i], table[END + i]) {
         return true;
     }
-    ends_fit(table, starts, ends, i, p)
+    ends_fit(ones, table, starts, ends, i, p)
 }
 
 // Every index of a tracker whose words fit.
-fn slots_fit(table: &Table, starts: &[u32], ends: &[u32], n: usize, p: UsageFlags) -> bool
+fn slots_fit(
+    ones: &OnesTable,
+    table: &Table,
+    starts: &[u32],
+    ends: &[u32],
+    n: usize,
+    p: UsageFlags,
+) -> bool
+    requires { ⌜ CountsOnes (now ones) ⌝ }
     requires { ⌜ Measured (numbersOf (now table)) startHalf (now table) (now starts) ⌝ }
     requires { ⌜ Measured (numbersOf (now table)) endHalf (now table) (now ends) ⌝ }
     requires { ⌜ (n ≡ getD (now table) texturesAt 0) × (p ≡ flagsOf (now table)) ⌝ }
@@ -237,7 +264,7 @@ fn slots_fit(table: &Table, starts: &[u32], ends: &[u32], n: usize, p: UsageFlag
 {
     let mut i = 0;
     while i < n {
-        if !slot_fits(table, starts, ends, i, p) {
+        if !slot_fits(ones, table, starts, ends, i, p) {
             return false;
         }
         i += 1;
@@ -246,20 +273,28 @@ fn slots_fit(table: &Table, starts: &[u32], ends: &[u32], n: usize, p: UsageFlag
 }
 
 // Every index of a tracker: the words first, and the ranges only if there are any.
-fn all_fit(table: &Table, starts: &[u32], ends: &[u32], n: usize, p: UsageFlags) -> bool
+fn all_fit(
+    ones: &OnesTable,
+    table: &Table,
+    starts: &[u32],
+    ends: &[u32],
+    n: usize,
+    p: UsageFlags,
+) -> bool
+    requires { ⌜ CountsOnes (now ones) ⌝ }
     requires { ⌜ Measured (numbersOf (now table)) startHalf (now table) (now starts) ⌝ }
     requires { ⌜ Measured (numbersOf (now table)) endHalf (now table) (now ends) ⌝ }
     requires { ⌜ (n ≡ getD (now table) texturesAt 0) × (p ≡ flagsOf (now table)) ⌝ }
     ensures { λ x. ⌜ x ≡ trackerSlotsFit (now (table .entry)) (now (starts .entry)) (now (ends .entry)) n ⌝ }
 {
-    let x = tracker_words(table, n, p);
+    let x = tracker_words(ones, table, n, p);
     if !x.fit {
         return false;
     }
     if x.plain {
         return true;
     }
-    slots_fit(table, starts, ends, n, p)
+    slots_fit(ones, table, starts, ends, n, p)
 }
 
 // Whether a tracker's storage is a well-formed tracker with room for the ranges of start and end.
@@ -267,7 +302,8 @@ pub fn tracker_fits(table: &Table, starts: &[u32], ends: &[u32]) -> bool
     ensures { λ x. ⌜ TestsTracker (now (table .entry)) (now (starts .entry)) (now (ends .entry)) x ⌝ }
 {
     table_len(table);
-    if !head_fits(table, starts.len()) {
+    let ones = ones_table();
+    if !head_fits(&ones, table, starts.len()) {
         return false;
     }
     if !room_fits(
@@ -278,5 +314,12 @@ pub fn tracker_fits(table: &Table, starts: &[u32], ends: &[u32]) -> bool
     ) {
         return false;
     }
-    all_fit(table, starts, ends, wide(table[TEXTURES]), flags_of(table))
+    all_fit(
+        &ones,
+        table,
+        starts,
+        ends,
+        wide(table[TEXTURES]),
+        flags_of(table),
+    )
 }

@@ -8,13 +8,19 @@ use Rattle.set_wellformed.proofs.slots_fit.Statement.{statement}
 use Rattle.set_wellformed.proofs.slots_fit.Tie as tie
 
 abbrev Inv-loop : tie.InvT-loop
-Inv-loop table ranges n p i₀ i = Testing (slotFits heldFits (numbersOf table) (flagsOf table)) (scopeSlot table ranges) n i
+Inv-loop ones table ranges n p i₀ i = Testing (slotFits heldFits (numbersOf table) (flagsOf table)) (scopeSlot table ranges) n i
 
 abbrev μ-loop : tie.MeasureT-loop
-μ-loop table ranges n p i₀ i = n - i
+μ-loop ones table ranges n p i₀ i = n - i
 
 slot-fits-requires : tie.Need-slot-fits-requires Inv-loop μ-loop
-slot-fits-requires c κs = let x = (c .before .before .before .pre) in (record { measured = x .0; texture = omega arith }, (x .1 .0 .1, every-at (scopeWordFits ((c .before .before .before .args) .table .now)) itself _ _ (x .1 .1) (c .loop-test .taken)))
+slot-fits-requires c κs = let x = (c .before .before .before .pre .1) in (
+  c .before .before .before .pre .0,
+  (
+    record { measured = x .0; texture = omega arith },
+    (x .1 .0 .1, every-at (scopeWordFits ((c .before .before .before .args) .table .now)) itself _ _ (x .1 .1) (c .loop-test .taken)),
+  ),
+)
 
 returns : tie.Need-returns Inv-loop μ-loop
 returns c =

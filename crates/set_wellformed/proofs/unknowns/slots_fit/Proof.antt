@@ -8,13 +8,26 @@ use Rattle.set_wellformed.proofs.unknowns.slots_fit.Statement.{statemen
 use Rattle.set_wellformed.proofs.unknowns.slots_fit.Tie as tie
 
 abbrev Inv-loop : tie.InvT-loop
-Inv-loop table starts ends n p i₀ i = Testing (slotFits endsFit (numbersOf table) (flagsOf table)) (trackerSlot table starts ends) n i
+Inv-loop ones table starts ends n p i₀ i = Testing (slotFits endsFit (numbersOf table) (flagsOf table)) (trackerSlot table starts ends) n i
 
 abbrev μ-loop : tie.MeasureT-loop
-μ-loop table starts ends n p i₀ i = n - i
+μ-loop ones table starts ends n p i₀ i = n - i
 
 slot-fits-requires : tie.Need-slot-fits-requires Inv-loop μ-loop
-slot-fits-requires c κs = let q = (c .before .before .before .before .pre) in (record { measured = q .0; texture = omega arith }, (record { measured = q .1 .0; texture = omega arith }, (q .1 .1 .0 .1, every-at (trackerWordFits ((c .before .before .before .before .args) .table .now)) itself _ _ (q .1 .1 .1) (c .loop-test .taken))))
+slot-fits-requires c κs = let q = (c .before .before .before .before .pre .1) in (
+  c .before .before .before .before .pre .0,
+  (
+    record { measured = q .0; texture = omega arith },
+    (
+      record { measured = q .1 .0; texture = omega arith },
+      (
+        q .1 .1 .0 .1,
+        every-at (trackerWordFits ((c .before .before .before .before .args) .table .now)) itself _ _
+            (q .1 .1 .1) (c .loop-test .taken),
+      ),
+    ),
+  ),
+)
 
 returns : tie.Need-returns Inv-loop μ-loop
 returns c =
