@@ -65,7 +65,7 @@ pub own : (c : Call) (k : Sets ranged) (r : Refusal) → step ranged c k .answer
     → listed (numberOf r) (1 ∷ 2 ∷ 3 ∷ 4 ∷ 5 ∷ 14 ∷ 15 ∷ []) ≡ false
 own = own-refusals ranged
 
--- "10 is never given again": whatever is refused, by an opening, a call or a call on ranges, has another number
+-- "10 is never given again": whatever is refused has another number
 pub retired : (r : Refusal) → numberOf r ≡ 10 → ⊥
 retired = never-ten
 

@@ -92,7 +92,8 @@ pub struct Conflict {
     pub found: InvalidUse,
 }
 
-// Why a call is turned away, one case for each number of 01's table, in its order. 10 is reserved: 16 to 19 stand in its place.
+// Why a call is turned away, one case for each number of 01's table, in its order. 10 is reserved: 16 to 19 stand in its place. 31, before
+// 15, is request 14's.
 pub enum Refusal {
     NumbersOutOfLimits,
     FlagsBreakRule,
@@ -111,6 +112,7 @@ pub enum Refusal {
     StateReserved,
     StateIncompatible,
     RangesOutOfOrder,
+    LogOutOfOrder,
     NoFreeEntry,
 }
 
@@ -155,6 +157,7 @@ pub fn number(r: Refusal) -> u32
         Refusal::StateReserved => 12,
         Refusal::StateIncompatible => 13,
         Refusal::RangesOutOfOrder => 14,
+        Refusal::LogOutOfOrder => 31,
         Refusal::NoFreeEntry => 15,
     }
 }
@@ -181,6 +184,7 @@ pub fn place(r: Refusal) -> u32
         Refusal::StateReserved => 0,
         Refusal::StateIncompatible => 0,
         Refusal::RangesOutOfOrder => 0,
+        Refusal::LogOutOfOrder => 0,
         Refusal::NoFreeEntry => 0,
     }
 }
