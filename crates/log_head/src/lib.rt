@@ -1,7 +1,7 @@
 // Log head: the head of the log, what is written and what is free, and what every call that logs answers.
 //
 // Place in the picture: over `set_storage` and `texture_barrier`, whose entries the log holds, and under the calls of a tracker, which
-// check the head (5), count their entries against what is free (15) and move it on. `empty_log` is a public call.
+// check the head (5), count their entries against what is free (15) and move it on; so does `log_merge`. `empty_log` is a public call.
 //
 // What holds: each answer is the model's (model/specs/Log), and a refusal leaves the head as it was. specs/Called is the contract of a call
 // that logs, over any view of the sets that it is lent, check by check; specs/UpTo what a loop over textures adds.

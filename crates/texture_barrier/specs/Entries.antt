@@ -128,6 +128,13 @@ pub entries-long : (l : List ℕ) → length (entriesOf l) ≡ length l / 7
 unfolding entriesOf
 entries-long l = read-long (length l / 7) l
 
+-- the entries of what follows the first k
+pub entries-drop : (l : List ℕ) (k : ℕ) → 7 * k ≤ length l → entriesOf (drop (7 * k) l) ≡ drop k (entriesOf l)
+unfolding entriesOf
+entries-drop l k h =
+    let e : length (drop (7 * k) l) / 7 ≡ length l / 7 - k = rw length-drop (omega arith) in
+    rw e (sym (read-drop k (length l / 7) (length l / 7 - k) l (omega arith)))
+
 -- ---- What the numbers tell after new entries were written after the first n
 module _ (l : List ℕ) (n : ℕ) (new : List PendingTransition) (room : 7 * (n + length new) ≤ length l) where
   abbrev after : List ℕ

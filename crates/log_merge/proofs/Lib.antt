@@ -1,0 +1,4 @@
+pub mod Scanning
+pub mod Needing
+pub mod Weaving
+pub mod Merging

@@ -1,0 +1,10 @@
+pub mod Merge
+pub mod MergeLaws
+pub mod ClosedForm
+pub mod Stable
+pub mod Claims
+pub mod Calls
+pub mod Order
+pub mod Weaves
+pub mod Rest
+pub mod Samples
