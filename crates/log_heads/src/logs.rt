@@ -1,6 +1,7 @@
 // The calls that write a log, with its head lent by `&mut` (01: "the head of the log, entries written and entries free, is lent and moved
-// on by the call itself"). Each hands the head to `track` by value and stores the head of the answer; that of a refusal is the one that was
-// lent.
+// on by the call itself"). Each hands the head to `track`, or to `log_merge`, by value and stores the head of the answer; that of a refusal
+// is the one that was lent. `merge_logs` does so through `merge_at`.
+use log_merge::Merged;
 use model::Extent;
 use model::LogHead;
 use model::Outcome;
@@ -13,6 +14,7 @@ ghost use Rattle.call_set.specs.Contract.{SetSingle};
 ghost use Rattle.call_join.specs.Contract.{SetFromUsageScope, SetFromTracker};
 ghost use Rattle.call_remove.specs.Removed.{SetAndRemoveSparse};
 ghost use Rattle.log_head.specs.Log.{Emptying};
+ghost use Rattle.log_merge.specs.Calls.{MergesLogs, HandsOver};
 
 // Sets one use of one texture in a tracker, and logs its transitions: `TextureTracker::set_single`, without its drain.
 pub fn set_single(
@@ -133,4 +135,32 @@ pub fn empty_log(log: &[u32], head: &mut LogHead) -> Outcome
     let a = track::empty_log(log, *head);
     *head = a.head;
     a.outcome
+}
+
+// Merges two logs, their written numbers alone, into a third until one is used up, and tells the rest of the other by its place.
+pub fn merge_at(first: &[u32], second: &[u32], third: &mut [u32], head: &mut LogHead) -> Merged
+    ensures { λ x.
+        let a : Answered = record { outcome = x .outcome; head = now (head .exit) } in
+        ⌜ MergesLogs (now (first .entry)) (now (second .entry)) (now (head .entry)) (now (third .entry)) a (x .rest) (now (third .exit)) ⌝ }
+{
+    let a = log_merge::merge_at(first, second, third, *head);
+    *head = a.head;
+    a.merged
+}
+
+// Merges as `merge_at` does, and returns the rest, a part of its own log and not copied. The number is 0, or that of the refusal, whose
+// place is 0.
+pub fn merge_logs<'a>(
+    first: &'a [u32],
+    second: &'a [u32],
+    third: &mut [u32],
+    number: &mut u32,
+    head: &mut LogHead,
+) -> &'a [u32]
+    ensures { λ r. ⌜
+        HandsOver (first .entry) (second .entry) (now (head .entry)) (now (third .entry))
+        (now (head .exit) .written) (now (head .exit) .free) (now (number .exit)) r (now (third .exit)) ⌝ }
+{
+    let merged = merge_at(first, second, third, head);
+    log_merge::hand_over(first, second, merged, number)
 }

@@ -1,7 +1,7 @@
 -- A call. Each argument is a value, which is had for nothing, or what the context owns; the callee is known by its contract and its theorem.
 --     Arg          an argument: `of` a value, or `own` what the context owns at its machine values
 --     tokens       the tokens of a call's lifetimes.        taken        what the arguments take from the context
---     calls        the call: after it the tokens are back, with what is said of the last values and what the callee ensures
+--     calls-to     the call: after it the tokens are back, with the result, what is said of the last values and what the callee ensures.        calls        the same where the result is plain data, which is then in its local
 --     gives        the same where the contract says what is returned and left.        asks         the same of a callee with no lifetime
 -- Assumes `Given`.
 use mathlib.Core.Path.{_≡_, refl, sym, ap, subst}
@@ -128,31 +128,38 @@ module _ (T : Ended) (κs : Lfts (T .signature .lifetimes)) (qs : Shares (T .sig
   at 𝓤 H A c g bounds = ((κs, qs, bounds, denoted Rs xs, spelled Rs xs), g)
 
   module _ {M : Type 1} {𝓤 : URA M} {H : Heap 𝓤} {A : Atoms 𝓤} {K : Type 0} {W : Given 𝓤 H A} {Γ : List (Item 𝓤)} {E : Env 𝓤 H} {hs : List (Option Val)} {C : Calls 𝓤 H} {Λ : Loops 𝓤 H} {q : Post 𝓤 H} {f : Name} {os : List Operand} {j : ℕ} {rest : Body} where
-    module _ (t : K) (fm : FmC 𝓤 H (W .laws) C) (c : Clauses 𝓤 T) (met : Triple 𝓤 (C f) (Met T 𝓤 H A c)) (bounds : AllOutlive n (T .signature .outlives) κs) (g : c κs (denoted Rs xs) .ghost) (need : ent 𝓤 (emp 𝓤) (c κs (denoted Rs xs) .requires g)) (D : Data R)
-        (opds : Opds K W (held 𝓤 H E hs ∷ tokens n κs qs ∷ (taken Rs xs ++ Γ)) E os (flat Rs (spelled Rs xs))) (i : Has 𝓤 H E j) (m : R .mir ≡ spotOf 𝓤 H E j .0 ∷ []) where
-      pub calls : ((y : R .Denot) (us : Lasts T κs (denoted Rs xs)) → Is R y (D .val y ∷ [])
-          → Seq K W (held 𝓤 H E (with j (some (D .val y)) hs) ∷ tokens n κs qs ∷ ‵ (lasts T κs (denoted Rs xs) us) ∷ raw (Says T κs xs c g y us) ∷ Γ) (runs C Λ E rest q))
-          → Seq K W (held 𝓤 H E hs ∷ tokens n κs qs ∷ (taken Rs xs ++ Γ)) (runs C Λ E (seq (call f os (place j [])) rest) q)
-      calls k = calls-by t fm (held 𝓤 H E hs ∷ Γ) (Met T 𝓤 H A c .pre (at 𝓤 H A c g bounds)) (Met T 𝓤 H A c .args (at 𝓤 H A c g bounds)) (Met T 𝓤 H A c .post (at 𝓤 H A c g bounds)) (met (at 𝓤 H A c g bounds)) brings opds (λ v.
-          use1 W (later (some-of (λ (y : R .Denot). (raw (toks 𝓤 A n κs qs) ⊛ ‵ (R .own y (v ∷ []))) ⊛ some-of (λ (us : Lasts T κs (denoted Rs xs)). ‵ (lasts T κs (denoted Rs xs) us) ⊛ raw (Says T κs xs c g y us))))) (id⊢ 𝓤 _) $ await t tt $
-          pick t (λ y. split t $ split t $ move t (2 ∷ []) $ pick t (λ us. split t $
-          -- [the last values; what is ensured; the tokens; the result; the locals; Γ]
-          move t (2 ∷ []) $ use1 W (tokens n κs qs) (of-toks 𝓤 H A n κs qs) $ move t (3 ∷ 4 ∷ []) $ takes-in t D y v i m (k y us))))
-        where
-          brings : ent 𝓤 (⋆ 𝓤 H A (held 𝓤 H E hs ∷ tokens n κs qs ∷ (taken Rs xs ++ Γ))) (sep 𝓤 (Met T 𝓤 H A c .pre (at 𝓤 H A c g bounds)) (⋆ 𝓤 H A (held 𝓤 H E hs ∷ Γ)))
-          brings = via 𝓤 (⋆ 𝓤 H A (held 𝓤 H E hs ∷ tokens n κs qs ∷ raw (⋆ 𝓤 H A (taken Rs xs)) ∷ raw (⋆ 𝓤 H A Γ) ∷ []))
-              (monoR 𝓤 (mean 𝓤 H A (held 𝓤 H E hs)) (via 𝓤 (sep 𝓤 (mean 𝓤 H A (tokens n κs qs)) (⋆ 𝓤 H A (taken Rs xs ++ Γ))) (pop 𝓤 H A (tokens n κs qs) (taken Rs xs ++ Γ)) (monoR 𝓤 (mean 𝓤 H A (tokens n κs qs)) (⊢++ 𝓤 H A (taken Rs xs) Γ))))
-              (qed W (held 𝓤 H E hs ∷ tokens n κs qs ∷ raw (⋆ 𝓤 H A (taken Rs xs)) ∷ raw (⋆ 𝓤 H A Γ) ∷ []) ∵
-              move ! (2 ∷ []) $ use1 W (‵ (owns Rs (denoted Rs xs) (spelled Rs xs))) (had 𝓤 H A W Rs xs) $ move ! (2 ∷ []) $ use1 W (raw (toks 𝓤 A n κs qs)) (toks-of 𝓤 H A n κs qs) $ join ! $
-              use0 W (raw (c κs (denoted Rs xs) .requires g)) need $ move ! (1 ∷ 0 ∷ []) $ join ! $ frame ! $ by ! (push 𝓤 H A (held 𝓤 H E hs) Γ))
+    module _ (t : K) (fm : FmC 𝓤 H (W .laws) C) (c : Clauses 𝓤 T) (met : Triple 𝓤 (C f) (Met T 𝓤 H A c)) (bounds : AllOutlive n (T .signature .outlives) κs) (g : c κs (denoted Rs xs) .ghost) (need : ent 𝓤 (emp 𝓤) (c κs (denoted Rs xs) .requires g)) where
+      -- the result is owned, at the machine value that lands
+      module _ (opds : Opds K W (held 𝓤 H E hs ∷ tokens n κs qs ∷ (taken Rs xs ++ Γ)) E os (flat Rs (spelled Rs xs))) where
+        pub calls-to : ((v : Val) (y : R .Denot) (us : Lasts T κs (denoted Rs xs))
+            → Seq K W (‵ (R .own y (v ∷ [])) ∷ held 𝓤 H E hs ∷ tokens n κs qs ∷ ‵ (lasts T κs (denoted Rs xs) us) ∷ raw (Says T κs xs c g y us) ∷ Γ) (lands C Λ E (place j []) v rest q))
+            → Seq K W (held 𝓤 H E hs ∷ tokens n κs qs ∷ (taken Rs xs ++ Γ)) (runs C Λ E (seq (call f os (place j [])) rest) q)
+        calls-to k = calls-by t fm (held 𝓤 H E hs ∷ Γ) (Met T 𝓤 H A c .pre (at 𝓤 H A c g bounds)) (Met T 𝓤 H A c .args (at 𝓤 H A c g bounds)) (Met T 𝓤 H A c .post (at 𝓤 H A c g bounds)) (met (at 𝓤 H A c g bounds)) brings opds (λ v.
+            use1 W (later (some-of (λ (y : R .Denot). (raw (toks 𝓤 A n κs qs) ⊛ ‵ (R .own y (v ∷ []))) ⊛ some-of (λ (us : Lasts T κs (denoted Rs xs)). ‵ (lasts T κs (denoted Rs xs) us) ⊛ raw (Says T κs xs c g y us))))) (id⊢ 𝓤 _) $ await t tt $
+            pick t (λ y. split t $ split t $ move t (2 ∷ []) $ pick t (λ us. split t $
+            -- [the last values; what is ensured; the tokens; the result; the locals; Γ]
+            move t (2 ∷ []) $ use1 W (tokens n κs qs) (of-toks 𝓤 H A n κs qs) $ move t (3 ∷ 4 ∷ []) $ k v y us)))
+          where
+            brings : ent 𝓤 (⋆ 𝓤 H A (held 𝓤 H E hs ∷ tokens n κs qs ∷ (taken Rs xs ++ Γ))) (sep 𝓤 (Met T 𝓤 H A c .pre (at 𝓤 H A c g bounds)) (⋆ 𝓤 H A (held 𝓤 H E hs ∷ Γ)))
+            brings = via 𝓤 (⋆ 𝓤 H A (held 𝓤 H E hs ∷ tokens n κs qs ∷ raw (⋆ 𝓤 H A (taken Rs xs)) ∷ raw (⋆ 𝓤 H A Γ) ∷ []))
+                (monoR 𝓤 (mean 𝓤 H A (held 𝓤 H E hs)) (via 𝓤 (sep 𝓤 (mean 𝓤 H A (tokens n κs qs)) (⋆ 𝓤 H A (taken Rs xs ++ Γ))) (pop 𝓤 H A (tokens n κs qs) (taken Rs xs ++ Γ)) (monoR 𝓤 (mean 𝓤 H A (tokens n κs qs)) (⊢++ 𝓤 H A (taken Rs xs) Γ))))
+                (qed W (held 𝓤 H E hs ∷ tokens n κs qs ∷ raw (⋆ 𝓤 H A (taken Rs xs)) ∷ raw (⋆ 𝓤 H A Γ) ∷ []) ∵
+                move ! (2 ∷ []) $ use1 W (‵ (owns Rs (denoted Rs xs) (spelled Rs xs))) (had 𝓤 H A W Rs xs) $ move ! (2 ∷ []) $ use1 W (raw (toks 𝓤 A n κs qs)) (toks-of 𝓤 H A n κs qs) $ join ! $
+                use0 W (raw (c κs (denoted Rs xs) .requires g)) need $ move ! (1 ∷ 0 ∷ []) $ join ! $ frame ! $ by ! (push 𝓤 H A (held 𝓤 H E hs) Γ))
 
-      -- the contract says that the result is r and that the last values are ws
-      pub gives : (r : R .Denot) (ws : Lasts T κs (denoted Rs xs)) → ((y : R .Denot) (us : Lasts T κs (denoted Rs xs)) → ent 𝓤 (Says T κs xs c g y us) (fact 𝓤 ((y ≡ r) × (us ≡ ws))))
-          → (Is R r (D .val r ∷ []) → Seq K W (held 𝓤 H E (with j (some (D .val r)) hs) ∷ tokens n κs qs ∷ ‵ (lasts T κs (denoted Rs xs) ws) ∷ Γ) (runs C Λ E rest q))
-          → Seq K W (held 𝓤 H E hs ∷ tokens n κs qs ∷ (taken Rs xs ++ Γ)) (runs C Λ E (seq (call f os (place j [])) rest) q)
-      gives r ws told k = calls (λ y us is. move t (3 ∷ []) $ use1 W (raw (fact 𝓤 ((y ≡ r) × (us ≡ ws)))) (told y us) $ heard t ((y ≡ r) × (us ≡ ws)) (λ e.
-          rewrite t 2 (λ (zs : Lasts T κs (denoted Rs xs)). ‵ (lasts T κs (denoted Rs xs) zs)) (e .1) refl $
-          subst (λ (z : R .Denot). Is R z (D .val z ∷ []) → Seq K W (held 𝓤 H E (with j (some (D .val z)) hs) ∷ tokens n κs qs ∷ ‵ (lasts T κs (denoted Rs xs) ws) ∷ Γ) (runs C Λ E rest q)) (sym (e .0)) k is))
+      module _ (D : Data R) (opds : Opds K W (held 𝓤 H E hs ∷ tokens n κs qs ∷ (taken Rs xs ++ Γ)) E os (flat Rs (spelled Rs xs))) (i : Has 𝓤 H E j) (m : R .mir ≡ spotOf 𝓤 H E j .0 ∷ []) where
+        pub calls : ((y : R .Denot) (us : Lasts T κs (denoted Rs xs)) → Is R y (D .val y ∷ [])
+            → Seq K W (held 𝓤 H E (with j (some (D .val y)) hs) ∷ tokens n κs qs ∷ ‵ (lasts T κs (denoted Rs xs) us) ∷ raw (Says T κs xs c g y us) ∷ Γ) (runs C Λ E rest q))
+            → Seq K W (held 𝓤 H E hs ∷ tokens n κs qs ∷ (taken Rs xs ++ Γ)) (runs C Λ E (seq (call f os (place j [])) rest) q)
+        calls k = calls-to opds (λ v y us. takes-in t D y v i m (k y us))
+
+        -- the contract says that the result is r and that the last values are ws
+        pub gives : (r : R .Denot) (ws : Lasts T κs (denoted Rs xs)) → ((y : R .Denot) (us : Lasts T κs (denoted Rs xs)) → ent 𝓤 (Says T κs xs c g y us) (fact 𝓤 ((y ≡ r) × (us ≡ ws))))
+            → (Is R r (D .val r ∷ []) → Seq K W (held 𝓤 H E (with j (some (D .val r)) hs) ∷ tokens n κs qs ∷ ‵ (lasts T κs (denoted Rs xs) ws) ∷ Γ) (runs C Λ E rest q))
+            → Seq K W (held 𝓤 H E hs ∷ tokens n κs qs ∷ (taken Rs xs ++ Γ)) (runs C Λ E (seq (call f os (place j [])) rest) q)
+        gives r ws told k = calls (λ y us is. move t (3 ∷ []) $ use1 W (raw (fact 𝓤 ((y ≡ r) × (us ≡ ws)))) (told y us) $ heard t ((y ≡ r) × (us ≡ ws)) (λ e.
+            rewrite t 2 (λ (zs : Lasts T κs (denoted Rs xs)). ‵ (lasts T κs (denoted Rs xs) zs)) (e .1) refl $
+            subst (λ (z : R .Denot). Is R z (D .val z ∷ []) → Seq K W (held 𝓤 H E (with j (some (D .val z)) hs) ∷ tokens n κs qs ∷ ‵ (lasts T κs (denoted Rs xs) ws) ∷ Γ) (runs C Λ E rest q)) (sym (e .0)) k is))
 
 -- a signature with no lifetime
 abbrev ByValue : (params : List (Slot 0)) → Slot 0 → Kepts params → Ended

@@ -6,8 +6,9 @@ pub use base.Logic.{id⊢}
 pub use types.Kit.{_$_, ! }
 pub use types.Run.{addr, and-then, no-more}
 pub use denote.Builtin.{u32}
+pub use denote.Struct.Laws.{owed}
 pub use Rattle.walk.specs.Values.{number, struct}
 pub use Rattle.walk.specs.Locals.{var, points, lets}
 pub use Rattle.walk.specs.Lending.{relent}
 pub use Rattle.walk.specs.Params.{Param, by-value, shared, given, shared-ref, given-ref}
-pub use Rattle.log_heads.proofs.Thin.{Table, hands-on}
+pub use Rattle.log_heads.proofs.Thin.{Table, Answer, answered, hands-on}

@@ -1,6 +1,6 @@
 -- `set_single` hands the tracker, the use, the log and the head to `track::set_single`, and stores the head of the answer.
 use Rattle.log_heads.proofs.Thin.Names.{refl, List, [], _∷_, id⊢, !, and-then, no-more, u32, var, Param, given-ref, given, by-value}
-use Rattle.log_heads.proofs.Thin.Names.{_$_, addr, Table, points, lets, relent, w16, number, struct, hands-on}
+use Rattle.log_heads.proofs.Thin.Names.{_$_, addr, Table, points, lets, relent, w16, number, struct, answered, hands-on}
 use Rattle.model.proofs.TrackerIndex as TrackerIndex
 use Rattle.model.proofs.Extent as Extent
 use Rattle.model.proofs.Selector as Selector
@@ -19,7 +19,7 @@ before =
 
 pub set-single-spec : {M : Type 1} → here.Statement.statement M
 unfolding code.routine
-set-single-spec 𝓤 H 𝓜 𝓖 𝓡 = hands-on 𝓤 H 𝓜 𝓖 𝓡 code.env 4 before (here.clauses 𝓤 H (𝓖 .A) (𝓜 .mem) (𝓡 .run)) (core.clauses 𝓤 H (𝓖 .A) (𝓜 .mem) (𝓡 .run))
+set-single-spec 𝓤 H 𝓜 𝓖 𝓡 = hands-on answered 𝓤 H 𝓜 𝓖 𝓡 code.env 4 before (here.clauses 𝓤 H (𝓖 .A) (𝓜 .mem) (𝓡 .run)) (core.clauses 𝓤 H (𝓖 .A) (𝓜 .mem) (𝓡 .run))
     (record { ghost = λ κs a g. tt; asks = λ κs a g. id⊢ 𝓤 _; tells = λ κs a g r ws. id⊢ 𝓤 _ }) code.calls-track·set-single (core.Met.met 𝓤 H 𝓜 𝓖 𝓡) here.Key.name code.function (code.unfolded 𝓤 H 𝓜 𝓡) (λ κs a ok bs. ok) (λ κs qs a ok bs Γ Δ Kf on.
     lets ! tt (addr ! (points ! tt refl)) (tt, tt) $ relent ! tt tt tt refl refl refl refl (tt, tt) (ok .1 .0) $
     relent ! tt tt tt refl refl refl refl (tt, tt) (ok .1 .1 .0) $ relent ! tt tt tt refl refl refl refl (tt, tt) (ok .1 .1 .1 .1 .1 .1 .1 .0) $
