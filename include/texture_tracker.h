@@ -19,7 +19,7 @@
  * A first use is taken as what the texture already is, and nothing is logged. In a device's tracker set each new texture to
  * TRACK_USE_UNINITIALIZED first, all of it; otherwise the driver is not told of its first uses.
  *
- * This header only forms the calls of track.h, which has the answers, the refusals and the layout of the memory; the library decides. Two
+ * This header only forms the calls of track.h, which has the answers, the refusals and the layout of the memory; the library decides. Three
  * refusals are this header's own (enum tt_refusal). The calls on ranges by themselves are in track.h alone.
  *
  * What the calls require of their caller: memory is as long as it is said to be and serves one set or log only, and nobody else writes it
@@ -108,10 +108,14 @@ typedef struct tt_scope { uint32_t *memory; size_t length; } tt_scope;
 typedef struct tt_tracker { uint32_t *memory; size_t length; } tt_tracker;
 typedef struct tt_log { uint32_t *memory; size_t length; } tt_log;
 
+/* What a merge of two logs leaves of one of them: so many entries, seven numbers each, in the memory of that log. */
+typedef struct tt_rest { const uint32_t *numbers; size_t count; } tt_rest;
+
 /* track_answer.number, beside enum track_refusal: what this header refuses before the library is called. */
 enum tt_refusal {
     TT_STATE_PAST_16_BITS = 1001, /* the state, or a tracker's ordered mask, is above 65,535 */
-    TT_SAME_SET_TWICE = 1002      /* a set is passed in as the other one as well */
+    TT_SAME_SET_TWICE = 1002,     /* a set is passed in as the other one as well */
+    TT_SAME_LOG_TWICE = 1003      /* a log is passed in to be written and to be read */
 };
 
 static inline tt_flags tt_wgpu_flags(void)
@@ -176,8 +180,8 @@ TT_CALL int tt_done(track_answer answer)
 
 /* ---- Memory ------------------------------------------------------------------------------------------------------------------ */
 
-/* Each declares an array: `static TT_SCOPE_MEMORY(memory, 2, 4, 8);`, which is passed in as `memory, sizeof memory`. A call needs at
- * most as many entries of the log as the tracker has subresources, textures * mips * layers, at 28 bytes each. */
+/* Each declares an array: `static TT_SCOPE_MEMORY(memory, 2, 4, 8);`, which is passed in as `memory, sizeof memory`. A call of a tracker
+ * needs at most as many entries of the log as it has subresources, textures * mips * layers, at 28 bytes each. */
 #define TT_SCOPE_MEMORY(name, textures, mips, layers) \
     uint32_t name[TRACK_TABLE_LENGTH + TRACK_RANGES_LENGTH(textures, mips, layers)]
 #define TT_TRACKER_MEMORY(name, textures, mips, layers) \
@@ -256,6 +260,26 @@ static inline uint32_t *tt_entries(tt_log log)
 static inline size_t tt_entries_length(tt_log log)
 {
     return log.length - TT_LOG_HEAD;
+}
+
+/* Whether the entries that a log tells of are in its memory. */
+static inline int tt_log_holds(tt_log log)
+{
+    if (log.memory == NULL) return 0;
+    return (size_t)log.memory[0] + log.memory[1] <= tt_entries_length(log) / TRACK_LOG_ENTRY_LENGTH;
+}
+
+static inline tt_transition tt_entry_in(const uint32_t *numbers)
+{
+    tt_transition entry;
+    entry.index = numbers[0];
+    entry.part.mips.start = numbers[1];
+    entry.part.mips.end = numbers[2];
+    entry.part.layers.start = numbers[3];
+    entry.part.layers.end = numbers[4];
+    entry.old_state = numbers[5];
+    entry.new_state = numbers[6];
+    return entry;
 }
 
 static inline track_answer tt_head_taken(tt_log log, track_logged_answer logged)
@@ -402,6 +426,27 @@ TT_CALL track_answer tt_empty_log(tt_log log)
     return tt_head_taken(log, track_empty_log(tt_entries(log), tt_entries_length(log), log.memory[0], log.memory[1]));
 }
 
+/* Merges two logs into a third, after what is written there, until one of the two is used up: the lower texture goes first, and of equal
+ * ones the first log's entry. The rest of the other log is not copied: it is to be read before that log changes. On a refusal it is empty.
+ * A log whose textures descend, as those of several calls or of a sparse one may, is 31. Refuses 5, 31, 15, 1003. */
+TT_CALL track_answer tt_merge_logs(tt_log first, tt_log second, tt_log third, tt_rest *rest)
+{
+    track_merged_answer merged;
+    track_logged_answer logged;
+    rest->numbers = NULL;
+    rest->count = 0;
+    if (!tt_log_holds(first) || !tt_log_holds(second) || third.memory == NULL) return tt_refused(TRACK_LOG_TOO_SHORT);
+    if (third.memory == first.memory || third.memory == second.memory) return tt_refused(TT_SAME_LOG_TWICE);
+    merged = track_merge_logs(tt_entries(first), TRACK_LOG_LENGTH(first.memory[0]), tt_entries(second), TRACK_LOG_LENGTH(second.memory[0]),
+                              tt_entries(third), tt_entries_length(third), third.memory[0], third.memory[1]);
+    rest->numbers = tt_entries(merged.rest_first != 0 ? first : second) + merged.rest_offset;
+    rest->count = merged.rest_length / TRACK_LOG_ENTRY_LENGTH;
+    logged.answer = merged.answer;
+    logged.written = merged.written;
+    logged.free = merged.free;
+    return tt_head_taken(third, logged);
+}
+
 static inline size_t tt_log_written(tt_log log)
 {
     return log.memory == NULL ? 0 : log.memory[0];
@@ -417,16 +462,16 @@ static inline size_t tt_log_free(tt_log log)
 static inline tt_transition tt_log_entry(tt_log log, size_t k)
 {
     tt_transition entry = { 0, { { 0, 0 }, { 0, 0 } }, 0, 0 };
-    if (k < tt_log_written(log) && k < tt_entries_length(log) / TRACK_LOG_ENTRY_LENGTH) {
-        const uint32_t *numbers = tt_entries(log) + TRACK_LOG_ENTRY_LENGTH * k;
-        entry.index = numbers[0];
-        entry.part.mips.start = numbers[1];
-        entry.part.mips.end = numbers[2];
-        entry.part.layers.start = numbers[3];
-        entry.part.layers.end = numbers[4];
-        entry.old_state = numbers[5];
-        entry.new_state = numbers[6];
-    }
+    if (k < tt_log_written(log) && k < tt_entries_length(log) / TRACK_LOG_ENTRY_LENGTH)
+        entry = tt_entry_in(tt_entries(log) + TRACK_LOG_ENTRY_LENGTH * k);
+    return entry;
+}
+
+/* The same of a rest. */
+static inline tt_transition tt_rest_entry(tt_rest rest, size_t k)
+{
+    tt_transition entry = { 0, { { 0, 0 }, { 0, 0 } }, 0, 0 };
+    if (k < rest.count) entry = tt_entry_in(rest.numbers + TRACK_LOG_ENTRY_LENGTH * k);
     return entry;
 }
 
@@ -562,9 +607,11 @@ static inline const char *tt_refusal_words(uint32_t number)
     case TRACK_STATE_RESERVED: return "the state is zero, or has the unknown or the complex bit";
     case TRACK_STATE_INCOMPATIBLE: return "the state has an exclusive use beside another use";
     case TRACK_RANGES_OUT_OF_ORDER: return "the ranges are empty, out of order or overlap";
+    case TRACK_LOG_OUT_OF_ORDER: return "a log descends or stops inside an entry";
     case TRACK_NO_FREE_ENTRY: return "the call needs more log entries than are free";
     case TT_STATE_PAST_16_BITS: return "the state has more than 16 bits";
     case TT_SAME_SET_TWICE: return "the set is passed in as the other one as well";
+    case TT_SAME_LOG_TWICE: return "the log is passed in to be written and to be read";
     default: return "no refusal has this number";
     }
 }

@@ -62,8 +62,8 @@ extern "C" {
 
 /* A log. An entry is seven numbers: texture, first mip, mip past the last, first layer, layer past the last, old state, new state.
  * Its head is two counts of entries, written and free; the caller passes both in and takes both over from the answer. A call writes its
- * entries after the written ones: by ascending texture (the sparse call in the order of its list), then mip, then layer. No call needs
- * more entries than the tracker has subresources, N * M * W. */
+ * entries after the written ones: by ascending texture (the sparse call in the order of its list), then mip, then layer. No call of a
+ * tracker needs more entries than it has subresources, N * M * W, and no merge of two logs more than both hold. */
 #define TRACK_LOG_ENTRY_LENGTH 7
 #define TRACK_LOG_LENGTH(entries) ((size_t)TRACK_LOG_ENTRY_LENGTH * (entries))
 
@@ -110,6 +110,7 @@ enum track_refusal {
     TRACK_STATE_RESERVED = 12,       /* the state is zero, or has UNKNOWN or COMPLEX */
     TRACK_STATE_INCOMPATIBLE = 13,   /* the state has a bit of EXCLUSIVE and is not one bit */
     TRACK_RANGES_OUT_OF_ORDER = 14,  /* calls on ranges: more than there is room for, or one is empty, out of order or overlaps */
+    TRACK_LOG_OUT_OF_ORDER = 31,     /* a log that is merged descends, or stops inside an entry */
     TRACK_NO_FREE_ENTRY = 15         /* the result needs more entries than are free */
 };
 
@@ -137,6 +138,17 @@ typedef struct track_logged_answer {
     size_t written;
     size_t free;
 } track_logged_answer;
+
+/* What a merge of two logs returns: the answer, the head of the third log after it, and the rest, what is left of one of the two: the
+ * rest_length numbers from number rest_offset on. A refusal leaves the head as it was given; its rest is the empty end of the second. */
+typedef struct track_merged_answer {
+    track_answer answer;
+    size_t written;
+    size_t free;
+    uint32_t rest_first; /* 1: the rest is the first log's; 0: the second's */
+    size_t rest_offset;
+    size_t rest_length;
+} track_merged_answer;
 
 /* What a call on ranges returns. Counts that do not belong to the call, and those of a refusal, are 0. */
 typedef struct track_ranges_answer {
@@ -220,6 +232,15 @@ track_logged_answer track_set_and_remove_from_usage_scope_sparse(
 
 /* Empties the log: free gains what was written, written becomes 0, and the entries stay. Refuses 5. */
 track_logged_answer track_empty_log(const uint32_t *log, size_t log_length, size_t written, size_t free);
+
+/* Merges two logs into a third, whose head is written and free, until one of the two is used up. Of the two only the written numbers are
+ * passed in, each in ascending texture (31): the log of several calls, or of a sparse one, may descend. The lower texture goes first, and
+ * of equal ones the first log's entry. The rest of the other log is not copied: read it where it stands. Where one log is empty, nothing
+ * is merged and the rest is the other, whole; where both are, it is the empty end of the second. So what is merged and the rest together
+ * hold every entry of both once. first and second may be the same numbers. Older entries of the third are not looked at. Refuses 5 (of
+ * the third), 31, 15. */
+track_merged_answer track_merge_logs(const uint32_t *first, size_t first_length, const uint32_t *second, size_t second_length,
+                                     uint32_t *third, size_t third_length, size_t written, size_t free);
 
 /* ---- Ranges by themselves: the first `told` are in use; starts and ends are any 32-bit numbers, and states are not looked at --- */
 

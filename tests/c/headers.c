@@ -10,6 +10,8 @@ static TT_SCOPE_MEMORY(other_memory, 2, 4, 8);
 static TT_TRACKER_MEMORY(tracker_memory, 2, 4, 8);
 static TT_TRACKER_MEMORY(join_memory, 2, 4, 8);
 static TT_LOG_MEMORY(log_memory, 64);
+static TT_LOG_MEMORY(second_memory, 1);
+static TT_LOG_MEMORY(third_memory, 64);
 
 static int opened(tt_scope scopes[2], tt_tracker trackers[2], tt_log *transitions)
 {
@@ -40,6 +42,16 @@ static int called(tt_scope scope, tt_scope other, tt_tracker tracker, tt_tracker
         && tt_done(tt_empty_log(transitions));
 }
 
+static int merged(tt_log transitions)
+{
+    tt_log second, third;
+    tt_rest rest;
+    return tt_done(tt_open_log(&second, second_memory, sizeof second_memory))
+        && tt_done(tt_open_log(&third, third_memory, sizeof third_memory))
+        && tt_done(tt_merge_logs(transitions, second, third, &rest))
+        && rest.count == tt_log_written(transitions) && tt_rest_entry(rest, rest.count).new_state == 0;
+}
+
 static uint32_t read_back(tt_scope scope, tt_tracker tracker, tt_log transitions, tt_place place)
 {
     char text[TT_STATE_NAME_SIZE];
@@ -64,5 +76,6 @@ int main(void)
     place.layer = 5;
     if (!opened(scopes, trackers, &transitions)) return 1;
     if (!called(scopes[0], scopes[1], trackers[0], trackers[1], transitions, texture)) return 2;
+    if (!merged(transitions)) return 3;
     return read_back(scopes[0], trackers[0], transitions, place) == 0;
 }

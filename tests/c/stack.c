@@ -16,7 +16,7 @@ struct scope { uint32_t table[TRACK_TABLE_LENGTH], ranges[RANGES]; };
 struct tracker { uint32_t table[TRACK_TABLE_LENGTH], starts[RANGES], ends[RANGES]; };
 static struct scope scope, given;
 static struct tracker tracker, join;
-static uint32_t entries[LOG], listed[N], run[3 * W], filtered[3 * W];
+static uint32_t entries[LOG], first[7 * N], second[7 * N], listed[N], run[3 * W], filtered[3 * W];
 /* The use of a texture that the next call is given. */
 static struct { uint32_t index, mip, mip_end, layer, layer_end; uint16_t state; } use;
 
@@ -62,6 +62,7 @@ static void sparse(void)
                                                  RANGES, listed, N, entries, LOG, 0, ENTRIES / 2);
 }
 static void empty_log(void) { track_empty_log(entries, LOG, 3, ENTRIES - 3); }
+static void merge_logs(void) { track_merge_logs(first, 7 * N, second, 7 * N, entries, LOG, 3, ENTRIES - 3); }
 static void isolate(void) { track_isolate(run, 3 * W, 3, 3, 11, 8192); }
 static void coalesce(void) { track_coalesce(run, 3 * W, 3); }
 static void iter_filter(void) { track_iter_filter(run, 3 * W, 3, 3, 11, filtered, 3 * W); }
@@ -71,8 +72,8 @@ static struct call calls[] = {
     {"open_scope", open_scope, 0}, {"open_tracker", open_tracker, 0}, {"scope_is_well_formed", test_scope, 0},
     {"tracker_is_well_formed", test_tracker, 0}, {"merge_single", merge_single, 0}, {"merge_usage_scope", merge_usage_scope, 0},
     {"set_single", set_single, 0}, {"set_from_usage_scope", set_from_usage_scope, 0}, {"set_from_tracker", set_from_tracker, 0},
-    {"set_and_remove_from_usage_scope_sparse", sparse, 0}, {"empty_log", empty_log, 0}, {"isolate", isolate, 0}, {"coalesce", coalesce, 0},
-    {"iter_filter", iter_filter, 0}
+    {"set_and_remove_from_usage_scope_sparse", sparse, 0}, {"empty_log", empty_log, 0}, {"merge_logs", merge_logs, 0},
+    {"isolate", isolate, 0}, {"coalesce", coalesce, 0}, {"iter_filter", iter_filter, 0}
 };
 enum { KINDS = sizeof calls / sizeof *calls };
 
@@ -87,7 +88,11 @@ static void prepare(void)
     use.layer = below(W);
     use.layer_end = use.layer + 1 + below(W - use.layer);
     use.state = states[below(sizeof states / sizeof *states)];
-    for (uint32_t i = 0; i < N; i++) listed[i] = below(N);
+    for (uint32_t i = 0; i < N; i++) {
+        listed[i] = below(N);
+        first[7 * i] = 2 * i + below(3); /* ascending */
+        second[7 * i] = 2 * i + below(3);
+    }
     if (below(8) == 0) given = scope;
     if (below(8) == 0) join = tracker;
     memcpy(run, three, sizeof three);

@@ -9,20 +9,22 @@
 
 /* The sets of both sides; where the parts of a set lie in its memory is written here a second time. */
 enum { N = 3, M = 2, W = 4, TABLE = 2376, RANGES = 3 * N * M * W, ENTRIES = N * M * W, LOG = 7 * ENTRIES, CALLS = 60000, ROUND = 30 };
+enum { RECORDED = 5 }; /* entries of each log that is merged */
 enum { EXCLUSIVE = 20, COMPLEX = 4096, UNKNOWN = 8192, MASK = 10 };
 static struct sides {
     TT_SCOPE_MEMORY(scope[2], N, M, W);
     TT_TRACKER_MEMORY(tracker[2], N, M, W);
     TT_LOG_MEMORY(log, ENTRIES);
+    TT_LOG_MEMORY(recorded[2], RECORDED);
 } typed, plain;
 static tt_scope scope[2];
 static tt_tracker tracker[2];
-static tt_log transitions;
+static tt_log transitions, recorded[2];
 static const tt_size size = { .textures = N, .mips = M, .layers = W };
 static const tt_flags flags = { .exclusive = EXCLUSIVE, .uninitialized_bit = 1, .complex_bit = COMPLEX, .unknown_bit = UNKNOWN };
 
-enum call { MERGE_SINGLE, MERGE_USAGE_SCOPE, SET_SINGLE, SET_FROM_USAGE_SCOPE, SET_FROM_TRACKER, SPARSE, EMPTY, KINDS };
-static unsigned answers[KINDS][3], checks;
+enum call { MERGE_SINGLE, MERGE_USAGE_SCOPE, SET_SINGLE, SET_FROM_USAGE_SCOPE, SET_FROM_TRACKER, SPARSE, EMPTY, MERGE_LOGS, KINDS };
+static unsigned answers[KINDS][3], rests[2], checks;
 
 static void expect(bool holds, int line, const char *what)
 {
@@ -55,6 +57,9 @@ static void start(void)
         EXPECT(tt_done(track_open_scope(s, s + TABLE, RANGES, N, M, W, EXCLUSIVE, 1, COMPLEX, UNKNOWN)));
         EXPECT(tt_done(track_open_tracker(t, t + TABLE, RANGES, t + TABLE + RANGES, RANGES, N, M, W,
                                           EXCLUSIVE, 1, COMPLEX, UNKNOWN, MASK)));
+        EXPECT(tt_done(tt_open_log(&recorded[k], typed.recorded[k], sizeof typed.recorded[k])));
+        plain.recorded[k][0] = 0;
+        plain.recorded[k][1] = RECORDED;
     }
     EXPECT(tt_done(tt_open_log(&transitions, typed.log, sizeof typed.log)));
     plain.log[0] = 0;
@@ -123,6 +128,50 @@ static void over_sets(enum call call, uint32_t k)
         if (below(8) == 0) typed.log[1] = plain.log[1] = ENTRIES + 1; /* damaged: refused from here to the next round */
         same(call, tt_empty_log(transitions), take(track_empty_log(l + 2, LOG, l[0], l[1])));
     }
+}
+
+/* Writes a log by hand, on both sides: any numbers, by ascending texture but for one log in six. */
+static void record(size_t k)
+{
+    const uint32_t written = below(RECORDED + 1), turned = below(6);
+    uint32_t index = turned == 0 ? 9 : 0;
+    for (uint32_t at = 2; at < 2 + 7 * RECORDED; at++) typed.recorded[k][at] = below(UINT32_MAX);
+    for (uint32_t at = 0; at < written; at++) {
+        index = turned == 0 ? index - below(2) : index + below(3);
+        typed.recorded[k][2 + 7 * at] = index;
+    }
+    typed.recorded[k][0] = written;
+    typed.recorded[k][1] = RECORDED - written;
+    memcpy(plain.recorded[k], typed.recorded[k], sizeof typed.recorded[k]);
+}
+
+/* The rest is that of the plain call, entry by entry, and lies in the written entries of one log. */
+static void same_rest(tt_rest rest, track_merged_answer got)
+{
+    const size_t k = got.rest_first != 0 ? 0 : 1;
+    const uint32_t *log = typed.recorded[k] + 2, *end = log + 7 * typed.recorded[k][0];
+    EXPECT(rest.numbers == log + got.rest_offset && 7 * rest.count == got.rest_length);
+    EXPECT(log <= rest.numbers && rest.numbers <= end && rest.numbers + 7 * rest.count == end);
+    for (size_t at = 0; at < rest.count; at++) {
+        const tt_transition t = tt_rest_entry(rest, at);
+        const uint32_t numbers[] = { t.index, t.part.mips.start, t.part.mips.end, t.part.layers.start, t.part.layers.end,
+                                     t.old_state, t.new_state };
+        EXPECT(memcmp(numbers, plain.recorded[k] + 2 + got.rest_offset + 7 * at, sizeof numbers) == 0);
+    }
+    EXPECT(tt_rest_entry(rest, rest.count).new_state == 0 && tt_rest_entry(rest, SIZE_MAX).index == 0);
+    rests[k] += got.answer.kind == TRACK_DONE && rest.count > 0;
+}
+
+static void merge_logs(void)
+{
+    uint32_t *a = plain.recorded[0], *b = plain.recorded[1], *l = plain.log;
+    tt_rest rest;
+    record(0);
+    record(1);
+    const track_merged_answer got = track_merge_logs(a + 2, 7 * a[0], b + 2, 7 * b[0], l + 2, LOG, l[0], l[1]);
+    const track_logged_answer head = { .answer = got.answer, .written = got.written, .free = got.free };
+    same(MERGE_LOGS, tt_merge_logs(recorded[0], recorded[1], transitions, &rest), take(head));
+    same_rest(rest, got);
 }
 
 /* ---- Reading back ---- */
@@ -248,6 +297,40 @@ static void own_refusals(void)
     EXPECT(memcmp(typed.log + 1, (uint32_t[]){ ENTRIES }, 4) == 0);
 }
 
+static bool not_merged(tt_log first, tt_log second, tt_log third, uint32_t number)
+{
+    tt_rest rest = { typed.log, 1 };
+    const struct sides before = typed;
+    const track_answer answer = tt_merge_logs(first, second, third, &rest);
+    return refused(answer, number) && rest.count == 0 && memcmp(&before, &typed, sizeof typed) == 0;
+}
+
+/* Logs that are not opened, that are damaged, and one that is both written and read. The first and the second may be the same. */
+static void own_refusals_of_logs(void)
+{
+    const tt_log no_log = { NULL, 0 };
+    tt_rest rest;
+    start();
+    EXPECT(not_merged(no_log, recorded[1], transitions, TRACK_LOG_TOO_SHORT));
+    EXPECT(not_merged(recorded[0], no_log, transitions, TRACK_LOG_TOO_SHORT));
+    EXPECT(not_merged(recorded[0], recorded[1], no_log, TRACK_LOG_TOO_SHORT));
+    EXPECT(not_merged(transitions, recorded[1], transitions, TT_SAME_LOG_TWICE));
+    EXPECT(not_merged(recorded[0], transitions, transitions, TT_SAME_LOG_TWICE));
+    EXPECT(tt_done(tt_merge_logs(recorded[0], recorded[0], transitions, &rest)) && rest.count == 0);
+    for (size_t k = 0; k < 2; k++) {
+        for (size_t at = 0; at < 2; at++) {
+            const uint32_t held = typed.recorded[k][at];
+            typed.recorded[k][at] = held + 1;
+            EXPECT(not_merged(recorded[0], recorded[1], transitions, TRACK_LOG_TOO_SHORT));
+            typed.recorded[k][at] = UINT32_MAX;
+            EXPECT(not_merged(recorded[0], recorded[1], transitions, TRACK_LOG_TOO_SHORT));
+            typed.recorded[k][at] = held;
+        }
+    }
+    typed.log[0]++;
+    EXPECT(not_merged(recorded[0], recorded[1], transitions, TRACK_LOG_TOO_SHORT)); /* the library's */
+}
+
 /* Past the largest number there is none: what tt_mip and tt_layer make of it is empty. */
 static void largest(void)
 {
@@ -300,10 +383,12 @@ static void words(void)
                                    | TRACK_USE_STORAGE_WRITE_ONLY | TRACK_USE_STORAGE_READ_WRITE | TRACK_USE_STORAGE_ATOMIC));
     EXPECT(TRACK_USE_ORDERED == (TRACK_USE_COPY_SRC | TRACK_USE_RESOURCE | TRACK_USE_COLOR_TARGET | TRACK_USE_DEPTH_STENCIL_READ
                                  | TRACK_USE_DEPTH_STENCIL_WRITE | TRACK_USE_STORAGE_READ_ONLY));
-    for (uint32_t number = 1; number <= TT_SAME_SET_TWICE; number++) {
-        const bool known = (number <= 19 && number != 10) || number >= TT_STATE_PAST_16_BITS; /* 10 is reserved */
+    for (uint32_t number = 1; number <= TT_SAME_LOG_TWICE; number++) {
+        const bool listed = (number <= 19 && number != 10) || number == 31; /* 10 is reserved */
+        const bool known = listed || number >= TT_STATE_PAST_16_BITS;
         EXPECT((strcmp(tt_refusal_words(number), tt_refusal_words(0)) != 0) == known);
     }
+    EXPECT(strcmp(tt_refusal_words(TRACK_LOG_OUT_OF_ORDER), "a log descends or stops inside an entry") == 0);
     EXPECT(strcmp(tt_refusal_words(TRACK_MIPS_EMPTY), "the mips are empty: they end where they start") == 0);
     EXPECT(strcmp(tt_refusal_words(TRACK_MIPS_REVERSED), "the mips are reversed: they end before they start") == 0);
     EXPECT(strcmp(tt_refusal_words(TRACK_LAYERS_EMPTY), "the layers are empty: they end where they start") == 0);
@@ -316,14 +401,17 @@ int main(void)
         const enum call call = (enum call)(below(2) == 0 ? below(KINDS) : 2 * below(2)); /* half of them put single uses in */
         if (k % ROUND == 0) start();
         if (call == MERGE_SINGLE || call == SET_SINGLE) single(call, below(2));
+        else if (call == MERGE_LOGS) merge_logs();
         else over_sets(call, below(2));
         if (k % 8 == 0) read_back();
     }
     for (unsigned call = 0; call < KINDS; call++) EXPECT(answers[call][TRACK_DONE] > 50 && answers[call][TRACK_REFUSED] > 50);
     EXPECT(answers[MERGE_SINGLE][TRACK_CONFLICT] > 50 && answers[MERGE_USAGE_SCOPE][TRACK_CONFLICT] > 50);
+    EXPECT(rests[0] > 50 && rests[1] > 50);
     read_damaged();
     read_nothing();
     own_refusals();
+    own_refusals_of_logs();
     largest();
     openings();
     words();

@@ -1,4 +1,5 @@
 pub mod SetAnswers
 pub mod AnswerLaws
+pub mod LogAnswers
 pub mod RangesAnswers
 pub mod RangesAnswerLaws

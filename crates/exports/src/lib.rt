@@ -1,19 +1,20 @@
 // Exports: every public call for C. `tools/library` builds it as target/lib/libtexture_tracker.a.
 //
-// Place in the picture: the C boundary over `track` and `range_calls`. Each function makes the values that a call takes of plain numbers,
-// makes the call, and tells its answer in a struct of numbers, since a function for C returns no enum. include/track.h is the header, and
-// tests/c calls every function from C.
+// Place in the picture: the C boundary over `track`, `range_calls` and `log_merge`. Each function makes the values that a call takes of
+// plain numbers, makes the call, and tells its answer in a struct of numbers, since a function for C returns no enum. include/track.h is
+// the header, and tests/c calls every function from C.
 //
 //     sets       opening a scope or a tracker, and the test whether it is well formed
 //     scopes     the two merges
 //     trackers   the four calls of a tracker
-//     logs       emptying the log
+//     logs       emptying the log, and merging two logs into a third
 //     ranged     `isolate`, `coalesce` and `iter_filter` on ranges by themselves
 //     answers    from outcomes to numbers
 //
 // What holds: nothing is required of any argument. The outcome that an answer tells (specs/SetAnswers, `outcomeOf`) meets the very contract
 // of the call beneath, and the answer has that outcome's numbers and no others (`answerOf`); no two outcomes have the same numbers
-// (specs/AnswerLaws). The answers of the calls on ranges are told alike (RangesAnswers, RangesAnswerLaws).
+// (specs/AnswerLaws). The answers of the calls on ranges (RangesAnswers, RangesAnswerLaws) and of a merge of logs
+// (LogAnswers) are told alike.
 //
 // What C must see to is what the types say here: each pointer is good for the length beside it (a table's is 2,376), and what a call writes
 // overlaps nothing else that it is lent. A slice is passed as a pointer and a length, two arguments of their own, also where one is the
@@ -57,4 +58,16 @@ pub struct RangesAnswer {
     pub position: usize,
     pub count: usize,
     pub told: usize,
+}
+
+// What a merge of two logs answers, the head of the third log after it, and the rest: `rest_length` numbers from `rest_offset` on, of the
+// first log where `rest_first` is 1, and of the second where it is 0.
+#[repr(C)]
+pub struct MergedAnswer {
+    pub answer: Answer,
+    pub written: usize,
+    pub free: usize,
+    pub rest_first: u32,
+    pub rest_offset: usize,
+    pub rest_length: usize,
 }
