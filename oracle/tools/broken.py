@@ -25,6 +25,10 @@ MIPS, LAYERS = "mip_interval(mip_start, mip_end)", "layer_interval(layer_start, 
 PAST = "past(mips, layers, mip_end, layer_end)"
 SELECTED, STATE = "selector(mips, layers, selected)", "state(held.flags, given)"
 RANGED, RANGES = "layer_interval(start, end)", "ranges(length, lent, records)"
+HEAD, FIRST, SECOND = "log(written, free, lent)", "order(first)", "order(second)"
+FREE, LOGS = "if len(merged) > free", "refusals.merging(written, free, lent, first, second)"
+LEFT, MERGED = "return merged, first, second", "sum(merge(entries(first), entries(second))[0], [])"
+REST = 'rest("first", first, of_first) if of_first else rest("second", second, of_second)'
 
 # Of the Rust: each must show as a difference from 01's rules.
 RUST = [
@@ -82,7 +86,8 @@ RULES = [
     Broken("rangemodel.py", "freed records stay", "[(0, 0, 0)] * (used - len(records))", "[]"),
 ]
 
-# Of the table, as a program could misread it: here the program reads by a copy of the tools with one rule broken.
+# Of the table and of merge_logs, as a program could misread them: here it reads by a copy of the tools with one rule
+# broken.
 TABLE = [
     Broken("refusals.py", "mips of no length are told as reversed", "return Refusal(16, 0)", "return Refusal(17, 0)"),
     Broken("refusals.py", "mips reversed are told as of no length", "Refusal(17, 0) if", "Refusal(16, 0) if"),
@@ -99,6 +104,25 @@ TABLE = [
            f"{RANGED} or", f"{RANGED} or".replace("layer", "mip")),
     Broken("refusals.py", "the calls on ranges look at the ranges first",
            f"{RANGED} or {RANGES}", f"{RANGES} or {RANGED}"),
+    Broken("logmodel.py", "on equal index the second log's entry goes first",
+           "first[0][0] <= second[0][0]", "first[0][0] < second[0][0]"),
+    Broken("logmodel.py", "the rest is of the log that is used up",
+           REST, 'rest("second", second, []) if of_first else rest("first", first, [])'),
+    Broken("logmodel.py", "the first log's rest is told as the second's",
+           'rest("first", first', 'rest("second", first'),
+    Broken("logmodel.py", "an entry is lost where the logs meet", LEFT, "return merged[:-1], first, second"),
+    Broken("logmodel.py", "the rest is merged too", LEFT, "return merged + first + second, [], []"),
+    Broken("logmodel.py", "older entries are lost", "ENTRY_NUMBERS * written", "ENTRY_NUMBERS * (written // 2)"),
+    Broken("logmodel.py", "a descent in the rest is not seen", LOGS, LOGS.replace("first, second", f"{MERGED}, []")),
+    Broken("logmodel.py", "the rest needs free entries too", FREE, FREE.replace("merged", "entries(first + second)")),
+    Broken("logmodel.py", "the last free entry is not used", FREE, FREE.replace(">", ">=")),
+    Broken("logmodel.py", "15 before the others", LOGS, f"Refusal(15, 0) if len({MERGED}) > 7 * free else {LOGS}"),
+    Broken("refusals.py", "equal indices descend", "indices != sorted(indices)", "indices != sorted(set(indices))"),
+    Broken("refusals.py", "a log may stop inside an entry", "if len(log) % ENTRY_NUMBERS or", "if"),
+    Broken("refusals.py", "only the first log is looked at", f"{FIRST} or {SECOND}", FIRST),
+    Broken("refusals.py", "the two logs before the third's head",
+           f"{HEAD} or {FIRST} or {SECOND}", f"{FIRST} or {SECOND} or {HEAD}"),
+    Broken("refusals.py", "a log out of order is told as ranges are", "Refusal(31, 0) if", "Refusal(14, 0) if"),
 ]
 
 # What a program could write wrongly: here `old` is any text that answers have.
@@ -106,4 +130,5 @@ PROGRAM = [Broken("program", f"{old.strip()} is told as {new.strip() or 'nothing
     ("refused 4 0 kept", "done"), ("refused 7 3 kept", "refused 7 0 kept"), (" kept", " changed"),
     ("refused 15 0", "refused 5 0"), ("conflict 0", "conflict 1"), ("transition 0 0 1", "transition 0 0 2"),
     ("many 1 0 ", "many 1 1 "), ("log 2 ", "log 3 "), ("emptied 0 8", "emptied 0 7"), ("single", "singel"),
-    ("isolated 1 3 5", "isolated 1 3 4"), ("3005", "3004"), ("done\n", ""))]
+    ("isolated 1 3 5", "isolated 1 3 4"), ("3005", "3004"), ("done\n", ""), ("merged 2 ", "merged 1 "),
+    ("rest first", "rest second"), ("refused 31 0 kept", "refused 31 0 changed"))]

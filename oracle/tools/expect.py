@@ -8,6 +8,8 @@ from model import Model, Verdict
 from refusals import Refusal
 
 FLAGS = read_flags()
+# Calls that wgpu-core does not have.
+OWN = ("empty_log", "merge_logs")
 
 
 class Step(NamedTuple):
@@ -26,9 +28,9 @@ class Step(NamedTuple):
             return self.line + "\n" if self.line.startswith("case") else ""
         answer = self.verdict.answer
         if isinstance(answer, Refusal):
-            return f"refused {answer.number} {answer.place} kept\n"
+            return f"refused {answer.number} {answer.place} kept\n" + self.verdict.rest
         if isinstance(answer, str):
-            return answer + "\n"
+            return answer + "\n" + self.verdict.rest
         if self.head is None or self.line.startswith("merge"):
             return self.answer
         written, free, _ = self.head
@@ -43,7 +45,7 @@ def for_rust(line, verdict, name):
     word, *rest = line.split(" ")
     if word in ("case", "put"):
         return line
-    if verdict is None or isinstance(verdict.answer, Refusal) or word == "empty_log":
+    if verdict is None or isinstance(verdict.answer, Refusal) or word in OWN:
         return None
     if word.startswith("open"):
         # A set that owns nothing looks the same with any flags, and one with others is never changed.

@@ -1,7 +1,11 @@
-"""A reader of calls that answers by document 01 alone: its refusals, its grid rules, its rules for ranged states."""
+"""A reader of calls that answers by document 01 alone: its refusals, its grid rules, its rules for ranged states.
+
+merge_logs is answered by document 02: logmodel.py.
+"""
 from typing import NamedTuple
 
 import grid
+import logmodel
 import rangemodel
 import refusals
 from flags import UsageFlags
@@ -33,11 +37,13 @@ class Set:
 
 
 class Verdict(NamedTuple):
-    """What 01 says of a call. `answer` is None, a Refusal, a Conflict, or the text of a whole line."""
+    """What 01 says of a call. `answer` is None, a Refusal, a Conflict, or the text of a whole line.
+    `rest`: what `merge_logs` tells after that, the line of the rest."""
     answer: object = None
     transitions: dict = {}
     sets: tuple = ()
     named: int = 0
+    rest: str = ""
 
 
 def read_half(words, mips):
@@ -78,6 +84,9 @@ class Model:
             return Verdict(rangemodel.CALLS[word](numbers))
         if word == "empty_log":
             return Verdict(refusals.log(*numbers) or f"emptied 0 {numbers[0] + numbers[1]}")
+        if word == "merge_logs":
+            told, rest = logmodel.answer(numbers)
+            return Verdict(told, rest=rest + "\n")
         if word in ("open_scope", "open_tracker"):
             return self.open(word == "open_tracker", *numbers)
         return self.call(word, numbers, head, full_log)

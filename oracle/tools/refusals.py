@@ -1,6 +1,6 @@
 """Document 01's table "Turned away", as far as it speaks of numbers and owned textures.
 
-In the place of its number 10, which is never given, stand 16 to 19 of document 02's request 02.
+In the place of its number 10, which is never given, stand 16 to 19 of document 02's request 02; 31 is of request 14.
 Every check answers None or a Refusal, its number and place. Numbers 4 and 5 are about storage: storage.py.
 """
 from typing import NamedTuple
@@ -12,8 +12,8 @@ class Refusal(NamedTuple):
 
 
 # In the table's order; then those of the intervals, and those that need storage of the caller's.
-NUMBERS = [*range(1, 10), 16, 17, 18, 19, *range(11, 16)]
-INTERVALS, STORAGE = (16, 17, 18, 19), (3, 4, 5, 14)
+NUMBERS = [*range(1, 10), 16, 17, 18, 19, *range(11, 15), 31, 15]
+INTERVALS, STORAGE = (16, 17, 18, 19), (3, 4, 5, 14, 31)
 LIMIT_TEXTURES, LIMIT_MIPS, LIMIT_LAYERS = 64, 16, 256
 RANGE_NUMBERS, ENTRY_NUMBERS = 3, 7
 
@@ -118,3 +118,14 @@ def ranges(length, lent, records):
             return Refusal(14, 0)
         end = stop
     return None
+
+
+def order(log):
+    """Request 14: "31 a log that descends or stops inside an entry"."""
+    indices = log[::ENTRY_NUMBERS]
+    return Refusal(31, 0) if len(log) % ENTRY_NUMBERS or indices != sorted(indices) else None
+
+
+def merging(written, free, lent, first, second):
+    """Request 14: "Turned away: 5 for the third, 31"; both logs are looked at whole, also what is not copied."""
+    return log(written, free, lent) or order(first) or order(second)

@@ -8,6 +8,8 @@ import tempfile
 
 import answer
 import broken
+import logcases
+import logmodel
 import rust
 from flags import ORACLE
 
@@ -103,9 +105,24 @@ def example_holds():
     return answer.answer([calls]) == answers
 
 
+def merge_holds():
+    """Request 14, of all pairs of short logs: "merged part and rest together hold every entry of both exactly once,
+    ascending, each log's own order kept". A stable sort of both is that; and of one log nothing is left."""
+    for logs in logcases.pairs(logcases.ascending(3), logcases.ascending(3)):
+        first, second = map(logmodel.entries, logs)
+        merged, of_first, of_second = logmodel.merge(first, second)
+        together = sorted(first + second, key=lambda entry: entry[0])
+        if merged + of_first + of_second != together or of_first and of_second:
+            return False
+    return True
+
+
 def main():
     if not example_holds():
         print("README.md's example is not what the calls answer")
+        return 1
+    if not merge_holds():
+        print("a merge of two logs is not what request 14 says of it")
         return 1
     with tempfile.TemporaryDirectory() as folder:
         copy = copy_oracle(pathlib.Path(folder))

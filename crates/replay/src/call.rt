@@ -11,6 +11,8 @@ use model::Selection;
 use model::Selector;
 use model::TrackerIndex;
 use model::UsageFlags;
+use replay_lines::logs::fill;
+use replay_lines::logs::log_kept;
 use replay_lines::numbers::at;
 use replay_lines::numbers::most;
 use replay_lines::numbers::product;
@@ -32,9 +34,6 @@ use track::set_from_tracker;
 use track::set_from_usage_scope;
 use track::set_single;
 ghost use Prim.Native.Nat.{_≤_};
-
-// What each number of a lent log is before a call.
-const UNTOUCHED: u32 = 2779096485;
 
 // Whether the call is a tracker's, which is lent a log.
 fn logs(kind: u32) -> bool {
@@ -280,17 +279,6 @@ fn both_kept(
     sets::kept(store, from, given, first, last)
 }
 
-// Whether the log and its head are what they were.
-fn log_kept(log: &[u32], before: LogHead, after: LogHead) -> bool {
-    if before.written != after.written {
-        return false;
-    }
-    if before.free != after.free {
-        return false;
-    }
-    untouched(log)
-}
-
 // The answer of a call that was not refused.
 fn tell_made(
     line: &[u32],
@@ -351,25 +339,6 @@ fn enter(line: &[u32], book: &mut Book, set: usize)
         book[set] = sets::TRACKER;
         sets::lend(book, set, at(line, 10), at(line, 11));
     }
-}
-
-fn fill(log: &mut [u32]) {
-    let mut i = 0;
-    while i < log.len() {
-        log[i] = UNTOUCHED;
-        i += 1;
-    }
-}
-
-fn untouched(log: &[u32]) -> bool {
-    let mut i = 0;
-    while i < log.len() {
-        if log[i] != UNTOUCHED {
-            return false;
-        }
-        i += 1;
-    }
-    true
 }
 
 // FLAGS of an opening.

@@ -1,4 +1,4 @@
-// Replays calls with the answers that the Rust gave: every public call, on up to four sets, and the calls on ranged states.
+// Replays calls with the answers that the Rust gave: every public call, on up to four sets, and the calls on ranged states and logs.
 //
 // Place in the picture: over all, a user of the public calls. The file `stdin` has the stored calls and `stdout` the answers, written by
 // the oracle, which runs the Rust itself; `rt check` runs this program and compares. `oracle/compare` hands it fresh calls. Lines, answers
@@ -7,6 +7,7 @@
 mod call;
 
 use libc::STDIN_FILENO;
+use replay_lines::logs;
 use replay_lines::numbers::at;
 use replay_lines::numbers::smaller;
 use replay_lines::out;
@@ -244,7 +245,7 @@ fn answer(
     );
 }
 
-// A line that answers nothing, a call on ranged states, or a call on sets.
+// A line that answers nothing, a call on ranged states, a merge of logs, or a call on sets.
 fn answer_line(
     line: &[u32],
     out: &mut Out,
@@ -270,6 +271,7 @@ fn answer_line(
         scan::ISOLATE => ranged::isolate_line(line, starts, out),
         scan::COALESCE => ranged::coalesce_line(line, starts, out),
         scan::ITER_FILTER => ranged::filter_line(line, starts, ends, out),
+        scan::MERGE_LOGS => logs::merge_line(line, log, out),
         _ => call::line(
             line,
             out,

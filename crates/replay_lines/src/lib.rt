@@ -10,6 +10,8 @@
 //     tell      answers
 //     out       the bytes that are to be written
 //     ranged    the calls on ranged states
+//     logs      what a lent log is before a call, and the merge of two logs
+pub mod logs;
 pub mod numbers;
 pub mod out;
 pub mod ranged;

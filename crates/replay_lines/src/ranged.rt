@@ -12,7 +12,7 @@ ghost use Prim.Native.Nat.{_*_, _≤_};
 ghost use lib.ListN.{length};
 
 // All numbers of a run, and the end of the line.
-fn run(out: &mut Out, s: &[u32]) {
+pub fn run(out: &mut Out, s: &[u32]) {
     let mut i = 0;
     while i < s.len() {
         out::number(out, wide(s[i]));

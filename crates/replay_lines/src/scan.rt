@@ -35,6 +35,8 @@ pub const SPARSE: u32 = 29478;
 
 pub const EMPTY_LOG: u32 = 25865;
 
+pub const MERGE_LOGS: u32 = 27914;
+
 pub const SINGLE: u32 = 29446;
 
 pub const TABLE: u32 = 29701;
