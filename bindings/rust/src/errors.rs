@@ -19,7 +19,8 @@ use core::{error::Error, fmt};
 /// | 1, 2 | opening a scope or a tracker |
 /// | 6 to 9 | calls that are handed a whole set, or a list of its textures |
 /// | 7 to 13, with 16 to 19 in the place of 10 | `merge_single`, `set_single` |
-/// | 15 | calls that borrow a log |
+/// | 31 | [`merge_logs`](crate::merge_logs) |
+/// | 15 | calls that write to a log |
 /// | 3, 4, 5 | none: this crate provides enough memory, and nobody else writes it |
 /// | 10 | none: it is reserved; earlier versions returned it for 16 to 19 |
 /// | 14 | none: the calls on ranges alone are not in this crate |
@@ -83,6 +84,8 @@ pub enum Refusal {
     StateIncompatible,
     /// 14: the ranges are empty, out of order or overlap.
     RangesOutOfOrder,
+    /// 31: a log descends or stops inside an entry.
+    LogOutOfOrder,
     /// 15: the call needs more log entries than are free.
     NoFreeEntry,
     /// A number that this crate does not know: the library is of another version.
@@ -107,6 +110,7 @@ impl Refusal {
             13 => Self::StateIncompatible,
             14 => Self::RangesOutOfOrder,
             15 => Self::NoFreeEntry,
+            31 => Self::LogOutOfOrder,
             other => Self::Unlisted(other),
         }
     }
@@ -143,6 +147,7 @@ impl Refusal {
             Self::StateReserved => 12,
             Self::StateIncompatible => 13,
             Self::RangesOutOfOrder => 14,
+            Self::LogOutOfOrder => 31,
             Self::NoFreeEntry => 15,
             Self::Unlisted(number) => number,
         }
@@ -177,6 +182,7 @@ impl Refusal {
             Self::StateReserved => "the state is zero, or has unknown or complex in it",
             Self::StateIncompatible => "the state has an exclusive use beside another use",
             Self::RangesOutOfOrder => "the ranges are empty, out of order or overlap",
+            Self::LogOutOfOrder => "a log descends or stops inside an entry",
             Self::NoFreeEntry => "the call needs more log entries than are free",
             Self::Unlisted(_) => "the library returns a reason that this crate does not know",
         }

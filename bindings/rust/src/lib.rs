@@ -18,7 +18,7 @@
 //! - A [`UsageScope`] holds the uses of one pass, which happen at the same time. Reads are united; a use that excludes
 //!   others, beside any other, is a [`Conflict`], reported with its mips, layers and both states.
 //! - A [`TextureTracker`] puts passes in order. Each call that takes it further writes the changes that the driver has
-//!   to be told into a [`TransitionLog`].
+//!   to be told into a [`TransitionLog`]. Two logs are merged into one by [`merge_logs`].
 //!
 //! # Quick start
 //!
@@ -51,8 +51,8 @@
 //! # What holds
 //!
 //! Behind these calls is a library that is proved, for every input: a call ends, stays inside the memory that it
-//! borrows, and returns what the definitions say, which are those of wgpu-core's `track/texture.rs` on plain lists; a
-//! refusal changes nothing. This crate provides the memory, names what is returned, and is not proved: it is tested
+//! borrows, and returns what the definitions say, which are those of wgpu-core's `track/texture.rs` on plain lists, and
+//! of [`merge_logs`] those of `docs/RULES.md`; a refusal changes nothing. This crate provides the memory, names what is returned, and is not proved: it is tested
 //! against wgpu-core's own code (`tests/oracle.rs`). All memory is taken at opening; no call takes more, and none
 //! panics. States are any 16 bits, told apart by [`UsageFlags`]; [`uses`] has wgpu's.
 //!
@@ -90,7 +90,7 @@ mod values;
 
 pub use errors::{Conflict, MergeError, Refusal};
 pub use grid::Grid;
-pub use log::{PendingTransition, TransitionLog, Transitions};
+pub use log::{merge_logs, PendingTransition, Rest, TransitionLog, Transitions};
 pub use scope::UsageScope;
 pub use state::{ParseStateError, State};
 pub use states::TextureStates;

@@ -1,13 +1,13 @@
 //! The transition log.
 use crate::{
-    errors::{naming, passed, Written},
+    errors::{naming, passed, Refusal, Written},
     state::State,
-    storage::{self, subresources, LogStorage},
+    storage::{self, subresources, LogStorage, ENTRY},
     sys,
     values::{Extent, Selector, TrackerIndex},
 };
 use alloc::string::String;
-use core::{fmt, iter::Take, slice::ChunksExact};
+use core::{fmt, slice::ChunksExact};
 
 /// A change of use that the driver has to be told: wgpu-core's `PendingTransition`.
 #[derive(Clone, Copy, Debug, PartialEq, Eq, Hash)]
@@ -57,8 +57,8 @@ impl fmt::Display for PendingTransition {
 /// Entries are not joined; `docs/RULES.md` of the repository has how many there are.
 ///
 /// A call that needs more entries than are free is refused with [`NoFreeEntry`](crate::Refusal::NoFreeEntry) and
-/// changes nothing. No call needs more than one for each subresource that it names, so a log
-/// [`with_room_for`](Self::with_room_for) the textures of a tracker, emptied before each call, never makes that happen.
+/// changes nothing. No call of a tracker needs more than one for each subresource that it names, so a log
+/// [`with_room_for`](Self::with_room_for) the tracker's textures, emptied before each call, never makes that happen.
 ///
 /// ```
 /// use texture_tracker::*;
@@ -124,7 +124,7 @@ impl TransitionLog {
     /// The transitions that are written, in their order.
     #[must_use]
     pub fn iter(&self) -> Transitions<'_> {
-        Transitions { entries: self.storage.first(self.len()) }
+        Transitions::of(self.storage.told())
     }
 
     /// Empties the log, and returns the transitions that were written, in their order.
@@ -132,7 +132,7 @@ impl TransitionLog {
         let written = self.len();
         self.clear();
         // Emptying leaves the entries where they are.
-        Transitions { entries: self.storage.first(written) }
+        Transitions::of(self.storage.first(written))
     }
 
     /// Empties the log.
@@ -167,10 +167,124 @@ impl<'a> IntoIterator for &'a TransitionLog {
     }
 }
 
+/// Merges two logs into a third, after what is written there, until one of the two is used up. The lower index goes
+/// first, and of equal ones the first log's transition. What is left of the other log is returned, as a part of it: it is
+/// not copied, and goes to the driver from its own memory.
+///
+/// So what is merged and the rest together have every transition of both once, ascending, each log's own order kept. If
+/// one log is empty, nothing is merged, and the rest is the other one, whole.
+///
+/// ```
+/// use texture_tracker::*;
+/// # fn main() -> Result<(), Refusal> {
+/// /// What is logged of some cameras, a texture each: their pictures are copied in.
+/// fn logged(cameras: &[u32]) -> Result<TransitionLog, Refusal> {
+///     let extent = Extent::new(1, 1);
+///     let mut tracker = TextureTracker::open(8, extent, uses::FLAGS, uses::ORDERED)?;
+///     let mut log = TransitionLog::with_room_for(8, extent);
+///     for texture in cameras.iter().map(|&camera| Texture::new(TrackerIndex(camera), extent)) {
+///         tracker.set_single(texture, extent.full_range(), uses::UNINITIALIZED, &mut log)?;
+///         tracker.set_single(texture, extent.full_range(), uses::COPY_DST, &mut log)?;
+///     }
+///     Ok(log)
+/// }
+/// let (left, right) = (logged(&[0, 1, 4])?, logged(&[1, 2, 6, 7])?);
+/// let mut both = TransitionLog::with_capacity(7);
+/// let rest = merge_logs(&left, &right, &mut both)?;
+/// assert!(both.iter().map(|each| each.index.0).eq([0, 1, 1, 2, 4]));
+/// assert!(rest.iter().map(|each| each.index.0).eq([6, 7]));
+/// for transition in both.iter().chain(rest) {
+///     assert_eq!(transition.to, uses::COPY_DST);                               // the driver is told
+/// }
+/// # Ok(())
+/// # }
+/// ```
+///
+/// The rest may be of either log, so both stay borrowed as long as it is used.
+///
+/// ```compile_fail,E0502
+/// # use texture_tracker::*;
+/// fn emptied(left: &mut TransitionLog, right: &TransitionLog, both: &mut TransitionLog) -> Result<usize, Refusal> {
+///     let rest = merge_logs(left, right, both)?;
+///     left.clear();
+///     Ok(rest.len())
+/// }
+/// ```
+///
+/// # Errors
+///
+/// Before any change: [`LogOutOfOrder`](Refusal::LogOutOfOrder) if the indices of a log descend anywhere, also in what
+/// would be the rest. One call leaves them ascending, but for the sparse call, which goes by its list; the log of several
+/// calls may descend. [`NoFreeEntry`](Refusal::NoFreeEntry) if more is merged than is free in the third log. What stands
+/// there already is not looked at.
+pub fn merge_logs<'a>(
+    first: &'a TransitionLog,
+    second: &'a TransitionLog,
+    out: &mut TransitionLog,
+) -> Result<Rest<'a>, Refusal> {
+    let (answer, numbers) = sys::merge_logs(first.storage.told(), second.storage.told(), &mut out.storage);
+    passed(answer)?;
+    Ok(Rest { numbers })
+}
+
+/// What [`merge_logs`] leaves of one of two logs: its last transitions, where they stand in that log.
+#[derive(Clone, Copy, PartialEq, Eq)]
+pub struct Rest<'a> {
+    numbers: &'a [u32],
+}
+
+impl<'a> Rest<'a> {
+    /// How many transitions are left.
+    #[must_use]
+    pub fn len(self) -> usize {
+        self.numbers.len() / ENTRY
+    }
+
+    /// Whether none is left.
+    #[must_use]
+    pub fn is_empty(self) -> bool {
+        self.len() == 0
+    }
+
+    /// The transitions, in their order.
+    #[must_use]
+    pub fn iter(self) -> Transitions<'a> {
+        Transitions::of(self.numbers)
+    }
+
+    /// Their numbers in the memory of the log, seven for each: index, mip start, mip end, layer start, layer end, old
+    /// state, new state.
+    #[must_use]
+    pub fn numbers(self) -> &'a [u32] {
+        self.numbers
+    }
+}
+
+impl fmt::Debug for Rest<'_> {
+    fn fmt(&self, f: &mut fmt::Formatter<'_>) -> fmt::Result {
+        f.debug_list().entries(self.iter()).finish()
+    }
+}
+
+impl<'a> IntoIterator for Rest<'a> {
+    type Item = PendingTransition;
+    type IntoIter = Transitions<'a>;
+
+    fn into_iter(self) -> Transitions<'a> {
+        self.iter()
+    }
+}
+
 /// The transitions of a log, in their order.
 #[derive(Clone, Debug)]
 pub struct Transitions<'a> {
-    entries: Take<ChunksExact<'a, u32>>,
+    entries: ChunksExact<'a, u32>,
+}
+
+impl<'a> Transitions<'a> {
+    fn of(numbers: &'a [u32]) -> Self {
+        Self { entries: numbers.chunks_exact(ENTRY) }
+    }
 }
 
 impl Iterator for Transitions<'_> {

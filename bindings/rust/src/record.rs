@@ -2,8 +2,8 @@
 //!
 //! A [`Recorder`] opens sets and logs that have the calls of the plain ones, under the same names, and write each call as
 //! a line before it is made. What they hold is read as from the plain ones, which they contain (`Deref`). So frame code
-//! is recorded by taking its types from this module, and opening its sets with a recorder. A call then takes as long as
-//! the write.
+//! is recorded by taking its types, and [`merge_logs`], from this module, and opening its sets with a recorder. A call then
+//! takes as long as the write.
 //!
 //! ```
 //! use texture_tracker::{record::Recorder, *};
@@ -44,7 +44,7 @@
 //! `oracle/README.md` has the language. A recording is replayed from its start, so it grows as long as the program runs:
 //! where all sets are opened anew, a new recorder may be created too.
 use crate::{
-    log::Transitions,
+    log::{Rest, Transitions},
     state::State,
     storage::Opening,
     values::{Extent, Selector, Texture, TrackerIndex, UsageFlags},
@@ -428,6 +428,28 @@ impl TransitionLog {
     fn numbers(&self) -> String {
         format!("{} {} {}", self.len(), self.free(), self.plain.storage.entries.len())
     }
+}
+
+/// As [`merge_logs`](crate::merge_logs). The line has the numbers of both logs, and the third log's recorder writes it.
+/// A recording that has such a line is replayed without this crate, whose logs hold what calls write there and not any numbers.
+///
+/// # Errors
+///
+/// The same.
+pub fn merge_logs<'a>(
+    first: &'a TransitionLog,
+    second: &'a TransitionLog,
+    out: &mut TransitionLog,
+) -> Result<Rest<'a>, Refusal> {
+    let logs = [first, second].map(|log| log.plain.storage.told());
+    let mut line = format!("merge_logs {} {} {}", out.numbers(), logs[0].len(), logs[1].len());
+    for number in logs.into_iter().flatten() {
+        line.push(' ');
+        line.push_str(&number.to_string());
+    }
+    line.push('\n');
+    out.recorder.write(&line);
+    crate::merge_logs(&first.plain, &second.plain, &mut out.plain)
 }
 
 impl Deref for TransitionLog {

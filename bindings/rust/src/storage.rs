@@ -18,7 +18,7 @@ use crate::{
     values::{Extent, Layer, Mip, Selector, Span, TrackerIndex, UsageFlags},
 };
 use alloc::{boxed::Box, vec, vec::Vec};
-use core::{iter::Take, ops::Range, slice::ChunksExact};
+use core::ops::Range;
 
 pub(crate) const TABLE: usize = 2376;
 pub(crate) type Table = [u32; TABLE];
@@ -32,7 +32,7 @@ const COUNTS: usize = 64;
 const MOST_MIPS: usize = 16;
 /// Numbers of a range, and of a log entry.
 const RANGE: usize = 3;
-const ENTRY: usize = 7;
+pub(crate) const ENTRY: usize = 7;
 
 /// The largest set that can be opened.
 const MOST_TEXTURES: u32 = 64;
@@ -119,9 +119,15 @@ impl LogStorage {
         (self.written, self.free) = (0, self.entries.len() / ENTRY);
     }
 
-    /// The numbers of the first `count` entries.
-    pub fn first(&self, count: usize) -> Take<ChunksExact<'_, u32>> {
-        self.entries.chunks_exact(ENTRY).take(count)
+    /// The numbers of the first `count` entries, or of as many as there are.
+    pub fn first(&self, count: usize) -> &[u32] {
+        let there = self.entries.len() / ENTRY;
+        self.entries.get(..ENTRY * count.min(there)).unwrap_or_default()
+    }
+
+    /// The numbers of the entries that are written.
+    pub fn told(&self) -> &[u32] {
+        self.first(self.written)
     }
 }
 

@@ -38,6 +38,19 @@ struct LoggedAnswer {
     free: usize,
 }
 
+/// What a merge of two logs returns, with the third log's head after it. The rest is `rest_length` numbers from number
+/// `rest_offset` on, of the first log where `rest_first` is 1, of the second where it is 0.
+#[repr(C)]
+#[derive(Clone, Copy)]
+struct MergedAnswer {
+    answer: Answer,
+    written: usize,
+    free: usize,
+    rest_first: u32,
+    rest_offset: usize,
+    rest_length: usize,
+}
+
 extern "C" {
     fn track_open_scope(
         table: *mut u32, ranges: *const u32, ranges_len: usize,
@@ -85,6 +98,11 @@ extern "C" {
     ) -> LoggedAnswer;
 
     fn track_empty_log(log: *const u32, log_len: usize, written: usize, free: usize) -> LoggedAnswer;
+
+    fn track_merge_logs(
+        first: *const u32, first_len: usize, second: *const u32, second_len: usize,
+        third: *mut u32, third_len: usize, written: usize, free: usize,
+    ) -> MergedAnswer;
 
     fn track_scope_is_well_formed(table: *const u32, ranges: *const u32, ranges_len: usize) -> u32;
 
@@ -229,6 +247,21 @@ pub(crate) fn empty_log(log: &mut LogStorage) -> Answer {
     // SAFETY: the pointer comes from a reference, with its length, and is only read.
     let after = unsafe { track_empty_log(log.entries.as_ptr(), log.entries.len(), log.written, log.free) };
     logged(log, after)
+}
+
+/// Of the first two logs only what is written. What is returned beside the answer is the rest, a part of one of them.
+pub(crate) fn merge_logs<'a>(first: &'a [u32], second: &'a [u32], third: &mut LogStorage) -> (Answer, &'a [u32]) {
+    // SAFETY: each pointer comes from a reference, with its length; the third is borrowed mutably, so it is another.
+    let after = unsafe {
+        track_merge_logs(
+            first.as_ptr(), first.len(), second.as_ptr(), second.len(),
+            third.entries.as_mut_ptr(), third.entries.len(), third.written, third.free,
+        )
+    };
+    let MergedAnswer { answer, written, free, rest_first, rest_offset, rest_length } = after;
+    let log = if rest_first == 0 { second } else { first };
+    let rest = log.get(rest_offset..).and_then(|rest| rest.get(..rest_length)).unwrap_or_default();
+    (logged(third, LoggedAnswer { answer, written, free }), rest)
 }
 
 pub(crate) fn scope_is_well_formed(scope: &ScopeStorage) -> bool {

@@ -2,7 +2,8 @@
 //! storage is refused and can still be read.
 use crate::{
     errors::{merged, merged_part, passed, passed_part},
-    storage::{LogStorage, Opening, ScopeStorage, TrackerStorage},
+    merge_logs,
+    storage::{LogStorage, Opening, ScopeStorage, TrackerStorage, ENTRY},
     sys, uses, Extent, Layer, Mip, Refusal, Selector, State, Texture, TextureStates, TextureTracker, TrackerIndex,
     TransitionLog, UsageScope,
 };
@@ -124,8 +125,9 @@ fn every_number_is_decoded() {
         // A call without a part is not refused for one.
         let without = if (16..=19).contains(&number) { Refusal::Unlisted(number) } else { refusal };
         assert_eq!((passed(answer), merged(answer)), (Err(without), Err(without.into())));
-        // 10 is reserved.
-        assert_eq!(refusal == Refusal::Unlisted(number), number == 10 || number > 19, "{number}");
+        // 10 is reserved, and 20 to 30 are no refusals.
+        let listed = number != 10 && number <= 19 || number == 31;
+        assert_eq!(refusal == Refusal::Unlisted(number), !listed, "{number}");
     }
 }
 
@@ -139,6 +141,65 @@ fn the_part_is_handed_on() {
     };
     assert_eq!([16, 17].map(told), [Refusal::MipsEmpty(part.mips), Refusal::MipsReversed(part.mips)]);
     assert_eq!([18, 19].map(told), [Refusal::LayersEmpty(part.layers), Refusal::LayersReversed(part.layers)]);
+}
+
+/// A log with these numbers written, and as many entries more free.
+fn written(numbers: &[u32], free: usize) -> TransitionLog {
+    let mut storage = LogStorage::new(numbers.len() / ENTRY + free);
+    storage.entries[..numbers.len()].copy_from_slice(numbers);
+    (storage.written, storage.free) = (numbers.len() / ENTRY, free);
+    TransitionLog { storage }
+}
+
+/// A log with an entry for each index.
+fn log_of(indices: &[u32], free: usize) -> TransitionLog {
+    let entries = indices.iter().zip(1..).map(|(&index, at)| [index, 0, at, 0, at, 1, 2]);
+    written(&entries.flatten().collect::<Vec<_>>(), free)
+}
+
+/// The rest is memory of the log that it is of: it lies in what is written there, and ends with it.
+#[test]
+fn the_rest_is_not_copied() {
+    let addresses = |log: &TransitionLog| {
+        let start = log.storage.entries.as_ptr();
+        start..start.wrapping_add(ENTRY * log.storage.written)
+    };
+    for (first, second, left) in [
+        (&[0, 3, 5, 8][..], &[1, 4][..], [2, 0]),
+        (&[1, 4], &[0, 3, 5, 8], [0, 2]),
+        (&[2, 2], &[2, 2], [0, 2]),
+        (&[2, 2, 3], &[2, 2], [1, 0]),
+        (&[7], &[], [1, 0]),
+        (&[], &[7], [0, 1]),
+        (&[], &[], [0, 0]),
+    ] {
+        let logs = [log_of(first, 2), log_of(second, 3)];
+        let mut out = log_of(&[9, 1], 9);
+        let rest = merge_logs(&logs[0], &logs[1], &mut out).unwrap();
+        let of = usize::from(left[0] == 0);
+        let (whole, part) = (addresses(&logs[of]), rest.numbers().as_ptr_range());
+        assert!(whole.start <= part.start && part.end == whole.end, "{first:?} {second:?}");
+        assert_eq!(rest.len(), left[of], "{first:?} {second:?}");
+        assert_eq!(rest.numbers(), &logs[of].storage.told()[ENTRY * (logs[of].len() - left[of])..]);
+    }
+}
+
+#[test]
+fn a_refused_merge_of_logs_changes_no_number() {
+    let [up, down] = [log_of(&[1, 3], 0), log_of(&[2, 9, 8], 0)];
+    for (first, second, free, refusal) in [
+        (&up, &down, 4, Refusal::LogOutOfOrder),
+        (&down, &up, 0, Refusal::LogOutOfOrder),
+        (&up, &up, 2, Refusal::NoFreeEntry),
+    ] {
+        let mut out = log_of(&[9, 1], free);
+        let before = (out.storage.entries.clone(), 2, free);
+        assert_eq!(merge_logs(first, second, &mut out), Err(refusal));
+        assert_eq!((out.storage.entries, out.storage.written, out.storage.free), before);
+    }
+    let mut damaged = log_of(&[1], 4);
+    damaged.storage.free = usize::MAX;
+    assert_eq!(merge_logs(&down, &up, &mut damaged), Err(Refusal::LogTooShort), "before 31");
 }
 
 fn read(states: TextureStates<'_>) -> usize {
@@ -173,6 +234,7 @@ fn any_numbers() {
             tracker.start(index).into_iter().chain(tracker.end(index)).map(read).sum::<usize>();
         }
         assert!(log.iter().len() <= 1);
+        let _ = merge_logs(&log, &log, &mut log.clone());
         if round % 50 == 0 {
             let _ = format!("{log:?}{scope:?}{tracker:?}");
             let grids = scope.owned().filter_map(|index| scope.states(index)).map(|states| states.grid(uses::name));

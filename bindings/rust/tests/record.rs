@@ -13,8 +13,8 @@ use std::{
     thread,
 };
 use texture_tracker::{
-    record::{Recorder, TextureTracker, TransitionLog, UsageScope},
-    uses, Extent, Layer, MergeError, Mip, PendingTransition, Refusal, Selector, State, Texture, TrackerIndex,
+    record::{merge_logs, Recorder, TextureTracker, TransitionLog, UsageScope},
+    uses, Extent, Layer, MergeError, Mip, PendingTransition, Refusal, Rest, Selector, State, Texture, TrackerIndex,
 };
 
 /// A place to write to that can be read while it is written.
@@ -358,6 +358,33 @@ fn a_broken_line_is_reported() {
         said.ends_with(&format!("line {line}: no line of the language: merge_single 1 0 4 x 8 0 1 0 1\n")),
         "{said}"
     );
+}
+
+/// A merge of logs is written with the third log's head and the numbers of both logs; a refused one too.
+#[test]
+fn merged_logs() {
+    let page = Page::default();
+    let recorder = Recorder::new(page.clone());
+    let log = |indices: &[u32]| {
+        let mut log = recorder.log(texture_tracker::TransitionLog::with_capacity(2));
+        let mut tracker = recorder.open_tracker(3, bench::EXTENT, uses::FLAGS, State(0)).unwrap();
+        for &index in indices {
+            let texture = bench::texture(index, bench::EXTENT);
+            tracker.set_single(texture, bench::EXTENT.full_range(), uses::COPY_DST, &mut log).unwrap();
+            tracker.set_single(texture, bench::part(), uses::RESOURCE, &mut log).unwrap();
+        }
+        log
+    };
+    let (first, second, down) = (log(&[0, 2]), log(&[1]), log(&[2, 1]));
+    let mut out = recorder.log(texture_tracker::TransitionLog::with_capacity(3));
+    assert_eq!(merge_logs(&first, &second, &mut out).map(Rest::len), Ok(1));
+    assert_eq!(merge_logs(&down, &second, &mut out), Err(Refusal::LogOutOfOrder));
+    let text = page.text();
+    let lines: Vec<_> = text.lines().filter(|line| line.starts_with("merge_logs")).collect();
+    let entries = ["0 0 1 1 3 8 16", "1 0 1 1 3 8 16", "2 0 1 1 3 8 16"];
+    assert_eq!(lines[0], format!("merge_logs 0 3 21 14 7 {} {} {}", entries[0], entries[2], entries[1]));
+    assert_eq!(lines[1], format!("merge_logs 2 1 21 14 7 {} {} {}", entries[2], entries[1], entries[1]));
+    assert_eq!(lines.len(), 2);
 }
 
 /// Sets that are dropped give their numbers back; where none is left, a new case begins.

@@ -226,6 +226,25 @@ fn no_free_entry_15() {
     assert_eq!((refusal.number(), log.len(), log.free()), (15, 1, 0));
 }
 
+/// A log whose indices descend is not merged, as the first and as the second, also where its own rest descends.
+#[test]
+fn a_log_that_descends_31() {
+    let mut log = TransitionLog::with_capacity(3);
+    let mut tracker = TextureTracker::open(3, ONE, FLAGS, State(0)).unwrap();
+    for index in [0, 2, 1] {
+        for state in [4, 16] {
+            tracker.set_single(texture(index, ONE), ONE.full_range(), State(state), &mut log).unwrap();
+        }
+    }
+    let (none, mut out) = (TransitionLog::with_capacity(0), TransitionLog::with_capacity(6));
+    for (first, second) in [(&log, &none), (&none, &log), (&log, &log)] {
+        let refusal = merge_logs(first, second, &mut out).unwrap_err();
+        assert_eq!((refusal, refusal.number()), (Refusal::LogOutOfOrder, 31));
+        assert_eq!(refusal.to_string(), "a log descends or stops inside an entry (refusal 31)");
+        assert_eq!((out.len(), out.free()), (0, 6));
+    }
+}
+
 /// A log with room for the texture takes any one call, also in the worst case: every subresource by itself.
 #[test]
 fn a_log_with_room_is_never_short() {
