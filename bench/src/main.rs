@@ -5,17 +5,23 @@
 //!                                          a row of the tables by the states held
 //!     bench count CALL|SET HELD TEXTURES LAYERS [STATES] rust|port|test CALLS
 //!                                          only makes the calls, for an instruction counter
+//!     bench time merge_logs ENTRIES PATTERN ROUNDS
+//!                                          a row of the table of merged logs
+//!     bench count merge_logs ENTRIES PATTERN rust|port CALLS
+//!                                          only makes the merges
 //!
 //! A SET is scope or tracker, of which there is only the test. STATES tells how many different states are held that meet EXCLUSIVE:
-//! none, as where it is left out, one or several; calls that set have their own.
+//! none, as where it is left out, one or several; calls that set have their own. A PATTERN is alternate, random or runs.
 mod cases;
+mod logs;
 mod measure;
 #[rustfmt::skip]
 mod port;
 mod states;
 
 use cases::{merge_single, Case, Join, Kind, MergeScope, SetScope, SetSingle, Shape, Sparse};
-use measure::{measure, measure_test, Times};
+use logs::{MergeLogs, Pattern};
+use measure::{measure, measure_both, measure_test, Times};
 use states::States;
 
 const CALLS: [&str; 6] = [
@@ -137,6 +143,42 @@ fn shape(call: &str, words: &[String]) -> Shape {
     }
 }
 
+fn logs(words: &[String]) -> MergeLogs {
+    let [entries, pattern] = words else {
+        panic!("no ENTRIES PATTERN: {words:?}");
+    };
+    MergeLogs::new(Pattern::named(pattern), number(entries))
+}
+
+fn time_logs(words: &[String]) {
+    let [held @ .., rounds] = words else {
+        panic!("time merge_logs ENTRIES PATTERN ROUNDS");
+    };
+    let mut logs = logs(held);
+    let merged = logs.merged;
+    let [rust, port] = measure_both(&mut logs, number(rounds) as usize);
+    println!(
+        "| {} | {} | {merged} | {} | {} | {:.2} |",
+        held[0],
+        held[1],
+        nanoseconds(rust),
+        nanoseconds(port),
+        port / rust,
+    );
+}
+
+fn count_logs(words: &[String]) {
+    let [held @ .., part, calls] = words else {
+        panic!("count merge_logs ENTRIES PATTERN rust|port CALLS");
+    };
+    let mut logs = logs(held);
+    match part.as_str() {
+        "rust" => logs.rust(number(calls)),
+        "port" => logs.port(number(calls)),
+        _ => panic!("no such part: {part}"),
+    }
+}
+
 fn time(words: &[String]) {
     let [call, held, textures, layers, states, rounds] = words else {
         panic!("time CALL|SET HELD TEXTURES LAYERS STATES ROUNDS");
@@ -171,10 +213,13 @@ fn count(words: &[String]) {
 
 fn main() {
     let words: Vec<String> = std::env::args().skip(1).collect();
-    match words.first().map(String::as_str) {
-        Some("time") => time(&words[1..]),
-        Some("count") => count(&words[1..]),
-        Some(rounds) => table(rounds.parse().expect("a number of rounds")),
-        None => table(15),
+    let plain: Vec<&str> = words.iter().map(String::as_str).collect();
+    match plain[..] {
+        ["time", "merge_logs", ..] => time_logs(&words[2..]),
+        ["count", "merge_logs", ..] => count_logs(&words[2..]),
+        ["time", ..] => time(&words[1..]),
+        ["count", ..] => count(&words[1..]),
+        [rounds, ..] => table(rounds.parse().expect("a number of rounds")),
+        [] => table(15),
     }
 }

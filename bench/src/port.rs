@@ -29,6 +29,17 @@ pub struct LoggedAnswer {
     pub free: usize,
 }
 
+#[repr(C)]
+#[derive(Clone, Copy)]
+pub struct MergedAnswer {
+    pub answer: Answer,
+    pub written: usize,
+    pub free: usize,
+    pub rest_first: u32,
+    pub rest_offset: usize,
+    pub rest_length: usize,
+}
+
 type Table = [u32; TABLE];
 
 #[rustfmt::skip]
@@ -53,6 +64,8 @@ extern "C" {
     fn track_set_and_remove_from_usage_scope_sparse(table: *mut Table, starts: *mut u32, starts_len: usize, ends: *mut u32,
         ends_len: usize, given: *mut Table, lent: *const u32, lent_len: usize, indices: *const u32, indices_len: usize,
         log: *mut u32, log_len: usize, written: usize, free: usize) -> LoggedAnswer;
+    fn track_merge_logs(first: *const u32, first_len: usize, second: *const u32, second_len: usize, third: *mut u32, third_len: usize,
+        written: usize, free: usize) -> MergedAnswer;
     fn track_scope_is_well_formed(table: *const Table, ranges: *const u32, ranges_len: usize) -> u32;
     fn track_tracker_is_well_formed(table: *const Table, starts: *const u32, starts_len: usize, ends: *const u32, ends_len: usize)
         -> u32;
@@ -243,5 +256,15 @@ impl Tracker {
                 &*self.table, self.starts.as_ptr(), self.starts.len(), self.ends.as_ptr(), self.ends.len(),
             ) != 0
         }
+    }
+}
+
+/// Merges into a log that is empty.
+#[inline]
+pub fn merge_logs(first: &[u32], second: &[u32], third: &mut [u32]) -> MergedAnswer {
+    unsafe {
+        track_merge_logs(
+            first.as_ptr(), first.len(), second.as_ptr(), second.len(), third.as_mut_ptr(), third.len(), 0, third.len() / 7,
+        )
     }
 }

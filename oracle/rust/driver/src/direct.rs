@@ -2,11 +2,14 @@
 //! that call, made with what it is handed.
 use crate::{
     resource,
-    track::texture::{
-        peek::{self, uses},
-        TextureTracker, TextureUsageScope, TextureViewBindGroupState,
+    track::{
+        texture::{
+            peek::{self, uses},
+            TextureTracker, TextureUsageScope, TextureViewBindGroupState,
+        },
+        PendingTransition, PendingTransitionList,
     },
-    TextureSelector,
+    StateTransition, TextureSelector, TextureUses,
 };
 use std::sync::Arc;
 
@@ -137,5 +140,83 @@ impl Tracker {
     /// Forgets the pending transitions. `drain_transitions` would copy them to a new vector first.
     pub fn forget(&mut self) {
         peek::forget(&mut self.0);
+    }
+}
+
+/// Index, mip start, mip end, layer start, layer end, old state, new state.
+pub type Entry = [u32; 7];
+
+fn transition(entry: &Entry) -> PendingTransition<TextureUses> {
+    let &[id, a, b, c, d, from, to] = entry;
+    let [from, to] = [from, to].map(|state| uses(state as u16));
+    PendingTransition {
+        id,
+        selector: selector([a, b, c, d]),
+        usage: StateTransition { from, to },
+    }
+}
+
+/// It derives no `Clone`.
+fn copy(of: &PendingTransition<TextureUses>) -> PendingTransition<TextureUses> {
+    PendingTransition {
+        id: of.id,
+        selector: of.selector.clone(),
+        usage: of.usage.clone(),
+    }
+}
+
+/// Transitions in a vector, as a tracker keeps them.
+pub struct Log(PendingTransitionList);
+
+/// What a merge leaves of one of two logs.
+pub struct Rest<'a>(&'a [PendingTransition<TextureUses>]);
+
+impl Log {
+    pub fn of(entries: &[Entry]) -> Self {
+        Self(entries.iter().map(transition).collect())
+    }
+
+    pub fn with_capacity(entries: usize) -> Self {
+        Self(Vec::with_capacity(entries))
+    }
+
+    pub fn len(&self) -> usize {
+        self.0.len()
+    }
+
+    pub fn clear(&mut self) {
+        self.0.clear();
+    }
+
+    /// Whether it has these transitions.
+    pub fn has(&self, entries: &[Entry]) -> bool {
+        self.0 == Log::of(entries).0
+    }
+
+    /// wgpu-core has no such call. This is the plain one: two places, the lower index goes first and of equal ones the first log's,
+    /// until a log is used up. Nothing is checked.
+    pub fn merge<'a>(&mut self, first: &'a Log, second: &'a Log) -> Rest<'a> {
+        let (first, second) = (&first.0[..], &second.0[..]);
+        let (mut i, mut j) = (0, 0);
+        while i < first.len() && j < second.len() {
+            if second[j].id < first[i].id {
+                self.0.push(copy(&second[j]));
+                j += 1;
+            } else {
+                self.0.push(copy(&first[i]));
+                i += 1;
+            }
+        }
+        Rest(if i < first.len() {
+            &first[i..]
+        } else {
+            &second[j..]
+        })
+    }
+}
+
+impl Rest<'_> {
+    pub fn len(&self) -> usize {
+        self.0.len()
     }
 }
