@@ -5,7 +5,8 @@ use Rattle.model.specs.Prelude.{Option, none, some, List, [], _∷_, _++
 use Rattle.model.specs.declared.Refusal.the-variants.{NumbersOutOfLimits, FlagsBreakRule, ShortRoom, NotWellFormed, LogTooShort}
 use Rattle.model.specs.declared.Refusal.the-variants.{FlagsDiffer, NoSuchIndex, ExtentOutOfLimits, ExtentDiffers, MipsEmpty}
 use Rattle.model.specs.declared.Refusal.the-variants.{MipsReversed, LayersEmpty, LayersReversed, SelectorPastExtent, StateReserved}
-use Rattle.model.specs.declared.Refusal.the-variants.{StateIncompatible, RangesOutOfOrder, LogOutOfOrder, NoFreeEntry}
+use Rattle.model.specs.declared.Refusal.the-variants.{StateIncompatible, RangesOutOfOrder, LogOutOfOrder, FieldCutShort, UnknownTag}
+use Rattle.model.specs.declared.Refusal.the-variants.{UseOfWrongSize, GroupsTooDeep, PlanUnbalanced, GroupTooLong, NoFreeEntry}
 use Rattle.model.specs.declared.Verdict.the-variants.{Accepted, Refused}
 use Rattle.model.specs.declared.{Extent.Extent, Refusal.Refusal, Selector.Selector, UsageFlags.UsageFlags, Verdict.Verdict}
 use Rattle.model.specs.{Base.{if_then_else_, All}, Flags.{meets, incompatible, sameFlags}}
@@ -166,6 +167,12 @@ refusal-told StateReserved = refl
 refusal-told StateIncompatible = refl
 refusal-told RangesOutOfOrder = refl
 refusal-told LogOutOfOrder = refl
+refusal-told FieldCutShort = refl
+refusal-told UnknownTag = refl
+refusal-told UseOfWrongSize = refl
+refusal-told GroupsTooDeep = refl
+refusal-told PlanUnbalanced = refl
+refusal-told GroupTooLong = refl
 refusal-told NoFreeEntry = refl
 
 -- "10 is never given again": it is no refusal's number

@@ -3,7 +3,8 @@ use Rattle.model.specs.Prelude.{ℕ, Bool, true, false, _&&_, _||_, not,
 use Rattle.model.specs.declared.Refusal.the-variants.{NumbersOutOfLimits, FlagsBreakRule, ShortRoom, NotWellFormed, LogTooShort}
 use Rattle.model.specs.declared.Refusal.the-variants.{FlagsDiffer, NoSuchIndex, ExtentOutOfLimits, ExtentDiffers, MipsEmpty}
 use Rattle.model.specs.declared.Refusal.the-variants.{MipsReversed, LayersEmpty, LayersReversed, SelectorPastExtent, StateReserved}
-use Rattle.model.specs.declared.Refusal.the-variants.{StateIncompatible, RangesOutOfOrder, LogOutOfOrder, NoFreeEntry}
+use Rattle.model.specs.declared.Refusal.the-variants.{StateIncompatible, RangesOutOfOrder, LogOutOfOrder, FieldCutShort, UnknownTag}
+use Rattle.model.specs.declared.Refusal.the-variants.{UseOfWrongSize, GroupsTooDeep, PlanUnbalanced, GroupTooLong, NoFreeEntry}
 use Rattle.model.specs.declared.Verdict.the-variants.{Accepted, Refused}
 use Rattle.model.specs.declared.{UsageFlags.UsageFlags, Extent.Extent, Selector.Selector, TrackerIndex.TrackerIndex, Refusal.Refusal}
 use Rattle.model.specs.{declared.Verdict.Verdict, Base.{if_then_else_, each, eachAt}}
@@ -15,7 +16,8 @@ abbrev pub trackerIndex : ℕ → TrackerIndex
 trackerIndex i = record { 0 = i }
 
 -- ---- 01's number and place of a refusal
--- the table's column "No."; 10 is no refusal's: "16, 17, 18, 19 in that order, at 10's place; 10 is never given again"; 31 is request 14's
+-- the table's column "No."; 10 is no refusal's: "16, 17, 18, 19 in that order, at 10's place; 10 is never given again"; 31 is request 14's,
+-- 20 to 25 are request 08's
 abbrev pub numberOf : Refusal → ℕ
 numberOf NumbersOutOfLimits = 1
 numberOf FlagsBreakRule = 2
@@ -35,6 +37,12 @@ numberOf StateReserved = 12
 numberOf StateIncompatible = 13
 numberOf RangesOutOfOrder = 14
 numberOf LogOutOfOrder = 31
+numberOf FieldCutShort = 20
+numberOf UnknownTag = 21
+numberOf UseOfWrongSize = 22
+numberOf GroupsTooDeep = 23
+numberOf PlanUnbalanced = 24
+numberOf GroupTooLong = 25
 numberOf NoFreeEntry = 15
 
 -- "the index for 7 to 9, otherwise 0"
@@ -57,6 +65,12 @@ placeOf StateReserved = 0
 placeOf StateIncompatible = 0
 placeOf RangesOutOfOrder = 0
 placeOf LogOutOfOrder = 0
+placeOf FieldCutShort = 0
+placeOf UnknownTag = 0
+placeOf UseOfWrongSize = 0
+placeOf GroupsTooDeep = 0
+placeOf PlanUnbalanced = 0
+placeOf GroupTooLong = 0
 placeOf NoFreeEntry = 0
 
 -- ---- The refusal that a number and a place tell
@@ -66,7 +80,8 @@ rows i =
     NumbersOutOfLimits ∷ FlagsBreakRule ∷ ShortRoom ∷ NotWellFormed ∷ LogTooShort ∷ FlagsDiffer
     ∷ NoSuchIndex (trackerIndex i) ∷ ExtentOutOfLimits (trackerIndex i) ∷ ExtentDiffers (trackerIndex i)
     ∷ MipsEmpty ∷ MipsReversed ∷ LayersEmpty ∷ LayersReversed ∷ SelectorPastExtent ∷ StateReserved ∷ StateIncompatible
-    ∷ RangesOutOfOrder ∷ LogOutOfOrder ∷ NoFreeEntry ∷ []
+    ∷ RangesOutOfOrder ∷ LogOutOfOrder ∷ FieldCutShort ∷ UnknownTag ∷ UseOfWrongSize ∷ GroupsTooDeep ∷ PlanUnbalanced ∷ GroupTooLong
+    ∷ NoFreeEntry ∷ []
 
 -- the first of some rows with number n; NotWellFormed stands in where none has it
 abbrev pub numbered : ℕ → List Refusal → Refusal

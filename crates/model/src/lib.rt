@@ -92,8 +92,8 @@ pub struct Conflict {
     pub found: InvalidUse,
 }
 
-// Why a call is turned away, one case for each number of 01's table, in its order. 10 is reserved: 16 to 19 stand in its place. 31, before
-// 15, is request 14's.
+// Why a call is turned away, one case for each number of 01's table, in its order. 10 is reserved: 16 to 19 stand in its place. Before
+// 15, which is last in every call, stand 31, request 14's, and 20 to 25, request 08's.
 pub enum Refusal {
     NumbersOutOfLimits,
     FlagsBreakRule,
@@ -113,6 +113,12 @@ pub enum Refusal {
     StateIncompatible,
     RangesOutOfOrder,
     LogOutOfOrder,
+    FieldCutShort,
+    UnknownTag,
+    UseOfWrongSize,
+    GroupsTooDeep,
+    PlanUnbalanced,
+    GroupTooLong,
     NoFreeEntry,
 }
 
@@ -158,6 +164,12 @@ pub fn number(r: Refusal) -> u32
         Refusal::StateIncompatible => 13,
         Refusal::RangesOutOfOrder => 14,
         Refusal::LogOutOfOrder => 31,
+        Refusal::FieldCutShort => 20,
+        Refusal::UnknownTag => 21,
+        Refusal::UseOfWrongSize => 22,
+        Refusal::GroupsTooDeep => 23,
+        Refusal::PlanUnbalanced => 24,
+        Refusal::GroupTooLong => 25,
         Refusal::NoFreeEntry => 15,
     }
 }
@@ -185,6 +197,12 @@ pub fn place(r: Refusal) -> u32
         Refusal::StateIncompatible => 0,
         Refusal::RangesOutOfOrder => 0,
         Refusal::LogOutOfOrder => 0,
+        Refusal::FieldCutShort => 0,
+        Refusal::UnknownTag => 0,
+        Refusal::UseOfWrongSize => 0,
+        Refusal::GroupsTooDeep => 0,
+        Refusal::PlanUnbalanced => 0,
+        Refusal::GroupTooLong => 0,
         Refusal::NoFreeEntry => 0,
     }
 }
