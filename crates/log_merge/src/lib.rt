@@ -12,8 +12,8 @@
 // caller. Whether there is room (15) is known before anything is written, by the closed form of how many entries are merged; so a refusal
 // leaves everything as it was.
 pub mod calls;
-pub mod order;
-pub mod weave;
+mod order;
+mod weave;
 
 pub use calls::hand_over;
 pub use calls::merge_at;
