@@ -19,11 +19,14 @@
  * A first use is taken as what the texture already is, and nothing is logged. In a device's tracker set each new texture to
  * TRACK_USE_UNINITIALIZED first, all of it; otherwise the driver is not told of its first uses.
  *
+ * A plan of uses is read from a file and written to one (tt_read_plan, tt_write_plan); what tt_plan_uses lists of it can be merged, use by
+ * use.
+ *
  * This header only forms the calls of track.h, which has the answers, the refusals and the layout of the memory; the library decides. Three
  * refusals are this header's own (enum tt_refusal). The calls on ranges by themselves are in track.h alone.
  *
- * What the calls require of their caller: memory is as long as it is said to be and serves one set or log only, and nobody else writes it
- * while a call runs. Calls on different sets and logs may run at the same time.
+ * What the calls require of their caller: memory is as long as it is said to be and serves one set, log or plan only, and nobody else
+ * writes it while a call runs. Calls on different memory may run at the same time.
  */
 #ifndef TEXTURE_TRACKER_H
 #define TEXTURE_TRACKER_H
@@ -102,6 +105,16 @@ typedef struct tt_range { tt_layers layers; uint32_t state; } tt_range;
 /* An entry of a log. */
 typedef struct tt_transition { uint32_t index; tt_selector part; uint32_t old_state, new_state; } tt_transition;
 
+/* A use of a part of a texture: what tt_merge_single takes, as a plan has it. */
+typedef struct tt_use { tt_texture texture; tt_selector part; uint32_t state; } tt_use;
+
+/* An item of a plan, by its kind: TRACK_ITEM_OPENED, TRACK_ITEM_USE or TRACK_ITEM_CLOSED. bytes is the use as a file has it; tt_pack_use
+ * and tt_unpack_use know how. */
+typedef struct tt_plan_item { uint8_t kind, bytes[TRACK_ITEM_LENGTH - 1]; } tt_plan_item;
+
+/* A plan: so many items, in memory that it borrows. One that is zero is the empty plan. */
+typedef struct TT_BY_NAME tt_plan { const tt_plan_item *items; size_t count; } tt_plan;
+
 /* A scope, a tracker and a log: handles of borrowed memory. A copy of a handle stands for the same set or log, the head of the log
  * included. A handle that is zero, or whose opening was refused, is refused by every call. */
 typedef struct tt_scope { uint32_t *memory; size_t length; } tt_scope;
@@ -171,7 +184,18 @@ static inline tt_indices tt_indices_of(const uint32_t *indices, size_t count)
 #else
 #define TT_IS_POINTER(array) 0
 #endif
-#define TT_INDICES(array) tt_indices_of((array), sizeof(array) / sizeof *(array) / sizeof(char[TT_IS_POINTER(array) ? -1 : 1]))
+#define TT_COUNT(array) (sizeof(array) / sizeof *(array) / sizeof(char[TT_IS_POINTER(array) ? -1 : 1]))
+#define TT_INDICES(array) tt_indices_of((array), TT_COUNT(array))
+
+/* A plan of so many items; of an array, TT_PLAN(array). */
+static inline tt_plan tt_plan_of(const tt_plan_item *items, size_t count)
+{
+    tt_plan plan;
+    plan.items = items;
+    plan.count = count;
+    return plan;
+}
+#define TT_PLAN(array) tt_plan_of((array), TT_COUNT(array))
 
 TT_CALL int tt_done(track_answer answer)
 {
@@ -188,6 +212,11 @@ TT_CALL int tt_done(track_answer answer)
     uint32_t name[TRACK_TABLE_LENGTH + 2 * TRACK_RANGES_LENGTH(textures, mips, layers)]
 #define TT_LOG_MEMORY(name, entries) \
     uint32_t name[TT_LOG_HEAD + TRACK_LOG_LENGTH(entries)]
+/* The same for what a plan is read from and written to: room for the items of any file of so many bytes, and for the file and the uses of
+ * any so many items. Each has one more, since an array has at least one element. */
+#define TT_ITEMS_MEMORY(name, bytes) tt_plan_item name[1 + TRACK_ITEMS_LENGTH(bytes) / TRACK_ITEM_LENGTH]
+#define TT_FILE_MEMORY(name, items) uint8_t name[1 + TRACK_FILE_LENGTH(items)]
+#define TT_USES_MEMORY(name, items) tt_use name[1 + (size_t)(items)]
 
 /* A log's memory begins with its head: entries written, entries free. */
 #define TT_LOG_HEAD 2
@@ -215,6 +244,22 @@ static inline size_t tt_tracker_bytes(tt_size size)
 static inline size_t tt_log_bytes(uint32_t entries)
 {
     return sizeof(uint32_t) * (TT_LOG_HEAD + TRACK_LOG_LENGTH(entries));
+}
+
+/* How many bytes the items of a file of so many bytes need at most, and the file and the uses of so many items. */
+static inline size_t tt_items_bytes(size_t file_bytes)
+{
+    return TRACK_ITEMS_LENGTH(file_bytes);
+}
+
+static inline size_t tt_file_bytes(size_t items)
+{
+    return TRACK_FILE_LENGTH(items);
+}
+
+static inline size_t tt_uses_bytes(size_t items)
+{
+    return sizeof(uint32_t) * TRACK_PLAN_USES_LENGTH(items);
 }
 
 /* ---- Where a handle's parts lie: for this header only ------------------------------------------------------------------------ */
@@ -475,6 +520,117 @@ static inline tt_transition tt_rest_entry(tt_rest rest, size_t k)
     return entry;
 }
 
+/* ---- Plans: the bytes are judged, not the uses in them, which merging does --------------------------------------------------- */
+
+/* A pointer may be NULL where its length is 0. */
+
+/* An item with a kind alone: for this header only. */
+static inline tt_plan_item tt_item_of(unsigned kind)
+{
+    tt_plan_item item;
+    size_t k;
+    item.kind = (uint8_t)kind;
+    for (k = 0; k < sizeof item.bytes; k++) item.bytes[k] = 0;
+    return item;
+}
+
+/* The items that a group begins and ends with. */
+static inline tt_plan_item tt_group_opened(void)
+{
+    return tt_item_of(TRACK_ITEM_OPENED);
+}
+
+static inline tt_plan_item tt_group_closed(void)
+{
+    return tt_item_of(TRACK_ITEM_CLOSED);
+}
+
+/* Numbers in so many bytes, low byte first: for this header only. */
+static inline void tt_put_bytes(uint8_t *bytes, size_t count, uint32_t number)
+{
+    size_t k;
+    for (k = 0; k < count; k++) bytes[k] = (uint8_t)(number >> 8 * k);
+}
+
+static inline uint32_t tt_bytes_at(const uint8_t *bytes, size_t count)
+{
+    uint32_t number = 0;
+    size_t k;
+    for (k = 0; k < count; k++) number |= (uint32_t)bytes[k] << 8 * k;
+    return number;
+}
+
+/* Makes an item of a use. A file has one byte for mips and two for layers and the state: where a number has no room there, this returns 0
+ * and the item stays. */
+TT_CALL int tt_pack_use(tt_use use, tt_plan_item *item)
+{
+    const tt_selector part = use.part;
+    if (use.texture.mips > UINT8_MAX || part.mips.start > UINT8_MAX || part.mips.end > UINT8_MAX) return 0;
+    if (use.texture.layers > UINT16_MAX || part.layers.start > UINT16_MAX || part.layers.end > UINT16_MAX) return 0;
+    if (use.state > UINT16_MAX) return 0;
+    item->kind = TRACK_ITEM_USE;
+    tt_put_bytes(item->bytes, 4, use.texture.index);
+    tt_put_bytes(item->bytes + 4, 1, use.texture.mips);
+    tt_put_bytes(item->bytes + 5, 2, use.texture.layers);
+    tt_put_bytes(item->bytes + 7, 1, part.mips.start);
+    tt_put_bytes(item->bytes + 8, 1, part.mips.end);
+    tt_put_bytes(item->bytes + 9, 2, part.layers.start);
+    tt_put_bytes(item->bytes + 11, 2, part.layers.end);
+    tt_put_bytes(item->bytes + 13, 2, use.state);
+    return 1;
+}
+
+/* The use of an item; all zeros if the item is none. */
+static inline tt_use tt_unpack_use(tt_plan_item item)
+{
+    tt_use use;
+    if (item.kind != TRACK_ITEM_USE) item = tt_item_of(0);
+    use.texture.index = tt_bytes_at(item.bytes, 4);
+    use.texture.mips = tt_bytes_at(item.bytes + 4, 1);
+    use.texture.layers = tt_bytes_at(item.bytes + 5, 2);
+    use.part.mips.start = tt_bytes_at(item.bytes + 7, 1);
+    use.part.mips.end = tt_bytes_at(item.bytes + 8, 1);
+    use.part.layers.start = tt_bytes_at(item.bytes + 9, 2);
+    use.part.layers.end = tt_bytes_at(item.bytes + 11, 2);
+    use.state = tt_bytes_at(item.bytes + 13, 2);
+    return use;
+}
+
+/* Reads a file into so many bytes of items, which the plan then borrows; on a refusal it is the empty plan. tt_items_bytes(file_bytes) of
+ * them are always enough. Refuses 20 to 23, 15. */
+TT_CALL track_answer tt_read_plan(tt_plan *plan, const uint8_t *file, size_t file_bytes, tt_plan_item *items, size_t items_bytes)
+{
+    uint8_t none = 0; /* the library takes no NULL */
+    const track_counted_answer got = track_read_plan(file_bytes == 0 ? &none : file, file_bytes,
+                                                     items_bytes == 0 ? &none : (uint8_t *)items, items_bytes);
+    *plan = tt_plan_of(items, got.count);
+    return got.answer;
+}
+
+/* Writes a plan to so many bytes of a file; written becomes how many it took, 0 on a refusal. tt_file_bytes(plan.count) of them are always
+ * enough. Refuses 24, 23, 25, 15. */
+TT_CALL track_answer tt_write_plan(tt_plan plan, uint8_t *file, size_t file_bytes, size_t *written)
+{
+    uint8_t none = 0;
+    const track_counted_answer got = track_write_plan(plan.count == 0 ? &none : (const uint8_t *)plan.items,
+                                                      TRACK_ITEM_LENGTH * plan.count, file_bytes == 0 ? &none : file, file_bytes);
+    *written = got.count;
+    return got.answer;
+}
+
+/* Lists the uses of a plan, in its order, in so many bytes of uses; listed becomes how many there are, 0 on a refusal.
+ * tt_uses_bytes(plan.count) of them are always enough. Refuses 15. */
+TT_CALL track_answer tt_plan_uses(tt_plan plan, tt_use *uses, size_t uses_bytes, size_t *listed)
+{
+    const uint8_t none = 0;
+    uint32_t no_number = 0;
+    const track_counted_answer got = track_plan_uses(plan.count == 0 ? &none : (const uint8_t *)plan.items,
+                                                     TRACK_ITEM_LENGTH * plan.count,
+                                                     uses_bytes == 0 ? &no_number : (uint32_t *)uses, uses_bytes / sizeof(uint32_t));
+    *listed = got.count;
+    return got.answer;
+}
+
 /* ---- Reading a set: any numbers may stand in its memory ---------------------------------------------------------------------- */
 
 /* The test that every call makes first, of each set: 1 if it is well formed, otherwise 0. */
@@ -608,7 +764,13 @@ static inline const char *tt_refusal_words(uint32_t number)
     case TRACK_STATE_INCOMPATIBLE: return "the state has an exclusive use beside another use";
     case TRACK_RANGES_OUT_OF_ORDER: return "the ranges are empty, out of order or overlap";
     case TRACK_LOG_OUT_OF_ORDER: return "a log descends or stops inside an entry";
-    case TRACK_NO_FREE_ENTRY: return "the call needs more log entries than are free";
+    case TRACK_FIELD_CUT_SHORT: return "in a plan file, a field is cut short or goes past its group or the file";
+    case TRACK_UNKNOWN_TAG: return "in a plan file, a field has an unknown tag: 1 is a group, 2 is a use";
+    case TRACK_USE_OF_WRONG_SIZE: return "in a plan file, a use does not have 15 bytes";
+    case TRACK_GROUPS_TOO_DEEP: return "in a plan, groups stand more than eight deep";
+    case TRACK_PLAN_UNBALANCED: return "in a plan, a group that is not open is closed, one is left open, or an item has an unknown kind";
+    case TRACK_GROUP_TOO_LONG: return "in a plan, a group holds more than 65,535 bytes";
+    case TRACK_NO_FREE_ENTRY: return "the call needs more log entries, or room for a plan, than are free";
     case TT_STATE_PAST_16_BITS: return "the state has more than 16 bits";
     case TT_SAME_SET_TWICE: return "the set is passed in as the other one as well";
     case TT_SAME_LOG_TWICE: return "the log is passed in to be written and to be read";

@@ -4,11 +4,12 @@
  *
  * A scope gathers how the textures of one pass are used and finds conflicts; a tracker knows the state of each texture as commands leave
  * it and logs the transitions that a driver must be told of. Both are plain numbers in memory that each call borrows from its caller.
+ * Beside them, a plan of uses is read from a file's bytes and written to them.
  *
  * Every call returns an answer for every input, whatever numbers the borrowed memory holds, and a refusal changes nothing. This is
  * proved. What a call requires of its caller, since it cannot check it:
- *   - no pointer is NULL, even where its length is 0, and each is good for as many uint32_t as the length beside it says; a table is
- *     TRACK_TABLE_LENGTH of them. The call that opens a set reads none of its numbers: the memory need not be cleared first;
+ *   - no pointer is NULL, even where its length is 0, and each is good for as many of its elements as the length beside it says; a table
+ *     is TRACK_TABLE_LENGTH of them. The call that opens a set reads none of its numbers: the memory need not be cleared first;
  *   - what a call writes (no const) overlaps nothing else that the same call borrows;
  *   - nobody else writes what a call borrows while it runs. Calls on different memory may run at the same time.
  */
@@ -67,6 +68,26 @@ extern "C" {
 #define TRACK_LOG_ENTRY_LENGTH 7
 #define TRACK_LOG_LENGTH(entries) ((size_t)TRACK_LOG_ENTRY_LENGTH * (entries))
 
+/* A plan, in bytes: uses, some of them in groups. Numbers of more than one byte have the low byte first.
+ * As a file it is a run of fields, and the empty file is the empty plan. A field is a tag of one byte, a length of two, and so many bytes:
+ * a group, which holds fields, or a use, whose 15 bytes are index (4), mips (1), layers (2), mip start (1), mip end (1), layer start (2),
+ * layer end (2) and state (2). A use may stand outside groups, and groups at most TRACK_MAX_GROUPS deep.
+ * As a list it is items of 16 bytes: a kind, and the 15 bytes of the use; those of an opened or closed group are written as 0 and not read.
+ * A rest of fewer than 16 bytes is no item: it is neither read nor written.
+ * Its uses as numbers are eight each, in the order of the 15 bytes. */
+#define TRACK_TAG_GROUP 1
+#define TRACK_TAG_USE 2
+#define TRACK_MAX_GROUPS 8           /* a group that stands alone is one deep */
+#define TRACK_ITEM_OPENED 1          /* the kinds of an item: from here on a group, up to the closed item that belongs to it */
+#define TRACK_ITEM_USE 2
+#define TRACK_ITEM_CLOSED 3
+#define TRACK_ITEM_LENGTH 16
+#define TRACK_PLAN_USE_LENGTH 8
+/* Room that is always enough: for the items of a file of so many bytes, and for the file and the uses of so many items. */
+#define TRACK_ITEMS_LENGTH(bytes) ((size_t)TRACK_ITEM_LENGTH * 2 * ((bytes) / 3))
+#define TRACK_FILE_LENGTH(items) ((size_t)18 * (items))
+#define TRACK_PLAN_USES_LENGTH(items) ((size_t)TRACK_PLAN_USE_LENGTH * (items))
+
 /* What stays. A refusal changes nothing, and what is borrowed as const stays. A call that is done or in conflict writes only the
  * words and the ranges of the textures that it names: the one index that it is given, those that the given set owns, or those that are
  * listed and owned. Every other number stays: ranges past N * M * W and numbers after the last whole range; the words of indices from N
@@ -75,8 +96,9 @@ extern "C" {
  * Inside a named texture only what is unused is free, and a call may leave anything there: which nonzero number marks it as owned; the
  * counts and ranges of a half that has one state for all of it; counts and ranges of mips that it does not have; ranges past a count.
  * The table that the sparse call takes textures from (given) becomes the same with the words of ownership of the listed indices 0.
- * In a log every number stays but those of the entries that the call writes. Opening writes the first eight words of the table and, of
- * each index below N, whether it is owned, its mips, its layers and its states. */
+ * In a log every number stays but those of the entries that the call writes, and of a plan what lies past the items, bytes or uses that the
+ * answer counts. Opening writes the first eight words of the table and, of each index below N, whether it is owned, its mips, its layers
+ * and its states. */
 
 /* ---- Answers ----------------------------------------------------------------------------------------------------------------- */
 
@@ -88,8 +110,9 @@ enum track_kind {
 };
 
 /* track_answer.number, where kind is TRACK_REFUSED. Checks are made from the first of this list to the last: it is in the order of the
- * checks, not of the numbers. Calls over a set check 7 to 9 texture by texture, ascending; the sparse call in the order of its list. place
- * is the index of the texture for 7, 8 and 9, otherwise 0. */
+ * checks, not of the numbers. Calls over a set check 7 to 9 texture by texture, ascending; the sparse call in the order of its list.
+ * Reading a plan checks 20 to 23 field by field; writing one checks each of 24, 23 and 25 over the whole list. place is the index of the
+ * texture for 7, 8 and 9, otherwise 0. */
 enum track_refusal {
     TRACK_NUMBERS_OUT_OF_LIMITS = 1, /* opening: N, M or W is outside its limits */
     TRACK_FLAGS_BREAK_RULE = 2,      /* opening: EXCLUSIVE has more than 16 bits, or UNINITIALIZED, COMPLEX, UNKNOWN are not one bit of 16
@@ -111,7 +134,13 @@ enum track_refusal {
     TRACK_STATE_INCOMPATIBLE = 13,   /* the state has a bit of EXCLUSIVE and is not one bit */
     TRACK_RANGES_OUT_OF_ORDER = 14,  /* calls on ranges: more than there is room for, or one is empty, out of order or overlaps */
     TRACK_LOG_OUT_OF_ORDER = 31,     /* a log that is merged descends, or stops inside an entry */
-    TRACK_NO_FREE_ENTRY = 15         /* the result needs more entries than are free */
+    TRACK_FIELD_CUT_SHORT = 20,      /* reading: a tag and length are cut short, or a length goes past its group or the file */
+    TRACK_UNKNOWN_TAG = 21,          /* reading: a tag is neither of a group nor of a use */
+    TRACK_USE_OF_WRONG_SIZE = 22,    /* reading: a use has other than 15 bytes */
+    TRACK_PLAN_UNBALANCED = 24,      /* writing: an item has another kind, a group is closed that is not open, or one stays open */
+    TRACK_GROUPS_TOO_DEEP = 23,      /* reading and writing: groups stand more than TRACK_MAX_GROUPS deep */
+    TRACK_GROUP_TOO_LONG = 25,       /* writing: a group holds more than 65,535 bytes, its own tag and length not counted */
+    TRACK_NO_FREE_ENTRY = 15         /* the result needs more entries, or of a plan more room, than are free */
 };
 
 /* What a call returns. Fields that do not belong to its kind are 0. */
@@ -157,6 +186,12 @@ typedef struct track_ranges_answer {
     size_t count;    /* track_isolate: how many ranges the run has; track_iter_filter: how many were listed */
     size_t told;     /* track_isolate, track_coalesce: how many ranges are in use now */
 } track_ranges_answer;
+
+/* What a call on plans returns: the answer, and how many items, bytes or uses it wrote; 0 on a refusal. */
+typedef struct track_counted_answer {
+    track_answer answer;
+    size_t count;
+} track_counted_answer;
 
 /* ---- Opening a set ----------------------------------------------------------------------------------------------------------- */
 
@@ -256,6 +291,18 @@ track_ranges_answer track_coalesce(uint32_t *ranges, size_t ranges_length, size_
  * holds. */
 track_ranges_answer track_iter_filter(const uint32_t *ranges, size_t ranges_length, size_t told, uint32_t start, uint32_t end,
                                       uint32_t *out, size_t out_length);
+
+/* ---- Plans: the bytes are judged, not the uses in them, which merging does ---------------------------------------------------- */
+
+/* Reads a file into items: a group as an opened item, what it holds, and a closed one. Refuses 20 to 23, at the first field that is wrong,
+ * and 15 once all of the file is accepted. */
+track_counted_answer track_read_plan(const uint8_t *file, size_t file_length, uint8_t *items, size_t items_length);
+
+/* Writes items as a file: of what was read, the same bytes. Refuses 24, 23, 25, 15. */
+track_counted_answer track_write_plan(const uint8_t *items, size_t items_length, uint8_t *file, size_t file_length);
+
+/* Lists the uses among items, in their order, eight numbers each. Items of any other kind are passed over. Refuses 15. */
+track_counted_answer track_plan_uses(const uint8_t *items, size_t items_length, uint32_t *uses, size_t uses_length);
 
 #ifdef __cplusplus
 }

@@ -12,6 +12,9 @@ static TT_TRACKER_MEMORY(join_memory, 2, 4, 8);
 static TT_LOG_MEMORY(log_memory, 64);
 static TT_LOG_MEMORY(second_memory, 1);
 static TT_LOG_MEMORY(third_memory, 64);
+static TT_ITEMS_MEMORY(items_memory, 24);
+static TT_FILE_MEMORY(file_memory, 3);
+static TT_USES_MEMORY(uses_memory, 3);
 
 static int opened(tt_scope scopes[2], tt_tracker trackers[2], tt_log *transitions)
 {
@@ -52,6 +55,25 @@ static int merged(tt_log transitions)
         && rest.count == tt_log_written(transitions) && tt_rest_entry(rest, rest.count).new_state == 0;
 }
 
+/* A use in a group, written, read, and listed. */
+static int planned(tt_texture texture)
+{
+    tt_plan_item items[3];
+    tt_plan plan;
+    tt_use use;
+    size_t written, listed;
+    use.texture = texture;
+    use.part = tt_all(texture);
+    use.state = TRACK_USE_RESOURCE;
+    items[0] = tt_group_opened();
+    items[2] = tt_group_closed();
+    return tt_pack_use(use, &items[1])
+        && tt_done(tt_write_plan(TT_PLAN(items), file_memory, tt_file_bytes(3), &written)) && written == 21
+        && tt_done(tt_read_plan(&plan, file_memory, written, items_memory, tt_items_bytes(written))) && plan.count == 3
+        && tt_done(tt_plan_uses(tt_plan_of(plan.items, plan.count), uses_memory, tt_uses_bytes(3), &listed)) && listed == 1
+        && uses_memory[0].part.layers.end == texture.layers && tt_unpack_use(plan.items[1]).state == TRACK_USE_RESOURCE;
+}
+
 static uint32_t read_back(tt_scope scope, tt_tracker tracker, tt_log transitions, tt_place place)
 {
     char text[TT_STATE_NAME_SIZE];
@@ -77,5 +99,6 @@ int main(void)
     if (!opened(scopes, trackers, &transitions)) return 1;
     if (!called(scopes[0], scopes[1], trackers[0], trackers[1], transitions, texture)) return 2;
     if (!merged(transitions)) return 3;
+    if (!planned(texture)) return 4;
     return read_back(scopes[0], trackers[0], transitions, place) == 0;
 }

@@ -17,6 +17,13 @@ struct tracker { uint32_t table[TRACK_TABLE_LENGTH], starts[RANGES], ends[RANGES
 static struct scope scope, given;
 static struct tracker tracker, join;
 static uint32_t entries[LOG], first[7 * N], second[7 * N], listed[N], run[3 * W], filtered[3 * W];
+/* A plan as deep as one may be: eight groups, a use in each, from the outermost to the innermost. */
+enum { GROUPS = 8, FIELDS = 3 + 18, PLAN = GROUPS * FIELDS, ITEMS = 3 * GROUPS };
+static uint8_t plan[PLAN], items[16 * ITEMS], again[PLAN];
+static uint32_t uses[8 * GROUPS];
+/* Uses whose file is so long that a group of it could be too long: it is measured before it is written. */
+enum { LONG = 1 + 65538 / 18 };
+static uint8_t long_items[16 * LONG], long_file[18 * LONG];
 /* The use of a texture that the next call is given. */
 static struct { uint32_t index, mip, mip_end, layer, layer_end; uint16_t state; } use;
 
@@ -66,6 +73,10 @@ static void merge_logs(void) { track_merge_logs(first, 7 * N, second, 7 * N, ent
 static void isolate(void) { track_isolate(run, 3 * W, 3, 3, 11, 8192); }
 static void coalesce(void) { track_coalesce(run, 3 * W, 3); }
 static void iter_filter(void) { track_iter_filter(run, 3 * W, 3, 3, 11, filtered, 3 * W); }
+static void read_plan(void) { track_read_plan(plan, PLAN, items, sizeof items); }
+static void write_plan(void) { track_write_plan(items, sizeof items, again, sizeof again); }
+static void write_long_plan(void) { track_write_plan(long_items, sizeof long_items, long_file, sizeof long_file); }
+static void plan_uses(void) { track_plan_uses(items, sizeof items, uses, sizeof uses / sizeof *uses); }
 
 struct call { const char *name; void (*make)(void); size_t deepest; };
 static struct call calls[] = {
@@ -73,9 +84,12 @@ static struct call calls[] = {
     {"tracker_is_well_formed", test_tracker, 0}, {"merge_single", merge_single, 0}, {"merge_usage_scope", merge_usage_scope, 0},
     {"set_single", set_single, 0}, {"set_from_usage_scope", set_from_usage_scope, 0}, {"set_from_tracker", set_from_tracker, 0},
     {"set_and_remove_from_usage_scope_sparse", sparse, 0}, {"empty_log", empty_log, 0}, {"merge_logs", merge_logs, 0},
-    {"isolate", isolate, 0}, {"coalesce", coalesce, 0}, {"iter_filter", iter_filter, 0}
+    {"isolate", isolate, 0}, {"coalesce", coalesce, 0}, {"iter_filter", iter_filter, 0},
+    {"read_plan", read_plan, 0}, {"write_plan", write_plan, 0}, {"write_plan of a long file", write_long_plan, 0},
+    {"plan_uses", plan_uses, 0}
 };
-enum { KINDS = sizeof calls / sizeof *calls };
+/* The last four, on plans, are the same each time: they are made once, and the others in turns that chance decides. */
+enum { KINDS = sizeof calls / sizeof *calls, TURNS = KINDS - 4 };
 
 /* ---- What they are given ---- */
 static void prepare(void)
@@ -96,6 +110,22 @@ static void prepare(void)
     if (below(8) == 0) given = scope;
     if (below(8) == 0) join = tracker;
     memcpy(run, three, sizeof three);
+}
+
+/* The plan is the same in every call. Read and written again it is the same bytes: so the readers have been to the innermost group. */
+static bool plan_made(void)
+{
+    for (size_t k = 0; k < GROUPS; k++) {
+        plan[FIELDS * k] = TRACK_TAG_GROUP;
+        plan[FIELDS * k + 1] = (uint8_t)(PLAN - FIELDS * k - 3);
+        plan[FIELDS * k + 3] = TRACK_TAG_USE;
+        plan[FIELDS * k + 4] = 15;
+    }
+    for (size_t k = 0; k < LONG; k++) long_items[16 * k] = TRACK_ITEM_USE;
+    read_plan();
+    write_plan();
+    write_long_plan();
+    return memcmp(plan, again, PLAN) == 0 && long_file[18 * (LONG - 1)] == TRACK_TAG_USE;
 }
 
 /* ---- Measuring ---- */
@@ -125,25 +155,28 @@ int main(void)
     struct call idle = {"nothing", nothing, 0};
     struct call *deepest = calls;
     bool shallow = true;
+    if (!plan_made()) return 1;
     /* Once without measuring: the first call of memset is also the dynamic linker's, which looks for it on the same stack. */
-    for (int k = 0; k < KINDS; k++) {
+    for (int k = 0; k < TURNS; k++) {
         prepare();
         calls[k].make();
     }
     depth_of(&idle);
     const size_t thread = depth_of(&idle); /* what the thread itself takes */
     for (int lap = 0; lap < CALLS; lap++) {
-        struct call *call = &calls[lap < KINDS ? (uint32_t)lap : 2 + below(KINDS - 2)];
+        struct call *call = &calls[lap < TURNS ? (uint32_t)lap : 2 + below(TURNS - 2)];
         prepare();
         const size_t depth = depth_of(call) - thread;
         if (depth > call->deepest) call->deepest = depth;
     }
+    for (int k = TURNS; k < KINDS; k++) calls[k].deepest = depth_of(&calls[k]) - thread;
     for (int k = 0; k < KINDS; k++) {
         if (calls[k].deepest > deepest->deepest) deepest = &calls[k];
         if (calls[k].deepest > 0 && calls[k].deepest <= LIMIT) continue; /* a call that used nothing was not made */
         fprintf(stderr, "tests/c/stack.c: %s goes %zu bytes deep, where 1 to %d are expected\n", calls[k].name, calls[k].deepest, LIMIT);
         shallow = false;
     }
-    printf("C stack: %d calls, the deepest is %s with %zu bytes\n", CALLS, deepest->name, deepest->deepest);
+    printf("C stack: %d calls, the deepest is %s with %zu bytes; reading a plan eight groups deep takes %zu\n", CALLS, deepest->name,
+           deepest->deepest, calls[TURNS].deepest);
     return shallow ? 0 : 1;
 }

@@ -1,5 +1,5 @@
 /* texture_tracker.h beside track.h: random calls are made through both, on memory of their own, and every answer and every number of the
- * memory is compared; then the readers, the words, and what the typed header refuses by itself. */
+ * memory is compared; then plans, the readers, the words, and what the typed header refuses by itself. */
 #include "texture_tracker.h"
 
 #include <stdbool.h>
@@ -331,6 +331,98 @@ static void own_refusals_of_logs(void)
     EXPECT(not_merged(recorded[0], recorded[1], transitions, TRACK_LOG_TOO_SHORT)); /* the library's */
 }
 
+/* ---- Plans ---- */
+
+enum { PLANNED = 40, PLAN_BYTES = 18 * PLANNED };
+_Static_assert(sizeof(tt_plan_item) == 16 && sizeof(tt_use) == 32, "as the library has them");
+
+/* A use that fits a file's widths, and one with a number that is one too wide, if `wide` says which. */
+static tt_use some_use(uint32_t wide)
+{
+    tt_use use = { .texture = { .index = below(UINT32_MAX), .mips = below(256), .layers = below(65536) } };
+    use.part.mips.start = wide == 2 ? 256 : below(256);
+    use.part.mips.end = wide == 3 ? UINT32_MAX : 255 - below(2);
+    use.part.layers.start = wide == 4 ? 65536 : below(65536);
+    use.part.layers.end = wide == 5 ? 65536 : 65535 - below(2);
+    use.state = wide == 6 ? 65536 : below(65536);
+    if (wide == 0) use.texture.mips = 256;
+    if (wide == 1) use.texture.layers = 65536;
+    return use;
+}
+
+/* A number that a file has no room for is not packed, and the item stays. */
+static void packing(void)
+{
+    for (unsigned k = 0; k < 1000; k++) {
+        const tt_use use = some_use(9);
+        const tt_plan_item group = tt_group_closed();
+        tt_plan_item item = tt_group_opened(), held = item;
+        EXPECT(item.kind == 1 && group.kind == 3 && item.bytes[0] == 0 && group.bytes[14] == 0);
+        for (uint32_t wide = 0; wide < 7; wide++) EXPECT(!tt_pack_use(some_use(wide), &item) && memcmp(&item, &held, 16) == 0);
+        EXPECT(tt_pack_use(use, &item) && item.kind == 2);
+        held = item;
+        const tt_use back = tt_unpack_use(item);
+        EXPECT(memcmp(&back, &use, sizeof use) == 0);
+        item.kind = (uint8_t)(2 * below(2) + 1);
+        EXPECT(tt_unpack_use(item).texture.index == 0 && tt_unpack_use(item).state == 0);
+    }
+}
+
+/* Random items, groups mostly balanced, as through track.h: written, read back, and listed. */
+static void plans(void)
+{
+    static tt_plan_item items[PLANNED], items_back[PLANNED], items_plain[PLANNED];
+    static uint8_t file[PLAN_BYTES], file_plain[PLAN_BYTES];
+    static tt_use uses[PLANNED];
+    static uint32_t numbers[8 * PLANNED];
+    unsigned refused_plans = 0;
+    for (unsigned k = 0; k < 5000; k++) {
+        const size_t count = below(PLANNED), room = below(4) == 0 ? below(PLAN_BYTES) : PLAN_BYTES;
+        size_t open = 0, written, listed;
+        tt_plan plan;
+        for (size_t at = 0; at < count; at++) {
+            const uint32_t turn = at + open < count ? below(4) : 3;
+            items[at] = turn == 0 && at + open + 2 <= count ? tt_group_opened() : tt_group_closed();
+            open += items[at].kind == 1;
+            if (items[at].kind == 3 && (turn < 3 || open == 0)) EXPECT(tt_pack_use(some_use(9), &items[at]));
+            open -= items[at].kind == 3;
+        }
+        const track_counted_answer want = track_write_plan(&items[0].kind, 16 * count, file_plain, room);
+        const track_answer got = tt_write_plan(tt_plan_of(items, count), file, room, &written);
+        EXPECT(memcmp(&got, &want.answer, sizeof got) == 0 && written == want.count && memcmp(file, file_plain, PLAN_BYTES) == 0);
+        refused_plans += !tt_done(got);
+        const size_t items_room = 16 * below(PLANNED) + below(16);
+        const track_counted_answer read = track_read_plan(file_plain, written, &items_plain[0].kind, items_room);
+        const track_answer again = tt_read_plan(&plan, file, written, items_back, items_room);
+        EXPECT(memcmp(&again, &read.answer, sizeof again) == 0 && plan.count == read.count && plan.items == items_back);
+        EXPECT(memcmp(items_back, items_plain, sizeof items_back) == 0);
+        EXPECT(!tt_done(again) || written == 0 || memcmp(items_back, items, 16 * count) == 0);
+        const track_counted_answer as_numbers = track_plan_uses(&items[0].kind, 16 * count, numbers, items_room / 4);
+        const track_answer as_uses = tt_plan_uses(tt_plan_of(items, count), uses, items_room / 4 * 4 + below(4), &listed);
+        EXPECT(memcmp(&as_uses, &as_numbers.answer, sizeof as_uses) == 0 && listed == as_numbers.count);
+        EXPECT(memcmp(uses, numbers, 32 * listed) == 0);
+    }
+    EXPECT(refused_plans > 50 && refused_plans < 4000);
+}
+
+/* NULL where a length is 0, in all three calls; and what room is enough. */
+static void empty_plans(void)
+{
+    static const uint8_t use[] = { 2, 15, 0, 1, 2, 3, 4, 5, 6, 7, 8, 9, 10, 11, 12, 13, 14, 15 };
+    size_t count = 9;
+    tt_plan plan;
+    tt_plan_item item;
+    EXPECT(tt_done(tt_read_plan(&plan, NULL, 0, NULL, 0)) && plan.count == 0);
+    EXPECT(tt_done(tt_write_plan(plan, NULL, 0, &count)) && count == 0);
+    EXPECT(tt_done(tt_plan_uses(tt_plan_of(NULL, 0), NULL, 0, &count)) && count == 0);
+    EXPECT(refused(tt_read_plan(&plan, use, sizeof use, NULL, 0), TRACK_NO_FREE_ENTRY) && plan.count == 0);
+    EXPECT(tt_done(tt_read_plan(&plan, use, sizeof use, &item, sizeof item)) && plan.count == 1);
+    EXPECT(refused(tt_write_plan(plan, NULL, 0, &count), TRACK_NO_FREE_ENTRY) && count == 0);
+    EXPECT(refused(tt_plan_uses(plan, NULL, 0, &count), TRACK_NO_FREE_ENTRY) && count == 0);
+    EXPECT(refused(tt_read_plan(&plan, use, sizeof use - 1, &item, sizeof item), TRACK_FIELD_CUT_SHORT) && plan.count == 0);
+    EXPECT(tt_items_bytes(18) == 16 * 12 && tt_file_bytes(3) == 54 && tt_uses_bytes(2) == 64 && tt_items_bytes(2) == 0);
+}
+
 /* Past the largest number there is none: what tt_mip and tt_layer make of it is empty. */
 static void largest(void)
 {
@@ -384,11 +476,12 @@ static void words(void)
     EXPECT(TRACK_USE_ORDERED == (TRACK_USE_COPY_SRC | TRACK_USE_RESOURCE | TRACK_USE_COLOR_TARGET | TRACK_USE_DEPTH_STENCIL_READ
                                  | TRACK_USE_DEPTH_STENCIL_WRITE | TRACK_USE_STORAGE_READ_ONLY));
     for (uint32_t number = 1; number <= TT_SAME_LOG_TWICE; number++) {
-        const bool listed = (number <= 19 && number != 10) || number == 31; /* 10 is reserved */
+        const bool listed = (number <= 25 && number != 10) || number == 31; /* 10 is reserved */
         const bool known = listed || number >= TT_STATE_PAST_16_BITS;
         EXPECT((strcmp(tt_refusal_words(number), tt_refusal_words(0)) != 0) == known);
     }
     EXPECT(strcmp(tt_refusal_words(TRACK_LOG_OUT_OF_ORDER), "a log descends or stops inside an entry") == 0);
+    EXPECT(strcmp(tt_refusal_words(TRACK_GROUPS_TOO_DEEP), "in a plan, groups stand more than eight deep") == 0);
     EXPECT(strcmp(tt_refusal_words(TRACK_MIPS_EMPTY), "the mips are empty: they end where they start") == 0);
     EXPECT(strcmp(tt_refusal_words(TRACK_MIPS_REVERSED), "the mips are reversed: they end before they start") == 0);
     EXPECT(strcmp(tt_refusal_words(TRACK_LAYERS_EMPTY), "the layers are empty: they end where they start") == 0);
@@ -412,6 +505,9 @@ int main(void)
     read_nothing();
     own_refusals();
     own_refusals_of_logs();
+    packing();
+    plans();
+    empty_plans();
     largest();
     openings();
     words();

@@ -3,3 +3,4 @@ pub mod AnswerLaws
 pub mod LogAnswers
 pub mod RangesAnswers
 pub mod RangesAnswerLaws
+pub mod PlanAnswers

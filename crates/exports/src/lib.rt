@@ -1,26 +1,28 @@
 // Exports: every public call for C. `tools/library` builds it as target/lib/libtexture_tracker.a.
 //
-// Place in the picture: the C boundary over `track`, `range_calls` and `log_merge`. Each function makes the values that a call takes of
-// plain numbers, makes the call, and tells its answer in a struct of numbers, since a function for C returns no enum. include/track.h is
-// the header, and tests/c calls every function from C.
+// Place in the picture: the C boundary over `track`, `range_calls`, `log_merge` and `plan_file`. Each function makes the values that a call
+// takes of plain numbers, makes the call, and tells its answer in a struct of numbers, since a function for C returns no enum.
+// include/track.h is the header, and tests/c calls every function from C.
 //
 //     sets       opening a scope or a tracker, and the test whether it is well formed
 //     scopes     the two merges
 //     trackers   the four calls of a tracker
 //     logs       emptying the log, and merging two logs into a third
+//     plans      reading and writing plan files, and the uses of a plan
 //     ranged     `isolate`, `coalesce` and `iter_filter` on ranges by themselves
 //     answers    from outcomes to numbers
 //
 // What holds: nothing is required of any argument. The outcome that an answer tells (specs/SetAnswers, `outcomeOf`) meets the very contract
 // of the call beneath, and the answer has that outcome's numbers and no others (`answerOf`); no two outcomes have the same numbers
-// (specs/AnswerLaws). The answers of the calls on ranges (RangesAnswers, RangesAnswerLaws) and of a merge of logs
-// (LogAnswers) are told alike.
+// (specs/AnswerLaws). The answers of the calls on ranges (RangesAnswers, RangesAnswerLaws), of a merge of logs
+// (LogAnswers) and of the calls on plan files (PlanAnswers) are told alike.
 //
 // What C must see to is what the types say here: each pointer is good for the length beside it (a table's is 2,376), and what a call writes
 // overlaps nothing else that it is lent. A slice is passed as a pointer and a length, two arguments of their own, also where one is the
 // last in a register and the other the first on the stack. C declares it so; so must Rust, which would pass a `&[u32]` there otherwise.
 pub mod answers;
 pub mod logs;
+pub mod plans;
 pub mod ranged;
 pub mod scopes;
 pub mod sets;
@@ -70,4 +72,11 @@ pub struct MergedAnswer {
     pub rest_first: u32,
     pub rest_offset: usize,
     pub rest_length: usize,
+}
+
+// What a call on plan files answers, and how many items, bytes or uses it wrote: 0 where it is refused.
+#[repr(C)]
+pub struct CountedAnswer {
+    pub answer: Answer,
+    pub count: usize,
 }
