@@ -28,6 +28,11 @@ RANGED, RANGES = "layer_interval(start, end)", "ranges(length, lent, records)"
 HEAD, FIRST, SECOND = "log(written, free, lent)", "order(first)", "order(second)"
 FREE, LOGS = "if len(merged) > free", "refusals.merging(written, free, lent, first, second)"
 LEFT, MERGED = "return merged, first, second", "sum(merge(entries(first), entries(second))[0], [])"
+CUT = "    if len(rest) < HEADER or number(rest[1:HEADER]) > len(rest) - HEADER:\n"
+BALANCED = "    if not balanced(events, depth):\n        raise TurnedAway(24)\n"
+DEEP = "    if max(depth, default=0) > DEEPEST:\n        raise TurnedAway(23)\n"
+READ, LISTED = "    events = events_of(file)\n", "    events = events_in(items)\n"
+NO_ROOM = "    if {} and not room:\n        raise TurnedAway(15)\n"
 REST = 'rest("first", first, of_first) if of_first else rest("second", second, of_second)'
 
 # Of the Rust: each must show as a difference from 01's rules.
@@ -125,10 +130,41 @@ TABLE = [
     Broken("refusals.py", "a log out of order is told as ranges are", "Refusal(31, 0) if", "Refusal(14, 0) if"),
 ]
 
+# Of planmodel.py, as of the table; and `plans` holds the library against a copy with one rule broken.
+PLANS = [Broken("planmodel.py", *each) for each in (
+    ("a length is read high byte first", "in enumerate(some)", "in enumerate(reversed(some))"),
+    ("a length is written high byte first", 'to_bytes(2, "little")', 'to_bytes(2, "big")'),
+    ("a length past its group or the file is a shorter one", " or number(rest[1:HEADER]) > len(rest) - HEADER", ""),
+    ("21 before 20", CUT, f"    if rest[0] not in (GROUP, USE):\n        raise TurnedAway(21)\n{CUT}"),
+    ("22 before 20", CUT,
+     f"    if rest[0] == USE and number(rest[1:HEADER]) != USE_BYTES:\n        raise TurnedAway(22)\n{CUT}"),
+    ("23 before 20", CUT, f"    if rest[0] == GROUP and depth == DEEPEST:\n        raise TurnedAway(23)\n{CUT}"),
+    ("tag 3 is a group too", "tag not in (GROUP, USE)", "tag not in (GROUP, USE, 3)"),
+    ("a use may be longer", "length != USE_BYTES", "length < USE_BYTES"),
+    ("nine levels are read", "depth == DEEPEST", "depth == DEEPEST + 1"),
+    ("seven levels are read", "depth == DEEPEST", "depth == DEEPEST - 1"),
+    ("nine levels are written", "default=0) > DEEPEST", "default=0) > DEEPEST + 1"),
+    ("in reading 15 is first", READ, NO_ROOM.format("file") + READ),
+    ("in writing 15 is first", LISTED, NO_ROOM.format("items") + LISTED),
+    ("the last item needs room past its end", "ITEM_BYTES * len(events) > room", "ITEM_BYTES * len(events) >= room"),
+    ("the last byte has no room", "len(file) > room", "len(file) >= room"),
+    ("the last use needs no room", "len(WIDTHS) * len(listed) > room", "len(WIDTHS) * (len(listed) - 1) > room"),
+    ("23 before 24", BALANCED + DEEP, DEEP + BALANCED),
+    ("a group may stay open", " and depth[-1:] in ([], [0])", ""),
+    ("its own header counts for 25", "len(content) > LONGEST", "len(content) + HEADER > LONGEST"),
+    ("a group of 65,535 bytes is too long", "len(content) > LONGEST", "len(content) >= LONGEST"),
+    ("a rest of a list is an item", "len(items) - ITEM_BYTES + 1", "len(items)"),
+    ("items that are no uses have other bytes", "use or bytes(USE_BYTES)", "use or bytes([255] * USE_BYTES)"),
+    ("a use has two bytes of mips", "WIDTHS = (4, 1, 2,", "WIDTHS = (4, 2, 1,"),
+    ("what is closed is a use", "events_in(items) if kind == USED", "events_in(items) if kind in (USED, CLOSED)"),
+)]
+
 # What a program could write wrongly: here `old` is any text that answers have.
 PROGRAM = [Broken("program", f"{old.strip()} is told as {new.strip() or 'nothing'}", old, new) for old, new in (
     ("refused 4 0 kept", "done"), ("refused 7 3 kept", "refused 7 0 kept"), (" kept", " changed"),
     ("refused 15 0", "refused 5 0"), ("conflict 0", "conflict 1"), ("transition 0 0 1", "transition 0 0 2"),
     ("many 1 0 ", "many 1 1 "), ("log 2 ", "log 3 "), ("emptied 0 8", "emptied 0 7"), ("single", "singel"),
     ("isolated 1 3 5", "isolated 1 3 4"), ("3005", "3004"), ("done\n", ""), ("merged 2 ", "merged 1 "),
-    ("rest first", "rest second"), ("refused 31 0 kept", "refused 31 0 changed"))]
+    ("rest first", "rest second"), ("refused 31 0 kept", "refused 31 0 changed"), ("\nread 2 ", "\nread 1 "),
+    ("written 3 ", "written 2 "), ("listed 1 ", "listed 2 "), ("refused 20 0 kept", "refused 20 0 changed"),
+    ("refused 25 0", "refused 15 0"))]

@@ -84,7 +84,8 @@ def refusals_met(fixed, random, wanted):
 
 def wanted_numbers(names, calls, safe):
     """What a run must meet. Only with the bench flags every number can arise, and has its fixed cases."""
-    table = [number for number in refusals.NUMBERS if "bench" in names and not (safe and number in refusals.STORAGE)]
+    table = [number for number in refusals.NUMBERS if "bench" in names
+             and not (safe and number in refusals.STORAGE + refusals.PLANS)]
     return table, refusals.INTERVALS if calls >= ENOUGH else ()
 
 

@@ -1,6 +1,7 @@
 """What a case must answer: the Rust's answers where 01 does not refuse, 01's refusals where it does."""
 from typing import NamedTuple, Optional
 
+import planmodel
 import rust
 from flags import read_flags
 from judge import difference
@@ -9,7 +10,7 @@ from refusals import Refusal
 
 FLAGS = read_flags()
 # Calls that wgpu-core does not have.
-OWN = ("empty_log", "merge_logs")
+OWN = ("empty_log", "merge_logs", *planmodel.CALLS)
 
 
 class Step(NamedTuple):

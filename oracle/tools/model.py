@@ -1,11 +1,12 @@
 """A reader of calls that answers by document 01 alone: its refusals, its grid rules, its rules for ranged states.
 
-merge_logs is answered by document 02: logmodel.py.
+merge_logs and the calls on plan files are answered by document 02: logmodel.py, planmodel.py.
 """
 from typing import NamedTuple
 
 import grid
 import logmodel
+import planmodel
 import rangemodel
 import refusals
 from flags import UsageFlags
@@ -87,6 +88,8 @@ class Model:
         if word == "merge_logs":
             told, rest = logmodel.answer(numbers)
             return Verdict(told, rest=rest + "\n")
+        if word in planmodel.CALLS:
+            return Verdict(planmodel.answer(word, numbers))
         if word in ("open_scope", "open_tracker"):
             return self.open(word == "open_tracker", *numbers)
         return self.call(word, numbers, head, full_log)

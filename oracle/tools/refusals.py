@@ -1,6 +1,7 @@
 """Document 01's table "Turned away", as far as it speaks of numbers and owned textures.
 
 In the place of its number 10, which is never given, stand 16 to 19 of document 02's request 02; 31 is of request 14.
+Numbers 20 to 25 are of request 08: planmodel.py.
 Every check answers None or a Refusal, its number and place. Numbers 4 and 5 are about storage: storage.py.
 """
 from typing import NamedTuple
@@ -11,9 +12,9 @@ class Refusal(NamedTuple):
     place: int
 
 
-# In the table's order; then those of the intervals, and those that need storage of the caller's.
-NUMBERS = [*range(1, 10), 16, 17, 18, 19, *range(11, 15), 31, 15]
-INTERVALS, STORAGE = (16, 17, 18, 19), (3, 4, 5, 14, 31)
+# In the table's order; then those of the intervals, those that need storage of the caller's, and those of plan files.
+NUMBERS = [*range(1, 10), 16, 17, 18, 19, *range(11, 15), 31, *range(20, 26), 15]
+INTERVALS, STORAGE, PLANS = (16, 17, 18, 19), (3, 4, 5, 14, 31), (20, 21, 22, 23, 24, 25)
 LIMIT_TEXTURES, LIMIT_MIPS, LIMIT_LAYERS = 64, 16, 256
 RANGE_NUMBERS, ENTRY_NUMBERS = 3, 7
 

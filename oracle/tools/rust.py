@@ -10,7 +10,8 @@ WHERE = subprocess.run([str(ORACLE / "build"), "--where"], check=True, text=True
 BUILT = pathlib.Path(WHERE.stdout.strip())
 
 # The words that an answer can begin with; other lines go on with the answer before them.
-ANSWER = re.compile(r"^(?=done|conflict|refused|isolated|coalesced|filtered|emptied|merged|panicked|broken|case)", re.M)
+ANSWER = re.compile(r"^(?=done|conflict|refused|isolated|coalesced|filtered|emptied|merged|read|written|listed|panicked"
+                    r"|broken|case)", re.M)
 
 
 def driver(name):

@@ -1,9 +1,11 @@
 """Cases for a program that keeps the storage itself, as the Rust crate of bindings/ does: `compare --safe`.
 
 Nobody can damage such storage, lend less of it, or make up a log's head or its entries. What a case has of that is left
-out, and states that are put in are made by calls, as far as calls make them. What is left is a case like any other.
+out, and states that are put in are made by calls, as far as calls make them. Calls on ranges, logs and plan files alone
+are left out too. What is left is a case like any other.
 """
 from model import SILENT, read_half
+from planmodel import CALLS as PLAN_CALLS
 from rangemodel import CALLS as RANGE_CALLS
 
 # Of the states that are put in, at most so many ranges of a half are made.
@@ -25,7 +27,7 @@ def case(lines):
             made += calls(*flags[rest[0]], rest)
         elif word in ("log", "empty_log"):
             made += [line] if fits(*map(int, rest)) else []
-        elif word not in (*SILENT, *RANGE_CALLS, "merge_logs"):
+        elif word not in (*SILENT, *RANGE_CALLS, *PLAN_CALLS, "merge_logs"):
             made.append(line)
     return made
 

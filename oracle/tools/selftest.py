@@ -10,6 +10,8 @@ import answer
 import broken
 import logcases
 import logmodel
+import plancases
+import planmodel
 import rust
 from flags import ORACLE
 
@@ -78,7 +80,7 @@ def attempts(copy, other):
     """Each broken rule, and what compare says. `other`: a second copy, by which a program reads."""
     for rule in broken.RULES:
         yield rule, with_edit(copy / "tools" / rule.file, rule, lambda: compare(copy))
-    for rule in broken.TABLE:
+    for rule in broken.TABLE + broken.PLANS:
         program = str(other / "tools" / "answer.py")
         yield rule, with_edit(other / "tools" / rule.file, rule, lambda: compare(copy, "--program", program))
     for rule in broken.PROGRAM:
@@ -117,12 +119,36 @@ def merge_holds():
     return True
 
 
+def same_again(first, then, given):
+    """What is accepted, read and written or written and read. `None` where it is refused."""
+    made = planmodel.call(first, given, plancases.PLENTY)
+    return None if made.refused else planmodel.call(then, made.made, plancases.PLENTY).made
+
+
+def plans_hold():
+    """Request 08, of all short ones and of each form: "An accepted file read and written is the same bytes, an accepted
+    list written and read the same list"; of items that are no uses the kinds alone are compared."""
+    for file in [*plancases.short_files(6), *plancases.plans()]:
+        if same_again("read_plan", "write_plan", file) not in (None, file):
+            return False
+    for kinds in [*plancases.short_kinds(5), *plancases.deep_lists()]:
+        items = plancases.items(kinds)
+        cleared = b"".join(items[at:at + 16] if kind == planmodel.USED else plancases.item(kind)
+                           for at, kind in zip(range(0, len(items), 16), kinds))
+        if same_again("write_plan", "read_plan", items) not in (None, cleared):
+            return False
+    return True
+
+
 def main():
     if not example_holds():
         print("README.md's example is not what the calls answer")
         return 1
     if not merge_holds():
         print("a merge of two logs is not what request 14 says of it")
+        return 1
+    if not plans_hold():
+        print("a plan read and written, or written and read, is not the same again")
         return 1
     with tempfile.TemporaryDirectory() as folder:
         copy = copy_oracle(pathlib.Path(folder))

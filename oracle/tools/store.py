@@ -5,8 +5,8 @@
     store.py --check    tells whether they are what would be written now
 
 For each usage flags some calls that pass, chosen for variety; 01's table for the bench flags in refusals.txt; the calls
-on ranged states in ranges.txt; unused words and ownership words in words.txt; merges of logs in logs.txt. The drivers
-must be built.
+on ranged states in ranges.txt; unused words and ownership words in words.txt; merges of logs in logs.txt; plan files in
+plans.txt, but for number 25, whose lines are long. The drivers must be built.
 """
 import itertools
 import re
@@ -17,6 +17,7 @@ import examples
 import expect
 import generate
 import logcases
+import plancases
 import rangecases
 import samples
 import words
@@ -29,6 +30,7 @@ CALLS = 340
 RANDOM_RANGES = 40
 RANDOM_WORDS = 24
 RANDOM_LOGS = 80
+RANDOM_PLANS = 40
 # A case at the limits is long; those that are stored answer no more than this many bytes, and need no more room.
 LONGEST = 9000
 MOST_ROOM = 12288
@@ -95,6 +97,8 @@ def files():
         generate.case("words", "bench", bench, SEED, at) for at in range(RANDOM_WORDS)])
     fixed = [["case", *logcases.always()], ["case", *logcases.refused()]]
     yield "logs", numbered(fixed + [logcases.case(SEED, at, 1) for at in range(RANDOM_LOGS)])
+    fixed = [["case", *lines] for lines in plancases.stored()]
+    yield "plans", numbered(fixed + [plancases.case(SEED, at, 1) for at in range(RANDOM_PLANS)])
 
 
 def texts():

@@ -1,4 +1,5 @@
-// Replays calls with the answers that the Rust gave: every public call, on up to four sets, and the calls on ranged states and logs.
+// Replays calls with the answers that the Rust gave: every public call, on up to four sets, and the calls on ranged states, logs
+// and plan files.
 //
 // Place in the picture: over all, a user of the public calls. The file `stdin` has the stored calls and `stdout` the answers, written by
 // the oracle, which runs the Rust itself; `rt check` runs this program and compares. `oracle/compare` hands it fresh calls. Lines, answers
@@ -12,6 +13,7 @@ use replay_lines::numbers::at;
 use replay_lines::numbers::smaller;
 use replay_lines::out;
 use replay_lines::out::Out;
+use replay_lines::plans;
 use replay_lines::ranged;
 use replay_lines::scan;
 use replay_lines::scan::Scan;
@@ -44,7 +46,7 @@ fn main() {
 // Room for what is read at once, and for the words and numbers of the longest line.
 type Piece = [u8; 65536];
 
-type Words = [u32; 32768];
+type Words = [u32; 65536];
 
 // What is known of the line after a piece, and how many pieces may follow.
 struct Read {
@@ -64,7 +66,7 @@ fn replay(
     let mut out = out::empty();
     let mut book = sets::nothing();
     let mut piece = [0u8; 65536];
-    let mut words = [0u32; 32768];
+    let mut words = [0u32; 65536];
     let mut table = [0u32; TABLE_LENGTH];
     let mut given = [0u32; TABLE_LENGTH];
     let mut line = scan::start();
@@ -245,7 +247,7 @@ fn answer(
     );
 }
 
-// A line that answers nothing, a call on ranged states, a merge of logs, or a call on sets.
+// A line that answers nothing, a call on ranged states, a merge of logs, a call on plan files, or a call on sets.
 fn answer_line(
     line: &[u32],
     out: &mut Out,
@@ -272,6 +274,9 @@ fn answer_line(
         scan::COALESCE => ranged::coalesce_line(line, starts, out),
         scan::ITER_FILTER => ranged::filter_line(line, starts, ends, out),
         scan::MERGE_LOGS => logs::merge_line(line, log, out),
+        scan::READ_PLAN => plans::line(line, log, out),
+        scan::WRITE_PLAN => plans::line(line, log, out),
+        scan::PLAN_USES => plans::line(line, log, out),
         _ => call::line(
             line,
             out,

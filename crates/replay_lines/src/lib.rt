@@ -11,9 +11,11 @@
 //     out       the bytes that are to be written
 //     ranged    the calls on ranged states
 //     logs      what a lent log is before a call, and the merge of two logs
+//     plans     the calls on plan files
 pub mod logs;
 pub mod numbers;
 pub mod out;
+pub mod plans;
 pub mod ranged;
 pub mod scan;
 pub mod sets;

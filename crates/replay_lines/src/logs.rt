@@ -26,7 +26,7 @@ pub fn fill(log: &mut [u32]) {
     }
 }
 
-fn untouched(log: &[u32]) -> bool {
+pub fn untouched(log: &[u32]) -> bool {
     let mut i = 0;
     while i < log.len() {
         if log[i] != before(i) {

@@ -10,7 +10,7 @@ pub fn empty() -> Out {
     [0; 65538]
 }
 
-fn wide(b: u8) -> usize
+pub fn wide(b: u8) -> usize
     ensures { λ r. ⌜ r ≤ 255 ⌝ }
 {
     b as usize

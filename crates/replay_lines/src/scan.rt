@@ -37,6 +37,12 @@ pub const EMPTY_LOG: u32 = 25865;
 
 pub const MERGE_LOGS: u32 = 27914;
 
+pub const READ_PLAN: u32 = 29193;
+
+pub const WRITE_PLAN: u32 = 30474;
+
+pub const PLAN_USES: u32 = 28681;
+
 pub const SINGLE: u32 = 29446;
 
 pub const TABLE: u32 = 29701;
