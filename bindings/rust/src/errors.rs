@@ -12,14 +12,16 @@ use core::{error::Error, fmt};
 /// A call that was refused. Everything that it borrowed is as it was before.
 ///
 /// There is one case for each number of the table of refusals (`docs/RULES.md` of the repository), in the order of the
-/// checks; [`number`](Self::number) returns it. Which calls return which:
+/// checks, those of plans by their number; [`number`](Self::number) returns it. Which calls return which:
 ///
 /// | numbers | returned by |
 /// |---|---|
 /// | 1, 2 | opening a scope or a tracker |
 /// | 6 to 9 | calls that are handed a whole set, or a list of its textures |
-/// | 7 to 13, with 16 to 19 in the place of 10 | `merge_single`, `set_single` |
+/// | 7 to 13, with 16 to 19 in the place of 10 | `merge_single`, `merge_use`, `set_single` |
 /// | 31 | [`merge_logs`](crate::merge_logs) |
+/// | 20 to 23 | [`Plan::read`](crate::Plan::read) |
+/// | 24, then 23 and 25 | [`Plan::write`](crate::Plan::write) |
 /// | 15 | calls that write to a log |
 /// | 3, 4, 5 | none: this crate provides enough memory, and nobody else writes it |
 /// | 10 | none: it is reserved; earlier versions returned it for 16 to 19 |
@@ -86,7 +88,20 @@ pub enum Refusal {
     RangesOutOfOrder,
     /// 31: a log descends or stops inside an entry.
     LogOutOfOrder,
-    /// 15: the call needs more log entries than are free.
+    /// 20: in a plan file, the tag and length of a field are cut short, or its length goes past its group or the file.
+    FieldCutShort,
+    /// 21: in a plan file, a field has an unknown tag.
+    UnknownTag,
+    /// 22: in a plan file, a use does not have 15 bytes.
+    UseOfWrongSize,
+    /// 23: in a plan, groups stand more than eight deep.
+    GroupsTooDeep,
+    /// 24: in a plan, a group that is not open is closed, or one is left open. An item of an unknown kind, which has this
+    /// number too, is in no [`Plan`](crate::Plan).
+    PlanUnbalanced,
+    /// 25: in a plan, a group holds more than 65,535 bytes.
+    GroupTooLong,
+    /// 15: the call needs more log entries, or room for a plan, than are free. A [`Plan`](crate::Plan) has enough.
     NoFreeEntry,
     /// A number that this crate does not know: the library is of another version.
     Unlisted(u32),
@@ -110,6 +125,12 @@ impl Refusal {
             13 => Self::StateIncompatible,
             14 => Self::RangesOutOfOrder,
             15 => Self::NoFreeEntry,
+            20 => Self::FieldCutShort,
+            21 => Self::UnknownTag,
+            22 => Self::UseOfWrongSize,
+            23 => Self::GroupsTooDeep,
+            24 => Self::PlanUnbalanced,
+            25 => Self::GroupTooLong,
             31 => Self::LogOutOfOrder,
             other => Self::Unlisted(other),
         }
@@ -148,6 +169,12 @@ impl Refusal {
             Self::StateIncompatible => 13,
             Self::RangesOutOfOrder => 14,
             Self::LogOutOfOrder => 31,
+            Self::FieldCutShort => 20,
+            Self::UnknownTag => 21,
+            Self::UseOfWrongSize => 22,
+            Self::GroupsTooDeep => 23,
+            Self::PlanUnbalanced => 24,
+            Self::GroupTooLong => 25,
             Self::NoFreeEntry => 15,
             Self::Unlisted(number) => number,
         }
@@ -183,7 +210,15 @@ impl Refusal {
             Self::StateIncompatible => "the state has an exclusive use beside another use",
             Self::RangesOutOfOrder => "the ranges are empty, out of order or overlap",
             Self::LogOutOfOrder => "a log descends or stops inside an entry",
-            Self::NoFreeEntry => "the call needs more log entries than are free",
+            Self::FieldCutShort => "in a plan file, a field is cut short or goes past its group or the file",
+            Self::UnknownTag => "in a plan file, a field has an unknown tag: 1 is a group, 2 is a use",
+            Self::UseOfWrongSize => "in a plan file, a use does not have 15 bytes",
+            Self::GroupsTooDeep => "in a plan, groups stand more than eight deep",
+            Self::PlanUnbalanced => {
+                "in a plan, a group that is not open is closed, one is left open, or an item has an unknown kind"
+            }
+            Self::GroupTooLong => "in a plan, a group holds more than 65,535 bytes",
+            Self::NoFreeEntry => "the call needs more log entries, or room for a plan, than are free",
             Self::Unlisted(_) => "the library returns a reason that this crate does not know",
         }
     }

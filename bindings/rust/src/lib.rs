@@ -20,6 +20,8 @@
 //! - A [`TextureTracker`] puts passes in order. Each call that takes it further writes the changes that the driver has
 //!   to be told into a [`TransitionLog`]. Two logs are merged into one by [`merge_logs`].
 //!
+//! A [`Plan`] has the uses of a frame in groups; it is read from a file and written to one.
+//!
 //! # Quick start
 //!
 //! ```
@@ -52,9 +54,10 @@
 //!
 //! Behind these calls is a library that is proved, for every input: a call ends, stays inside the memory that it
 //! borrows, and returns what the definitions say, which are those of wgpu-core's `track/texture.rs` on plain lists, and
-//! of [`merge_logs`] those of `docs/RULES.md`; a refusal changes nothing. This crate provides the memory, names what is returned, and is not proved: it is tested
-//! against wgpu-core's own code (`tests/oracle.rs`). All memory is taken at opening; no call takes more, and none
-//! panics. States are any 16 bits, told apart by [`UsageFlags`]; [`uses`] has wgpu's.
+//! of [`merge_logs`] and of a [`Plan`]'s files those of `docs/RULES.md`; a refusal changes nothing. This crate provides
+//! the memory, names what is returned, and is not proved: it is tested against wgpu-core's own code (`tests/oracle.rs`),
+//! and its plans beside plain lines (`tests/plans.rs`). A set or a log takes all its memory at opening, and no call on it
+//! takes more; a plan grows. No call panics. States are any 16 bits, told apart by [`UsageFlags`]; [`uses`] has wgpu's.
 //!
 //! # Building
 //!
@@ -74,6 +77,7 @@ extern crate std;
 mod errors;
 mod grid;
 mod log;
+mod plan;
 #[cfg(feature = "std")]
 pub mod record;
 mod scope;
@@ -91,6 +95,7 @@ mod values;
 pub use errors::{Conflict, MergeError, Refusal};
 pub use grid::Grid;
 pub use log::{merge_logs, PendingTransition, Rest, TransitionLog, Transitions};
+pub use plan::{NumberTooLarge, Plan, PlanItem, PlanItems, Use};
 pub use scope::UsageScope;
 pub use state::{ParseStateError, State};
 pub use states::TextureStates;

@@ -42,9 +42,11 @@
 //! `tools/replay FILE`, at the top of the repository, makes these calls again: through the proved program, through this
 //! crate and through wgpu-core's own code, as far as each is there, and compares what they return.
 //! `oracle/README.md` has the language. A recording is replayed from its start, so it grows as long as the program runs:
-//! where all sets are opened anew, a new recorder may be created too.
+//! where all sets are opened anew, a new recorder may be created too. Reading and writing a [`Plan`](crate::Plan) is not
+//! recorded: what is returned depends on the bytes alone, and the merges of its uses are.
 use crate::{
     log::{Rest, Transitions},
+    plan::Use,
     state::State,
     storage::Opening,
     values::{Extent, Selector, Texture, TrackerIndex, UsageFlags},
@@ -275,6 +277,15 @@ impl UsageScope {
     ) -> Result<(), MergeError> {
         self.set.call("merge_single", used(texture, new_state, selector));
         self.plain.merge_single(texture, selector, new_state)
+    }
+
+    /// As [`UsageScope::merge_use`](crate::UsageScope::merge_use). It is recorded as a `merge_single`.
+    ///
+    /// # Errors
+    ///
+    /// The same.
+    pub fn merge_use(&mut self, one: Use) -> Result<(), MergeError> {
+        self.merge_single(one.texture, Some(one.selector), one.state)
     }
 
     /// As [`UsageScope::merge_usage_scope`](crate::UsageScope::merge_usage_scope).

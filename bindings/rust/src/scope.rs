@@ -1,6 +1,7 @@
 //! Usage scopes.
 use crate::{
     errors::{merged, merged_part, passed, MergeError, Refusal},
+    plan::Use,
     state::State,
     states::TextureStates,
     storage::{self, Half, Held, Opening, ScopeStorage},
@@ -86,6 +87,16 @@ impl UsageScope {
     ) -> Result<(), MergeError> {
         let answer = sys::merge_single(&mut self.storage, texture, selector, new_state);
         merged_part(answer, selector.unwrap_or(texture.extent.full_range()))
+    }
+
+    /// Merges one use that is given as a value, as a [`Plan`](crate::Plan) has them: it is
+    /// [`merge_single`](Self::merge_single) with its texture, selector and state.
+    ///
+    /// # Errors
+    ///
+    /// The same.
+    pub fn merge_use(&mut self, one: Use) -> Result<(), MergeError> {
+        self.merge_single(one.texture, Some(one.selector), one.state)
     }
 
     /// Merges every texture of another scope, by ascending index, up to the first conflict.

@@ -1,5 +1,5 @@
 //! The numbers that the proved library borrows, and their layout, which nothing else in this crate knows.
-//! It is the layout of crate `storage` of the repository:
+//! It is the layout of crate `set_storage` of the repository, and for plans of its crate `plan_file`:
 //!
 //! ```text
 //! table    0 N   1 M   2 W   3 EXCLUSIVE   4 UNINITIALIZED   5 COMPLEX   6 UNKNOWN   7 ordered mask (a tracker's)
@@ -10,12 +10,17 @@
 //!            h + COUNTS + 16 i + m     how many ranges its mip m has
 //! ranges   three numbers a range (start, end, state); those of (i, m) begin at 3 W (i M + m), with room for W
 //! log      seven numbers an entry: index, mip start, mip end, layer start, layer end, old state, new state
+//! uses     eight numbers a use: index, mips, layers, mip start, mip end, layer start, layer end, state
+//! items    16 bytes an item of a plan: the kind (1 opened, 2 use, 3 closed), then 0, or the numbers of the use, low
+//!          byte first, in 4, 1, 2, 1, 1, 2, 2 and 2 bytes
 //! ```
 //!
-//! The library alone writes here. Reading takes any numbers: what is not there reads as zero, or as no ranges.
+//! The library alone writes here, but for the items of a plan, which this crate makes too. Reading takes any numbers:
+//! what is not there reads as zero, or as no ranges.
 use crate::{
+    plan::{NumberTooLarge, Use},
     state::State,
-    values::{Extent, Layer, Mip, Selector, Span, TrackerIndex, UsageFlags},
+    values::{Extent, Layer, Mip, Selector, Span, Texture, TrackerIndex, UsageFlags},
 };
 use alloc::{boxed::Box, vec, vec::Vec};
 use core::ops::Range;
@@ -33,6 +38,25 @@ const MOST_MIPS: usize = 16;
 /// Numbers of a range, and of a log entry.
 const RANGE: usize = 3;
 pub(crate) const ENTRY: usize = 7;
+
+/// Numbers of a use, in a list of uses.
+pub(crate) const USE: usize = 8;
+
+/// An item of a plan.
+pub(crate) type Item = [u8; 16];
+pub(crate) const OPENED: Item = bare(1);
+pub(crate) const CLOSED: Item = bare(3);
+/// What the numbers of a use are called, and how many bytes each has in an item.
+const BYTES: [(&str, usize); USE] = [
+    ("index", 4),
+    ("mip count", 1),
+    ("layer count", 2),
+    ("mip start", 1),
+    ("mip end", 1),
+    ("layer start", 2),
+    ("layer end", 2),
+    ("state", 2),
+];
 
 /// The largest set that can be opened.
 const MOST_TEXTURES: u32 = 64;
@@ -136,6 +160,56 @@ pub(crate) fn entry(numbers: &[u32]) -> (TrackerIndex, Selector, State, State) {
     let number = |at: usize| numbers.get(at).copied().unwrap_or(0);
     let selector = Selector::new(Mip(number(1))..Mip(number(2)), Layer(number(3))..Layer(number(4)));
     (TrackerIndex(number(0)), selector, state(number(5)), state(number(6)))
+}
+
+/// An item that is a kind alone.
+const fn bare(kind: u8) -> Item {
+    let mut item = [0; 16];
+    item[0] = kind;
+    item
+}
+
+/// Room for the items of any file of so many bytes: a field has three or more, and makes two items at most.
+pub(crate) fn room_for_items(bytes: usize) -> Vec<Item> {
+    vec![[0; 16]; 2 * (bytes / 3)]
+}
+
+/// Room for the file of any so many items: none makes more bytes than a use, which makes 18.
+pub(crate) fn room_for_file(items: usize) -> Vec<u8> {
+    vec![0; 18 * items]
+}
+
+/// A use as an item of a plan; or the first of its numbers that its bytes there cannot hold.
+pub(crate) fn item(one: Use) -> Result<Item, NumberTooLarge> {
+    let mut item = bare(2);
+    let mut from = 1;
+    for ((name, bytes), number) in BYTES.into_iter().zip(numbers(one)) {
+        let most = u32::MAX >> (u32::BITS as usize - 8 * bytes);
+        if number > most {
+            return Err(NumberTooLarge::new(name, number, most));
+        }
+        item[from..from + bytes].copy_from_slice(&number.to_le_bytes()[..bytes]);
+        from += bytes;
+    }
+    Ok(item)
+}
+
+/// The numbers of a use, as in a list of uses.
+pub(crate) fn numbers(one: Use) -> [u32; USE] {
+    let Use { texture: Texture { index, extent }, selector: Selector { mips, layers }, state } = one;
+    let [mip_start, mip_end] = [mips.start.0, mips.end.0];
+    let [layer_start, layer_end] = [layers.start.0, layers.end.0];
+    [index.0, extent.mips, extent.layers, mip_start, mip_end, layer_start, layer_end, state.0.into()]
+}
+
+/// The numbers of a use as values.
+pub(crate) fn one_use(numbers: [u32; USE]) -> Use {
+    let [index, mips, layers, mip_start, mip_end, layer_start, layer_end, held] = numbers;
+    Use {
+        texture: Texture::new(TrackerIndex(index), Extent::new(mips, layers)),
+        selector: Selector::new(Mip(mip_start)..Mip(mip_end), Layer(layer_start)..Layer(layer_end)),
+        state: state(held),
+    }
 }
 
 /// A state is 16 bits: the library keeps no larger one. Of a damaged one the lower bits are read.

@@ -1,15 +1,16 @@
 //! The proved library: its functions as the archive has them, and for each one caller that passes it storage.
 //!
-//! A slice goes over as a pointer and a count of numbers, a table as a pointer to 2,376 of them. The library requires
-//! nothing else of its caller: it is proved that every call ends, stays inside what it borrows, and returns whatever
-//! numbers stand there. So all that each SAFETY below has to say is that the pointers are good for their lengths and
-//! that what is written is borrowed by nobody else; references say both.
+//! A slice goes over as a pointer and a count of numbers, a plan's files and items as a pointer and a count of bytes, a
+//! table as a pointer to 2,376 numbers. The library requires nothing else of its caller: it is proved that every call
+//! ends, stays inside what it borrows, and returns whatever numbers stand there. So all that each SAFETY below has to
+//! say is that the pointers are good for their lengths and that what is written is borrowed by nobody else; references
+//! say both.
 //!
 //! One line of arguments for each thing that is borrowed; rustfmt is told to leave this file alone.
 #![allow(unsafe_code)]
 use crate::{
     state::State,
-    storage::{LogStorage, Opening, ScopeStorage, TrackerStorage},
+    storage::{Item, LogStorage, Opening, ScopeStorage, TrackerStorage},
     values::{Selector, Texture, TrackerIndex},
 };
 
@@ -49,6 +50,14 @@ struct MergedAnswer {
     rest_first: u32,
     rest_offset: usize,
     rest_length: usize,
+}
+
+/// What a call on plans returns, with how many items, bytes or uses it wrote: 0 where it is refused.
+#[repr(C)]
+#[derive(Clone, Copy)]
+pub(crate) struct CountedAnswer {
+    pub answer: Answer,
+    pub count: usize,
 }
 
 extern "C" {
@@ -103,6 +112,12 @@ extern "C" {
         first: *const u32, first_len: usize, second: *const u32, second_len: usize,
         third: *mut u32, third_len: usize, written: usize, free: usize,
     ) -> MergedAnswer;
+
+    fn track_read_plan(file: *const u8, file_len: usize, items: *mut u8, items_len: usize) -> CountedAnswer;
+
+    fn track_write_plan(items: *const u8, items_len: usize, file: *mut u8, file_len: usize) -> CountedAnswer;
+
+    fn track_plan_uses(items: *const u8, items_len: usize, uses: *mut u32, uses_len: usize) -> CountedAnswer;
 
     fn track_scope_is_well_formed(table: *const u32, ranges: *const u32, ranges_len: usize) -> u32;
 
@@ -262,6 +277,24 @@ pub(crate) fn merge_logs<'a>(first: &'a [u32], second: &'a [u32], third: &mut Lo
     let log = if rest_first == 0 { second } else { first };
     let rest = log.get(rest_offset..).and_then(|rest| rest.get(..rest_length)).unwrap_or_default();
     (logged(third, LoggedAnswer { answer, written, free }), rest)
+}
+
+pub(crate) fn read_plan(file: &[u8], items: &mut [Item]) -> CountedAnswer {
+    let items = items.as_flattened_mut();
+    // SAFETY: each pointer comes from a reference, with its length; the items are borrowed mutably, so they are others.
+    unsafe { track_read_plan(file.as_ptr(), file.len(), items.as_mut_ptr(), items.len()) }
+}
+
+pub(crate) fn write_plan(items: &[Item], file: &mut [u8]) -> CountedAnswer {
+    let items = items.as_flattened();
+    // SAFETY: each pointer comes from a reference, with its length; the file is borrowed mutably, so it is another.
+    unsafe { track_write_plan(items.as_ptr(), items.len(), file.as_mut_ptr(), file.len()) }
+}
+
+pub(crate) fn plan_uses(items: &[Item], uses: &mut [u32]) -> CountedAnswer {
+    let items = items.as_flattened();
+    // SAFETY: each pointer comes from a reference, with its length; the uses are borrowed mutably, so they are others.
+    unsafe { track_plan_uses(items.as_ptr(), items.len(), uses.as_mut_ptr(), uses.len()) }
 }
 
 pub(crate) fn scope_is_well_formed(scope: &ScopeStorage) -> bool {

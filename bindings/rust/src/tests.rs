@@ -3,11 +3,11 @@
 use crate::{
     errors::{merged, merged_part, passed, passed_part},
     merge_logs,
-    storage::{LogStorage, Opening, ScopeStorage, TrackerStorage, ENTRY},
-    sys, uses, Extent, Layer, Mip, Refusal, Selector, State, Texture, TextureStates, TextureTracker, TrackerIndex,
-    TransitionLog, UsageScope,
+    storage::{self, LogStorage, Opening, ScopeStorage, TrackerStorage, ENTRY, USE},
+    sys, uses, Extent, Layer, Mip, Plan, Refusal, Selector, State, Texture, TextureStates, TextureTracker,
+    TrackerIndex, TransitionLog, UsageScope, Use,
 };
-use std::{format, string::ToString, vec::Vec};
+use std::{format, string::ToString, vec, vec::Vec};
 
 const EXTENT: Extent = Extent::new(2, 4);
 const TEXTURE: Texture = Texture::new(TrackerIndex(0), EXTENT);
@@ -125,8 +125,8 @@ fn every_number_is_decoded() {
         // A call without a part is not refused for one.
         let without = if (16..=19).contains(&number) { Refusal::Unlisted(number) } else { refusal };
         assert_eq!((passed(answer), merged(answer)), (Err(without), Err(without.into())));
-        // 10 is reserved, and 20 to 30 are no refusals.
-        let listed = number != 10 && number <= 19 || number == 31;
+        // 10 is reserved, and 26 to 30 are no refusals.
+        let listed = number != 10 && number <= 25 || number == 31;
         assert_eq!(refusal == Refusal::Unlisted(number), !listed, "{number}");
     }
 }
@@ -200,6 +200,73 @@ fn a_refused_merge_of_logs_changes_no_number() {
     let mut damaged = log_of(&[1], 4);
     damaged.storage.free = usize::MAX;
     assert_eq!(merge_logs(&down, &up, &mut damaged), Err(Refusal::LogTooShort), "before 31");
+}
+
+/// Two uses in a group, and behind them an empty group in it.
+fn plan() -> Plan {
+    let mut plan = Plan::new();
+    plan.open_group();
+    plan.push(Use::whole(TEXTURE, uses::RESOURCE)).unwrap();
+    plan.push(Use::new(TEXTURE, Selector::one(Mip(1), Layer(3)), uses::COPY_DST)).unwrap();
+    plan.open_group();
+    plan.close_group();
+    plan.close_group();
+    plan
+}
+
+/// With less room than a call on plans needs it is 15 and writes nothing; with more, nothing past what it counts.
+fn room<T: Copy + PartialEq + std::fmt::Debug>(whole: &[T], other: T, call: impl Fn(&mut [T]) -> sys::CountedAnswer) {
+    for length in 0..whole.len() + 2 {
+        let mut borrowed = vec![other; length];
+        let answer = passed(call(&mut borrowed).answer);
+        let (passes, written) =
+            if length < whole.len() { (Err(Refusal::NoFreeEntry), 0) } else { (Ok(()), whole.len()) };
+        assert_eq!((answer, &borrowed[..written]), (passes, &whole[..written]), "{length}");
+        assert!(borrowed[written..].iter().all(|one| *one == other), "{length}");
+    }
+}
+
+#[test]
+fn room_for_plans_15() {
+    let plan = plan();
+    let file = plan.write().unwrap();
+    let uses: Vec<_> = plan.uses().flat_map(storage::numbers).collect();
+    assert_eq!((plan.len(), file.len(), uses.len()), (6, 3 + 18 + 18 + 3, 2 * USE));
+    room(&plan.items, [170; 16], |items| sys::read_plan(&file, items));
+    room(&file, 170, |file| sys::write_plan(&plan.items, file));
+    room(&uses, 170, |uses| sys::plan_uses(&plan.items, uses));
+}
+
+/// The room that reading and writing take is enough also where every three bytes make two items, and every item 18 bytes.
+#[test]
+fn plans_that_need_all_the_room() {
+    let (mut empty_groups, mut flat) = (Plan::new(), Plan::new());
+    for _ in 0..9 {
+        empty_groups.open_group();
+        empty_groups.close_group();
+        flat.push(Use::whole(TEXTURE, uses::RESOURCE)).unwrap();
+    }
+    for plan in [empty_groups, flat, Plan::new()] {
+        let file = plan.write().unwrap();
+        assert_eq!(Plan::read(&file), Ok(plan));
+    }
+}
+
+/// Behind the kind of an opened or closed item any bytes may stand. Another kind is 24, and no use.
+#[test]
+fn what_a_call_does_not_read_of_an_item() {
+    let mut items = plan().items;
+    items.iter_mut().filter(|item| item[0] != 2).for_each(|item| item[1..].fill(170));
+    let mut file = plan().write().unwrap();
+    let written = sys::write_plan(&items, &mut file);
+    assert_eq!((passed(written.answer), written.count, Ok(file)), (Ok(()), 42, plan().write()));
+    for kind in (0..=u8::MAX).filter(|kind| !(1..=3).contains(kind)) {
+        items.push([kind; 16]);
+        let refused = sys::write_plan(&items, &mut []);
+        assert_eq!((passed(refused.answer), refused.count), (Err(Refusal::PlanUnbalanced), 0));
+        assert_eq!(sys::plan_uses(&items, &mut [0; 2 * USE]).count, 2);
+        items.pop();
+    }
 }
 
 fn read(states: TextureStates<'_>) -> usize {

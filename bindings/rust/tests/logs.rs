@@ -1,4 +1,6 @@
 //! Merging two logs, beside a few plain lines: all pairs of short logs, long random ones, and the words of the request.
+mod chance;
+use chance::Chance;
 use texture_tracker::*;
 
 const TEXTURES: u32 = 8;
@@ -87,15 +89,7 @@ fn all_short_logs() {
     }
 }
 
-/// Numbers that look random and are the same each time (Knuth's MMIX generator).
-struct Chance(u64);
-
 impl Chance {
-    fn below(&mut self, end: u32) -> u32 {
-        self.0 = self.0.wrapping_mul(6_364_136_223_846_793_005).wrapping_add(1_442_695_040_888_963_407);
-        ((self.0 >> 33) % u64::from(end)) as u32
-    }
-
     /// An ascending list of up to 64 indices.
     fn list(&mut self) -> Vec<u32> {
         let mut list: Vec<_> = (0..self.below(LAYERS + 1)).map(|_| self.below(TEXTURES)).collect();

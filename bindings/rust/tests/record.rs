@@ -2,6 +2,8 @@
 #![cfg(feature = "std")]
 mod bench;
 mod built;
+mod chance;
+use chance::Chance;
 use std::{
     fs,
     io::{self, Write},
@@ -14,7 +16,8 @@ use std::{
 };
 use texture_tracker::{
     record::{merge_logs, Recorder, TextureTracker, TransitionLog, UsageScope},
-    uses, Extent, Layer, MergeError, Mip, PendingTransition, Refusal, Rest, Selector, State, Texture, TrackerIndex,
+    uses, Extent, Layer, MergeError, Mip, PendingTransition, Plan, Refusal, Rest, Selector, State, Texture,
+    TrackerIndex, Use,
 };
 
 /// A place to write to that can be read while it is written.
@@ -179,15 +182,7 @@ fn demonstration() -> Floor {
     floor
 }
 
-/// Numbers that look random and are the same each time (Knuth's MMIX generator).
-struct Chance(u64);
-
 impl Chance {
-    fn below(&mut self, end: u32) -> u32 {
-        self.0 = self.0.wrapping_mul(6_364_136_223_846_793_005).wrapping_add(1_442_695_040_888_963_407);
-        ((self.0 >> 33) % u64::from(end)) as u32
-    }
-
     /// Up to `most` from `start` on; now and then none, or reversed.
     fn span(&mut self, start: u32, most: u32) -> Range<u32> {
         match self.below(12) {
@@ -385,6 +380,23 @@ fn merged_logs() {
     assert_eq!(lines[0], format!("merge_logs 0 3 21 14 7 {} {} {}", entries[0], entries[2], entries[1]));
     assert_eq!(lines[1], format!("merge_logs 2 1 21 14 7 {} {} {}", entries[2], entries[1], entries[1]));
     assert_eq!(lines.len(), 2);
+}
+
+/// A use is recorded as the merge that it is, with its selector also where that is all of the texture.
+#[test]
+fn uses_of_a_plan() {
+    let page = Page::default();
+    let cameras = Texture::new(TrackerIndex(0), Extent::new(1, 8));
+    let mut scope = Recorder::new(page.clone()).open_scope(1, cameras.extent, uses::FLAGS).unwrap();
+    let mut plan = Plan::new();
+    plan.push(Use::whole(cameras, uses::RESOURCE)).unwrap();
+    plan.push(Use::new(cameras, Selector::one(Mip(0), Layer(5)), uses::COPY_DST)).unwrap();
+    let answers: Vec<_> = plan.uses().map(|one| scope.merge_use(one).is_ok()).collect();
+    assert_eq!(answers, [true, false]);
+    let text = page.text();
+    let lines: Vec<_> = text.lines().skip(2).collect();
+    assert_eq!(lines, ["merge_single 0 0 1 8 16 0 1 0 8", "merge_single 0 0 1 8 8 0 1 5 6"]);
+    assert_eq!(replayed(&text)[2..], ["done", "conflict 0 0 1 5 6 16 8"]);
 }
 
 /// Sets that are dropped give their numbers back; where none is left, a new case begins.

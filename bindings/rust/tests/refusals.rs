@@ -245,6 +245,55 @@ fn a_log_that_descends_31() {
     }
 }
 
+/// Reading and writing a plan; `tests/plans.rs` has the edges.
+#[test]
+fn plans_20_to_25() {
+    let beans = Use::whole(TEXTURE, State(8));
+    let plan = |opened: usize, uses: usize, closed: usize| {
+        let mut plan = Plan::new();
+        (0..opened).for_each(|_| plan.open_group());
+        (0..uses).for_each(|_| plan.push(beans).unwrap());
+        (0..closed).for_each(|_| plan.close_group());
+        plan
+    };
+    let deep = plan(8, 0, 8).write().unwrap();
+    let deeper = [&[1, 24, 0], &deep[..]].concat();
+    let read = |file: &[u8]| Plan::read(file).map(drop);
+    let write = |plan: Plan| plan.write().map(drop);
+    assert_eq!((read(&deep), write(plan(1, 3_640, 1))), (Ok(()), Ok(())));
+    for (answer, refusal, number, words) in [
+        (read(&[7, 1, 0]), Refusal::FieldCutShort, 20, "a field is cut short or goes past its group or the file"),
+        (read(&[7, 0, 0]), Refusal::UnknownTag, 21, "a field has an unknown tag: 1 is a group, 2 is a use"),
+        (read(&[2, 0, 0]), Refusal::UseOfWrongSize, 22, "a use does not have 15 bytes"),
+        (read(&deeper), Refusal::GroupsTooDeep, 23, "groups stand more than eight deep"),
+        (write(plan(9, 0, 9)), Refusal::GroupsTooDeep, 23, "groups stand more than eight deep"),
+        (
+            write(plan(0, 0, 1)),
+            Refusal::PlanUnbalanced,
+            24,
+            "a group that is not open is closed, one is left open, or an item has an unknown kind",
+        ),
+        (write(plan(1, 3_641, 1)), Refusal::GroupTooLong, 25, "a group holds more than 65,535 bytes"),
+    ] {
+        assert_eq!((answer, refusal.number(), refusal.index()), (Err(refusal), number, None));
+        assert!(refusal.to_string().ends_with(&format!(", {words} (refusal {number})")), "{refusal}");
+    }
+}
+
+/// C says the same of plans, and of room that is short.
+#[test]
+fn words_of_c() {
+    use Refusal::*;
+    let header = concat!(env!("CARGO_MANIFEST_DIR"), "/../../include/texture_tracker.h");
+    let header = std::fs::read_to_string(header).unwrap();
+    for refusal in [FieldCutShort, UnknownTag, UseOfWrongSize, GroupsTooDeep, PlanUnbalanced, GroupTooLong, NoFreeEntry]
+    {
+        let said = refusal.to_string();
+        let words = said.strip_suffix(&format!(" (refusal {})", refusal.number())).unwrap();
+        assert!(header.contains(&format!(": return \"{words}\";")), "{words}");
+    }
+}
+
 /// A log with room for the texture takes any one call, also in the worst case: every subresource by itself.
 #[test]
 fn a_log_with_room_is_never_short() {
