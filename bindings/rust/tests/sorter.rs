@@ -62,7 +62,7 @@ fn line(text: &'static str, number: usize, what: &str) -> Bad {
 fn bad_textures_and_passes() -> Vec<Bad> {
     vec![
         line("textures beans", 1, "\"textures\" is none of: texture, pass, use, late"),
-        line("texture beans 4 8", 1, "a texture is written: texture NAME mips M layers W"),
+        line("texture beans 4 8", 1, "a texture is written: texture NAME mips M layers W [number N]"),
         line("texture beans mips four layers 8", 1, &format!("mips: \"four\" {OUT}")),
         line("texture beans mips -1 layers 8", 1, &format!("mips: \"-1\" {OUT}")),
         line("texture beans mips 4 layers 99999999999", 1, &format!("layers: \"99999999999\" {OUT}")),
@@ -152,7 +152,7 @@ fn the_65th_texture() {
     let (status, _, errors) = shown("65.frame", text);
     assert_eq!(status, Some(2));
     assert!(
-        errors.ends_with(&format!("line 65: texture t64 mips 1 layers 1\n    texture number 65 {LIMITS}\n")),
+        errors.ends_with(&format!("line 65: texture t64 mips 1 layers 1\n    number 64, counted from 0, {LIMITS}\n")),
         "{errors}"
     );
 }
@@ -217,11 +217,22 @@ fn files_that_cannot_be_read() {
 fn arguments() {
     let frame = here("examples/sorter/demo.frame");
     let frame = frame.to_str().unwrap();
-    for given in [&[frame, frame][..], &["--html"], &["--pdf"], &["--html", "x", frame, frame], &["--html", "x", "--y"]]
-    {
+    for given in [
+        &[frame, frame][..],
+        &["--html"],
+        &["--plan"],
+        &["--text", "x"],
+        &["--pdf"],
+        &["--html", "x", frame, frame],
+        &["--html", "x", "--y"],
+        &["--text", "x", "--plan", "y"],
+    ] {
         let (status, shown, errors) = read(Command::new(built::example("sorter")).args(given).output().unwrap());
         assert_eq!((status, shown.as_str()), (Some(2), ""));
-        assert_eq!(errors, "usage: ./demo [FRAME]\n       ./demo --html FILE [FRAME]\n");
+        let usage =
+            "usage: ./demo [FRAME]\n       ./demo --html FILE [FRAME]\n       ./demo --plan FILE [FRAME]\n       \
+                     ./demo --text FILE FRAME.plan\n";
+        assert_eq!(errors, usage);
     }
 }
 

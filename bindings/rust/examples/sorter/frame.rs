@@ -1,10 +1,12 @@
-//! The line language of a frame; demo.frame explains it.
+//! The line language of a frame; demo.frame explains it. A plan file becomes text of this language before it is shown:
+//! `plan` says how.
 //!
 //! What a line may say of textures, mips, layers and states is not decided here: each use is tried on a scope of its
 //! own, and the library's refusal is what is wrong with the line.
 use super::{
     area::{layers, mips, part},
     input, kinds,
+    plan::{Place, Planned},
 };
 use std::{
     collections::{HashMap, HashSet},
@@ -23,6 +25,8 @@ pub struct Frame<'a> {
     named: Named<'a>,
     /// A scope for each texture, to try a use on.
     trials: Vec<UsageScope>,
+    /// For each line the use of the plan that it is, if the text is that of a plan.
+    places: &'a [Option<Place>],
 }
 
 pub struct Pass<'a> {
@@ -74,12 +78,26 @@ impl<'a> Frame<'a> {
             let words: Vec<&str> = said.split_whitespace().collect();
             frame.line(at, &words).map_err(|what| format!("line {at}: {}\n    {what}", input::told(said)))?;
         }
-        match (frame.textures.is_empty(), frame.passes.is_empty()) {
+        Ok(frame)
+    }
+
+    /// The frame that a plan's text is.
+    pub fn of_plan(plan: &'a Planned) -> Told<Self> {
+        let frame = Self { places: &plan.places, ..Self::read(&plan.text)? };
+        if frame.textures.is_empty() {
+            return Err("the plan has no use, so there is nothing to show".into());
+        }
+        Ok(frame)
+    }
+
+    /// The same, if there is something to show; to write a plan, there need not be.
+    pub fn complete(self) -> Told<Self> {
+        match (self.textures.is_empty(), self.passes.is_empty()) {
             (true, _) => {
                 Err("the frame has no texture: write one as in bindings/rust/examples/sorter/demo.frame".into())
             }
             (_, true) => Err("the frame has no pass: write one as in bindings/rust/examples/sorter/demo.frame".into()),
-            _ => Ok(frame),
+            _ => Ok(self),
         }
     }
 
@@ -88,11 +106,23 @@ impl<'a> Frame<'a> {
         self.lines[line - 1].split('#').next().unwrap_or_default().trim()
     }
 
+    /// A use with where it stands: its line, or its number and its first byte in the plan.
+    pub fn told(&self, made: &Use) -> String {
+        let said = self.said(made.line);
+        match self.places.get(made.line - 1) {
+            Some(Some(place)) => format!("{place}: {}", said.trim_start_matches("use ")),
+            _ => format!("line {}: {said}", made.line),
+        }
+    }
+
     fn line(&mut self, at: usize, words: &[&'a str]) -> Told<()> {
         match words {
             [] => Ok(()),
-            ["texture", name, "mips", mips, "layers", layers] => self.texture(name, mips, layers),
-            ["texture", ..] => Err("a texture is written: texture NAME mips M layers W".into()),
+            ["texture", name, "mips", mips, "layers", layers] => self.texture(name, mips, layers, None),
+            ["texture", name, "mips", mips, "layers", layers, "number", index] => {
+                self.texture(name, mips, layers, Some(number("number", index)?))
+            }
+            ["texture", ..] => Err("a texture is written: texture NAME mips M layers W [number N]".into()),
             ["pass", name] => self.pass(name),
             ["pass", ..] => Err("a pass is written: pass NAME".into()),
             ["use", name, rest @ ..] => self.use_of(at, name, rest),
@@ -103,22 +133,25 @@ impl<'a> Frame<'a> {
         }
     }
 
-    fn texture(&mut self, name: &'a str, mips: &str, layers: &str) -> Told<()> {
+    fn texture(&mut self, name: &'a str, mips: &str, layers: &str, index: Option<u32>) -> Told<()> {
         if !self.passes.is_empty() {
             return Err("textures come before the first pass".into());
         }
-        let index = self.textures.len();
-        if self.named.textures.insert(proper(name)?, index).is_some() {
+        if self.named.textures.insert(proper(name)?, self.textures.len()).is_some() {
             return Err(format!("there is a texture {name} already"));
+        }
+        let index = index.unwrap_or_else(|| self.textures.last().map_or(0, |(_, last)| last.index.0 + 1));
+        if let Some((other, _)) = self.textures.iter().find(|(_, other)| other.index.0 == index) {
+            return Err(format!("texture {other} has number {index} already"));
         }
         let extent = Extent { mips: number("mips", mips)?, layers: number("layers", layers)? };
         let open = |textures, mips, layers| UsageScope::open(textures, Extent { mips, layers }, uses::FLAGS);
         let out = |what: String| move |refusal| format!("{what} is out of range: {refusal}");
-        open(index as u32 + 1, 1, 1).map_err(out(format!("texture number {}", index + 1)))?;
+        open(index.saturating_add(1), 1, 1).map_err(out(format!("number {index}, counted from 0,")))?;
         open(1, extent.mips, 1).map_err(out(format!("mips {mips}")))?;
         open(1, 1, extent.layers).map_err(out(format!("layers {layers}")))?;
         self.trials.push(open(1, extent.mips, extent.layers).map_err(|refusal| refusal.to_string())?);
-        self.textures.push((name, Texture { index: TrackerIndex(index as u32), extent }));
+        self.textures.push((name, Texture { index: TrackerIndex(index), extent }));
         Ok(())
     }
 
@@ -134,7 +167,7 @@ impl<'a> Frame<'a> {
         let known = self.named.textures.get(texture);
         let at = *known.ok_or_else(|| format!("there is no texture {}", input::told(texture)))?;
         let (made, name) = read_use(line, self.textures[at].1, rest)?;
-        self.try_alone(&made)?;
+        self.try_alone(at, &made)?;
         let home = self.passes.len().checked_sub(1).ok_or("a use comes after the pass that makes it")?;
         if let Some(name) = name {
             if self.named.uses.insert(proper(name)?, (home, self.passes[home].uses.len())).is_some() {
@@ -146,10 +179,10 @@ impl<'a> Frame<'a> {
         Ok(())
     }
 
-    /// What the library says of a use.
-    fn try_alone(&mut self, made: &Use) -> Told<()> {
+    /// What the library says of a use of a texture, by its position.
+    fn try_alone(&mut self, texture: usize, made: &Use) -> Told<()> {
         let alone = Texture { index: TrackerIndex(0), extent: made.texture.extent };
-        let trial = &mut self.trials[made.texture.index.0 as usize];
+        let trial = &mut self.trials[texture];
         trial.clear();
         let answer = trial.merge_single(alone, made.selector, made.state);
         answer.map_err(|refused| worded(made, refused))
@@ -201,28 +234,49 @@ impl<'a> Frame<'a> {
     }
 
     pub fn texture_name(&self, index: TrackerIndex) -> &'a str {
-        self.textures[index.0 as usize].0
+        self.textures.iter().find(|(_, texture)| texture.index == index).map_or("", |(name, _)| name)
     }
 
     pub fn label_of(&self, index: TrackerIndex, mip: u32, layer: u32) -> Option<&'a str> {
         self.named.labels.get(&(index, mip, layer)).copied()
     }
 
-    /// How many textures there are, and an extent that none of them exceeds: what sets are opened with.
+    /// How many indices the textures take, and an extent that none of them exceeds: what sets are opened with.
     pub fn size(&self) -> (u32, Extent) {
         let most = |of: fn(Extent) -> u32| self.textures.iter().map(|(_, texture)| of(texture.extent)).max();
         let largest = Extent { mips: most(|one| one.mips).unwrap_or(0), layers: most(|one| one.layers).unwrap_or(0) };
-        (self.textures.len() as u32, largest)
+        (self.textures.iter().map(|(_, texture)| texture.index.0 + 1).max().unwrap_or(0), largest)
     }
 
     /// In words: how many of everything.
     pub fn facts(&self) -> String {
-        let count = |number: usize, one: &str, many: &str| format!("{number} {}", if number == 1 { one } else { many });
         let made = self.passes.iter().map(|pass| pass.uses.len()).sum();
         let textures = count(self.textures.len(), "texture", "textures");
         let passes = count(self.passes.len(), "pass", "passes");
         format!("{textures}, {passes}, {}", count(made, "use", "uses"))
     }
+
+    /// What the text says and a plan does not hold.
+    pub fn unplanned(&self) -> Vec<String> {
+        let names = [
+            (self.textures.len(), "texture", "textures"),
+            (self.passes.len(), "pass", "passes"),
+            (self.named.uses.len(), "use", "uses"),
+        ];
+        let names = names.into_iter().filter(|(number, ..)| *number > 0);
+        let names: Vec<String> = names.map(|(number, one, many)| count(number, one, many)).collect();
+        let names = (!names.is_empty()).then(|| format!("names ({})", names.join(", ")));
+        let used: HashSet<_> = self.passes.iter().flat_map(|pass| &pass.uses).map(|made| made.texture.index).collect();
+        let unused = self.textures.iter().filter(|(_, texture)| !used.contains(&texture.index));
+        let unused = unused.map(|(name, _)| format!("texture {name}, which no pass uses"));
+        let late = (!self.late.is_empty()).then(|| count(self.late.len(), "late line", "late lines"));
+        let comments = self.lines.iter().any(|line| line.contains('#')).then(|| "comments".to_string());
+        names.into_iter().chain(unused).chain(late).chain(comments).collect()
+    }
+}
+
+pub fn count(number: usize, one: &str, many: &str) -> String {
+    format!("{number} {}", if number == 1 { one } else { many })
 }
 
 /// A name that can be shown wherever it has to be.

@@ -242,7 +242,7 @@ fn lines(picture: &Picture, column: &Column, place: &Place) -> String {
 }
 
 fn said(frame: &Frame, made: &Use) -> String {
-    format!(" <code>line {}: {}</code>", made.line, text(frame.said(made.line)))
+    format!(" <code>{}</code>", text(&frame.told(made)))
 }
 
 fn tell_clash(frame: &Frame, clash: &Clash) -> String {

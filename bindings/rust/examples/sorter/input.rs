@@ -1,4 +1,5 @@
-//! From a file to text that can be read line by line and shown in a terminal, or what is wrong with the file.
+//! From a file to the bytes of a plan, or to text that can be read line by line and shown in a terminal; or what is
+//! wrong with the file.
 use std::{
     fs::File,
     io::{self, Read},
@@ -10,8 +11,13 @@ const MOST_CHARACTERS: usize = 1000;
 /// How much of a bad line is told.
 const TOLD: usize = 60;
 
-/// The file's text; `-` is standard input.
-pub fn read(path: &Path) -> Result<String, String> {
+pub enum Input {
+    Text(String),
+    Plan(Vec<u8>),
+}
+
+/// What is in the file; `-` is standard input.
+pub fn read(path: &Path) -> Result<Input, String> {
     let mut bytes = vec![];
     let got = match path.to_str() {
         Some("-") => io::stdin().lock().take(MOST_BYTES + 1).read_to_end(&mut bytes),
@@ -21,11 +27,19 @@ pub fn read(path: &Path) -> Result<String, String> {
     if bytes.len() as u64 > MOST_BYTES {
         return Err(format!("the file is larger than {} MiB", MOST_BYTES >> 20));
     }
+    if is_plan(path, &bytes) {
+        return Ok(Input::Plan(bytes));
+    }
     let text = decoded(bytes)?;
     for (at, line) in text.lines().enumerate() {
         fit(line).map_err(|what| format!("line {}: {}\n    {what}", at + 1, told(line)))?;
     }
-    Ok(text)
+    Ok(Input::Text(text))
+}
+
+/// A plan begins with the tag of a group or a use, and no line of text does. A damaged one is known by its name.
+fn is_plan(path: &Path, bytes: &[u8]) -> bool {
+    matches!(bytes.first(), Some(1 | 2)) || path.extension().is_some_and(|end| end == "plan")
 }
 
 fn decoded(bytes: Vec<u8>) -> Result<String, String> {

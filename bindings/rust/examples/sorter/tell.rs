@@ -173,7 +173,7 @@ fn tell_clash(page: &mut Page, frame: &Frame, clash: &Clash) {
         page.words(Ink::Red, 6, &states);
     }
     for made in clash.held.iter().take(LINES).chain([&clash.new]) {
-        page.words(Ink::Plain, 8, &format!("line {}: {}", made.line, frame.said(made.line)));
+        page.words(Ink::Plain, 8, &frame.told(made));
     }
     if clash.held.len() > LINES {
         page.line(Ink::Plain, &format!("        and {} more that hold it", clash.held.len() - LINES));
