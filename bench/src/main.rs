@@ -9,12 +9,18 @@
 //!                                          a row of the table of merged logs
 //!     bench count merge_logs ENTRIES PATTERN rust|port CALLS
 //!                                          only makes the merges
+//!     bench time read_plan|write_plan ITEMS PATTERN ROUNDS
+//!                                          a row of the table of plans
+//!     bench count read_plan|write_plan ITEMS PATTERN rust|port CALLS
+//!                                          only reads or writes them
 //!
 //! A SET is scope or tracker, of which there is only the test. STATES tells how many different states are held that meet EXCLUSIVE:
-//! none, as where it is left out, one or several; calls that set have their own. A PATTERN is alternate, random or runs.
+//! none, as where it is left out, one or several; calls that set have their own. A PATTERN is alternate, random or runs; of a plan, flat or
+//! nested.
 mod cases;
 mod logs;
 mod measure;
+mod plans;
 #[rustfmt::skip]
 mod port;
 mod states;
@@ -22,6 +28,7 @@ mod states;
 use cases::{merge_single, Case, Join, Kind, MergeScope, SetScope, SetSingle, Shape, Sparse};
 use logs::{MergeLogs, Pattern};
 use measure::{measure, measure_both, measure_test, Times};
+use plans::PlanCall;
 use states::States;
 
 const CALLS: [&str; 6] = [
@@ -179,6 +186,43 @@ fn count_logs(words: &[String]) {
     }
 }
 
+fn plan(words: &[String]) -> PlanCall {
+    let [call, items, pattern] = words else {
+        panic!("no CALL ITEMS PATTERN: {words:?}");
+    };
+    PlanCall::new(call, number(items), pattern)
+}
+
+fn time_plan(words: &[String]) {
+    let [held @ .., rounds] = words else {
+        panic!("time read_plan|write_plan ITEMS PATTERN ROUNDS");
+    };
+    let mut plan = plan(held);
+    let bytes = plan.bytes();
+    let [rust, port] = measure_both(&mut plan, number(rounds) as usize);
+    println!(
+        "| {} | {} | {} | {bytes} | {} | {} | {:.2} |",
+        held[0],
+        held[1],
+        held[2],
+        nanoseconds(rust),
+        nanoseconds(port),
+        port / rust,
+    );
+}
+
+fn count_plan(words: &[String]) {
+    let [held @ .., part, calls] = words else {
+        panic!("count read_plan|write_plan ITEMS PATTERN rust|port CALLS");
+    };
+    let mut plan = plan(held);
+    match part.as_str() {
+        "rust" => plan.rust(number(calls)),
+        "port" => plan.port(number(calls)),
+        _ => panic!("no such part: {part}"),
+    }
+}
+
 fn time(words: &[String]) {
     let [call, held, textures, layers, states, rounds] = words else {
         panic!("time CALL|SET HELD TEXTURES LAYERS STATES ROUNDS");
@@ -217,6 +261,8 @@ fn main() {
     match plain[..] {
         ["time", "merge_logs", ..] => time_logs(&words[2..]),
         ["count", "merge_logs", ..] => count_logs(&words[2..]),
+        ["time", "read_plan" | "write_plan", ..] => time_plan(&words[1..]),
+        ["count", "read_plan" | "write_plan", ..] => count_plan(&words[1..]),
         ["time", ..] => time(&words[1..]),
         ["count", ..] => count(&words[1..]),
         [rounds, ..] => table(rounds.parse().expect("a number of rounds")),

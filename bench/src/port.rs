@@ -40,6 +40,13 @@ pub struct MergedAnswer {
     pub rest_length: usize,
 }
 
+#[repr(C)]
+#[derive(Clone, Copy)]
+pub struct CountedAnswer {
+    pub answer: Answer,
+    pub count: usize,
+}
+
 type Table = [u32; TABLE];
 
 #[rustfmt::skip]
@@ -66,6 +73,8 @@ extern "C" {
         log: *mut u32, log_len: usize, written: usize, free: usize) -> LoggedAnswer;
     fn track_merge_logs(first: *const u32, first_len: usize, second: *const u32, second_len: usize, third: *mut u32, third_len: usize,
         written: usize, free: usize) -> MergedAnswer;
+    fn track_read_plan(file: *const u8, file_len: usize, items: *mut u8, items_len: usize) -> CountedAnswer;
+    fn track_write_plan(items: *const u8, items_len: usize, file: *mut u8, file_len: usize) -> CountedAnswer;
     fn track_scope_is_well_formed(table: *const Table, ranges: *const u32, ranges_len: usize) -> u32;
     fn track_tracker_is_well_formed(table: *const Table, starts: *const u32, starts_len: usize, ends: *const u32, ends_len: usize)
         -> u32;
@@ -267,4 +276,14 @@ pub fn merge_logs(first: &[u32], second: &[u32], third: &mut [u32]) -> MergedAns
             first.as_ptr(), first.len(), second.as_ptr(), second.len(), third.as_mut_ptr(), third.len(), 0, third.len() / 7,
         )
     }
+}
+
+#[inline]
+pub fn read_plan(file: &[u8], items: &mut [u8]) -> CountedAnswer {
+    unsafe { track_read_plan(file.as_ptr(), file.len(), items.as_mut_ptr(), items.len()) }
+}
+
+#[inline]
+pub fn write_plan(items: &[u8], file: &mut [u8]) -> CountedAnswer {
+    unsafe { track_write_plan(items.as_ptr(), items.len(), file.as_mut_ptr(), file.len()) }
 }
