@@ -99,7 +99,7 @@ def grouped(lines):
 
 # ---- Chains of `.before`
 
-NEED = re.compile(r"^(\S+ c(?: κs)?) =(.*)$")
+NEED = re.compile(r"^(\S+ (?:t )?c(?: κs)?) =(.*)$")  # of a cycle of calls it takes `t` first
 CHAIN = re.compile(r"(?<![\w·-])c((?: \.before){3,})(?: \.([^\s()\[\]{},;]+))?")
 
 
@@ -112,9 +112,7 @@ def chain_names(text):
         found.setdefault(m[1].count(".before"), []).append(m[2])
     names, taken = {}, set(re.findall(r"\blet (\S+)", text))
     for length in sorted(found):
-        read = [r for r in found[length] if r]
-        if not read:
-            continue
+        read = [r for r in found[length] if r] or ["place"]
         name = "at-entry" if {"pre", "args"} & set(read) else "at-" + read[0]
         while name in taken:
             name += "′"
