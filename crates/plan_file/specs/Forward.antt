@@ -1,9 +1,7 @@
 -- What `levels` and `deepest` say from the end of a list, a walk from its front says too: every closing closes a group that was opened,
 -- none stays open, and so many are open at once.
-use Rattle.model.specs.Prelude.{ℕ, zero, suc, _+_, _≡_, refl, ap₂, _∙_, Bool, true, false, List, [], _∷_, arith, ltb, lt-ltb, le-ltb}
-use Rattle.model.specs.Prelude.{ltb-true, ltb-false, false≢true}
-use Rattle.model.specs.BoolLaws.{by-test}
-use Rattle.plan_file.specs.{Levels.level-closed, Plan.{Event, opened, used, closed, other}, Write.{levelAt, levels, larger, deepest}}
+use Rattle.model.specs.Prelude.{ℕ, zero, suc, _+_, _≡_, refl, ap₂, _∙_, Bool, true, false, List, [], _∷_, arith, max, false≢true}
+use Rattle.plan_file.specs.{Levels.level-closed, Plan.{Event, opened, used, closed, other}, Write.{levelAt, levels, deepest}}
 
 -- with k groups open, the events close them all, and none that is not open
 unfoldable pub balancedFrom : List Event → ℕ → Bool
@@ -18,15 +16,14 @@ balancedFrom (other ∷ es) k = false
 -- the most groups open at once, with k open at the start
 unfoldable pub deepestFrom : List Event → ℕ → ℕ
 deepestFrom [] k = k
-deepestFrom (opened ∷ es) k = larger k (deepestFrom es (suc k))
-deepestFrom (used p ∷ es) k = larger k (deepestFrom es k)
+deepestFrom (opened ∷ es) k = max k (deepestFrom es (suc k))
+deepestFrom (used p ∷ es) k = max k (deepestFrom es k)
 deepestFrom (closed ∷ es) zero = deepestFrom es zero
-deepestFrom (closed ∷ es) (suc k) = larger (suc k) (deepestFrom es k)
-deepestFrom (other ∷ es) k = larger k (deepestFrom es k)
+deepestFrom (closed ∷ es) (suc k) = max (suc k) (deepestFrom es k)
+deepestFrom (other ∷ es) k = max k (deepestFrom es k)
 
-same-larger : (a b : ℕ) → larger (a + 1) (b + 1) ≡ larger a b + 1
-same-larger a b = by-test (λ (k : ℕ). larger (a + 1) (b + 1) ≡ k + 1) (ltb a b)
-    (λ e. rw (lt-ltb (a + 1) (b + 1) (omega (arith, ltb-true a b e)))) (λ e. rw (le-ltb (a + 1) (b + 1) (omega (arith, ltb-false a b e))))
+same-max : (a b : ℕ) → max (a + 1) (b + 1) ≡ max a b + 1
+same-max a b = omega arith
 
 closed-from : (n k : ℕ) → levelAt closed n ≡ suc k + 1 → n ≡ k + 1
 closed-from zero k e = absurd (omega arith)
@@ -63,12 +60,12 @@ deepest-levels : (es : List Event) (k : ℕ) → balancedFrom es k ≡ true → 
 unfolding balancedFrom deepest deepestFrom
 deepest-levels [] zero e = refl
 deepest-levels [] (suc k) e = absurd (false≢true e)
-deepest-levels (opened ∷ es) k e = ap₂ larger (balanced-levels (opened ∷ es) k e) (deepest-levels es (suc k) e)
-    ∙ same-larger k (deepestFrom es (suc k))
-deepest-levels (used p ∷ es) k e = ap₂ larger (balanced-levels (used p ∷ es) k e) (deepest-levels es k e) ∙ same-larger k (deepestFrom es k)
+deepest-levels (opened ∷ es) k e = ap₂ max (balanced-levels (opened ∷ es) k e) (deepest-levels es (suc k) e)
+    ∙ same-max k (deepestFrom es (suc k))
+deepest-levels (used p ∷ es) k e = ap₂ max (balanced-levels (used p ∷ es) k e) (deepest-levels es k e) ∙ same-max k (deepestFrom es k)
 deepest-levels (closed ∷ es) zero e = absurd (false≢true e)
-deepest-levels (closed ∷ es) (suc k) e = ap₂ larger (balanced-levels (closed ∷ es) (suc k) e) (deepest-levels es k e)
-    ∙ same-larger (suc k) (deepestFrom es k)
+deepest-levels (closed ∷ es) (suc k) e = ap₂ max (balanced-levels (closed ∷ es) (suc k) e) (deepest-levels es k e)
+    ∙ same-max (suc k) (deepestFrom es k)
 deepest-levels (other ∷ es) k e = absurd (false≢true e)
 
 -- a list is balanced if a walk from its front says so, and only then

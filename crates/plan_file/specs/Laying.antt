@@ -1,13 +1,13 @@
 -- The list is laid out from its end: what stands in the borrowed file, and where the groups end that are still open.
 use Rattle.model.specs.Prelude.{ℕ, zero, suc, _+_, _*_, _-_, _<_, _≤_, _≡_, refl, ap, sym, _∙_, List, [], _∷_, _++_, append-assoc, arith}
-use Rattle.model.specs.Prelude.{length, take, drop, getD, set, length-drop, length-set, length-take-le, eqb, eq-eqb, ne-eqb}
+use Rattle.model.specs.Prelude.{max, length, take, drop, getD, set, length-drop, length-set, length-take-le, eqb, eq-eqb, ne-eqb}
 use Rattle.model.specs.BoolLaws.{by-test}
 use Rattle.plan_file.specs.Plan.{Event, opened, used, closed}
-use Rattle.plan_file.specs.Write.{eventOf, eventAt, eventsFrom, levelAt, levels, larger, deepest, head, onTop, shut, written, top}
-use Rattle.plan_file.specs.{Write.widest, Writing.{cost, costs, putAt, Fine, Laid}, WritingLaws.put-at-drop}
+use Rattle.plan_file.specs.Write.{eventOf, eventAt, eventsFrom, levelAt, levels, deepest, head, onTop, shut, written, top, widest}
+use Rattle.plan_file.specs.{Writing.{cost, costs, putAt, Fine, Laid}, WritingLaws.put-at-drop}
 use Rattle.plan_file.specs.Events.{kindBefore, bytesBefore, next-event, events-back, none-left, all-left}
-use Rattle.plan_file.specs.Levels.{larger-right, level-closed, level-tail, level-deep, levels-length, flat, flat-push, flat-top}
-use Rattle.plan_file.specs.Levels.{flat-shut, flat-one, Ends, ends-push, ends-top, ends-shut, size-of}
+use Rattle.plan_file.specs.Levels.{level-closed, level-tail, level-deep, levels-length, flat, flat-push, flat-top, flat-shut}
+use Rattle.plan_file.specs.Levels.{flat-one, Ends, ends-push, ends-top, ends-shut, size-of}
 
 -- ---- A list that was judged, and what lies behind any event of it
 record Safe (es : List Event) (total : ℕ) : Type 0 where
@@ -20,7 +20,7 @@ unfolding levels deepest costs
 safe-tail {e} {es} s =
     record {
       level = level-tail e (levels es) (s .level);
-      deep = omega (arith, s .deep, larger-right (levels (e ∷ es)) (deepest es));
+      deep = omega (arith, s .deep);
       sum = omega (arith, s .sum);
     }
 
@@ -117,7 +117,7 @@ module _ {es : List Event} {total : ℕ} {l : List ℕ} {level p wide : ℕ} {en
       }
 
   lay-opened : {m₁ : List ℕ} {wide₁ : ℕ} → Shutting es level p ends → m₁ ≡ putAt (p - 3) (head 1 (getD ends (level - 1) 0 - p)) m
-      → length m₁ ≡ length m → wide₁ ≡ larger wide (getD ends (level - 1) 0 - p)
+      → length m₁ ≡ length m → wide₁ ≡ max wide (getD ends (level - 1) 0 - p)
       → Laying (opened ∷ es) total l (level - 1) (p - 3) wide₁ ends m₁
   unfolding costs levels written widest
   lay-opened {m₁} {wide₁} s e k w =
@@ -125,7 +125,7 @@ module _ {es : List Event} {total : ℕ} {l : List ℕ} {level p wide : ℕ} {en
         place = omega (arith, g .place, s .room);
         depth = omega (arith, g .depth, s .some);
         at = ends-shut (written es) p (p - 3) ends (omega (arith, s .room)) (g .at);
-        width = w ∙ ap (λ (j : ℕ). larger wide j) size ∙ ap (λ (j : ℕ). larger j (length (top (written es)))) (g .width);
+        width = w ∙ ap (λ (j : ℕ). max wide j) size ∙ ap (λ (j : ℕ). max j (length (top (written es)))) (g .width);
         long = k ∙ g .long;
         eight = g .eight;
         bytes = λ h. there (s .room) (s .some) size (omega (arith, h, g .place, g .long)) h;
@@ -195,7 +195,7 @@ module _ {t : List ℕ} {n total : ℕ} (f : Fine (eventsFrom t n 0) total) {l :
   opening k = opened-low (g .state) safe-here (safe-as (opened-is k))
 
   pub turn-opened : kindBefore t i ≡ 1 → {m₁ : List ℕ} {wide₁ : ℕ} → m₁ ≡ putAt (p - 3) (head 1 (getD ends (level - 1) 0 - p)) m
-      → length m₁ ≡ length m → wide₁ ≡ larger wide (getD ends (level - 1) 0 - p)
+      → length m₁ ≡ length m → wide₁ ≡ max wide (getD ends (level - 1) 0 - p)
       → LayingAt t n total l (level - 1) (p - 3) wide₁ (i - 1) ends m₁
   turn-opened k a b c = lay-as (opened-is k) (lay-opened (g .state) (opening k) a b c)
 

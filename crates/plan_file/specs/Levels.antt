@@ -1,23 +1,13 @@
 -- The writer's definitions: levels and depths, the bytes of each level and where it ends, and what an accepted list is.
 use Rattle.model.specs.Prelude.{ℕ, zero, suc, _+_, _-_, _<_, _≤_, _≡_, refl, ap, subst, _∙_, List, [], _∷_, _++_, append-assoc, append-nil}
-use Rattle.model.specs.Prelude.{arith, length, getD, set, length-append, getD-set-same, getD-set-other, ltb, eqb, ne-eqb, ltb-true}
-use Rattle.model.specs.Prelude.{ltb-false, Bool, true, false, eqb-true}
+use Rattle.model.specs.Prelude.{arith, length, getD, set, length-append, getD-set-same, getD-set-other, ltb, eqb, ne-eqb, ltb-false, Bool}
+use Rattle.model.specs.Prelude.{true, false, eqb-true}
 use Rattle.model.specs.{declared.Refusal.Refusal, declared.Refusal.the-variants.{GroupsTooDeep, PlanUnbalanced, GroupTooLong}}
-use Rattle.model.specs.{BoolLaws.by-test, Base.if_then_else_}
+use Rattle.model.specs.Base.{if_then_else_}
 use Rattle.plan_file.specs.Plan.{Event, opened, used, closed, other}
-use Rattle.plan_file.specs.Write.{levelAt, levels, larger, deepest, head, onTop, push, shut, written, top, widest, wrote, not}
-use Rattle.plan_file.specs.Write.{writePlan}
+use Rattle.plan_file.specs.Write.{levelAt, levels, deepest, head, onTop, push, shut, written, top, widest, wrote, not, writePlan}
 
 -- ---- Levels
-pub larger-left : (a b : ℕ) → a ≤ larger a b
-larger-left a b = by-test (λ (k : ℕ). a ≤ k) (ltb a b) (λ e. omega (arith, ltb-true a b e)) (λ e. omega arith)
-
-pub larger-right : (a b : ℕ) → b ≤ larger a b
-larger-right a b = by-test (λ (k : ℕ). b ≤ k) (ltb a b) (λ e. omega arith) (λ e. omega (arith, ltb-false a b e))
-
-pub larger-low : (a b c : ℕ) → a ≤ c → b ≤ c → larger a b ≤ c
-larger-low a b c h g = by-test (λ (k : ℕ). k ≤ c) (ltb a b) (λ e. g) (λ e. h)
-
 pub level-closed : (k : ℕ) → 1 ≤ k → levelAt closed k ≡ k + 1
 level-closed k h = rw (ne-eqb k 0 (λ z. omega arith))
 
@@ -31,7 +21,7 @@ level-tail other k h = absurd (omega arith)
 pub level-deep : (es : List Event) → levels es ≤ deepest es
 unfolding levels deepest
 level-deep [] = omega arith
-level-deep (e ∷ es) = larger-left (levels (e ∷ es)) (deepest es)
+level-deep (e ∷ es) = omega arith
 
 -- ---- The bytes of each level
 shut-length : (st : List (List ℕ)) → length (shut st) ≡ length st - 1

@@ -2,7 +2,7 @@
 use Rattle.model.specs.Prelude.{ℕ, _+_, _*_, _%_, _≤_, _≡_, refl, ap, sym, subst, _∙_, Bool, true, false, List, [], _∷_, _++_, arith}
 use Rattle.model.specs.Prelude.{length, length-append, ltb, eqb}
 use Rattle.model.specs.{declared.Refusal.Refusal, declared.Refusal.the-variants.{GroupsTooDeep, PlanUnbalanced, GroupTooLong}}
-use Rattle.model.specs.{Refusals.numberOf, Base.if_then_else_, BoolLaws.by-test}
+use Rattle.model.specs.{Refusals.numberOf, Base.{if_then_else_, All}}
 use Rattle.plan_file.specs.{Uses.countOf, Plan.{Event, opened, used, closed, other, Read, took, no, around, after, readPlan}}
 use Rattle.plan_file.specs.Write.{levels, deepest, head, onTop, push, shut, written, top, widest, wrote, not, writePlan}
 use Rattle.plan_file.specs.{Writing.costs, ReadAnswers.{Wide, WideRead, wide-fields}}
@@ -85,8 +85,7 @@ uses-few (other ∷ es) = omega (arith, uses-few es)
 
 -- ---- Every group holds a multiple of three bytes
 abbrev Thirds : List (List ℕ) → Type 0
-Thirds [] = Unit
-Thirds (g ∷ gs) = (length g % 3 ≡ 0) × Thirds gs
+Thirds st = All (λ (g : List ℕ). length g % 3 ≡ 0) st
 
 thirds-push : (st : List (List ℕ)) → Thirds st → Thirds (push st)
 thirds-push [] h = tt
@@ -116,9 +115,7 @@ top-third (g ∷ gs) h = h .0
 pub widest-third : (es : List Event) → Wide es → widest es % 3 ≡ 0
 unfolding widest
 widest-third [] w = refl
-widest-third (opened ∷ es) w =
-    by-test (λ (k : ℕ). k % 3 ≡ 0) (ltb (widest es) (length (top (written es)))) (λ _. top-third (written es) (thirds es (w .1)))
-    (λ _. widest-third es (w .1))
+widest-third (opened ∷ es) w = omega (arith, top-third (written es) (thirds es (w .1)), widest-third es (w .1))
 widest-third (used p ∷ es) w = widest-third es (w .1)
 widest-third (closed ∷ es) w = widest-third es (w .1)
 widest-third (other ∷ es) w = widest-third es (w .1)

@@ -1,12 +1,8 @@
 -- Bytes and numbers of a use tell the same: packing eight numbers into 15 bytes undoes what `uses` lists, and the other way round.
-use Rattle.model.specs.Prelude.{ℕ, zero, suc, _+_, _*_, _/_, _%_, _^_, _<_, arith, _≡_, refl, sym, ap, _∙_, List, [], _∷_, _++_, length}
-use Rattle.model.specs.Prelude.{take, drop, length-drop, drop-at, take-append-drop, length-take-le, take-at}
-use Rattle.plan_file.specs.{Bytes.{Bytes, bytes-take, bytes-drop}, Uses.{lowFirst, widths, numbersBy, numbersOf}}
-
--- a number in w bytes, low byte first
-abbrev pub bytesIn : ℕ → ℕ → List ℕ
-bytesIn zero n = []
-bytesIn (suc w) n = n % 256 ∷ bytesIn w (n / 256)
+use Rattle.model.specs.Prelude.{ℕ, zero, suc, _+_, _/_, _^_, _<_, arith, _≡_, refl, sym, ap, _∙_, List, [], _∷_, _++_, length, take, drop}
+use Rattle.model.specs.Prelude.{length-drop, drop-at, take-append-drop, length-take-le, take-at}
+use Rattle.plan_file.specs.Bytes.{lowFirst, Bytes, bytesIn, number-back, number-there, bytes-take, bytes-drop}
+use Rattle.plan_file.specs.Uses.{widths, numbersBy, numbersOf}
 
 -- numbers in bytes, each by its width
 unfoldable pub bytesBy : List ℕ → List ℕ → List ℕ
@@ -16,14 +12,6 @@ bytesBy (w ∷ ws) (u ∷ us) = bytesIn w u ++ bytesBy ws us
 
 abbrev pub bytesOf : List ℕ → List ℕ
 bytesOf us = bytesBy widths us
-
-number-back : (p : List ℕ) → Bytes p → bytesIn (length p) (lowFirst p) ≡ p
-number-back [] h = refl
-number-back (b ∷ bs) h =
-    let k = h .0 in
-    let low : (b + 256 * lowFirst bs) % 256 ≡ b = omega arith in
-    let high : (b + 256 * lowFirst bs) / 256 ≡ lowFirst bs = omega arith in
-    rw (low, high) (ap (λ (s : List ℕ). b ∷ s) (number-back bs (h .1)))
 
 -- as many bytes as the widths take
 abbrev pub total : List ℕ → ℕ
@@ -52,10 +40,6 @@ Fit (w ∷ ws) (u ∷ us) = (u < 256 ^ w) × Fit ws us
 number-long : (w n : ℕ) → length (bytesIn w n) ≡ w
 number-long zero n = refl
 number-long (suc w) n = ap suc (number-long w (n / 256))
-
-number-there : (w n : ℕ) → n < 256 ^ w → lowFirst (bytesIn w n) ≡ n
-number-there zero n h = omega arith
-number-there (suc w) n h = let k = number-there w (n / 256) (omega arith) in omega arith
 
 numbers-there : (ws us : List ℕ) → Fit ws us → numbersBy ws (bytesBy ws us) ≡ us
 unfolding numbersBy bytesBy

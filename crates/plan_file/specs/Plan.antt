@@ -1,11 +1,11 @@
 -- Plan files (request 08): what a file says, and what the reader does with borrowed items.
 -- "Fields have a one-byte tag and a two-byte length, then that many bytes; all numbers go low byte first. Tag 1 is a group, tag 2 a use of
 -- 15 bytes. A group holds fields, and a field is a use or a group, groups nested at most eight deep."
-use Rattle.model.specs.Prelude.{ℕ, zero, suc, _+_, _*_, _-_, _/_, _≡_, Bool, true, List, [], _∷_, _++_, ltb, eqb, length, take, drop, getD}
+use Rattle.model.specs.Prelude.{ℕ, zero, suc, _+_, _*_, _-_, _/_, Bool, true, List, [], _∷_, _++_, ltb, eqb, length, take, drop, getD}
 use Rattle.model.specs.Prelude.{replicate}
 use Rattle.model.specs.declared.Refusal.the-variants.{FieldCutShort, UnknownTag, UseOfWrongSize, GroupsTooDeep, NoFreeEntry}
-use Rattle.model.specs.{declared.{Refusal.Refusal, Verdict.Verdict}, Base.if_then_else_}
-use Rattle.plan_file.specs.declared.{PlanAnswer.PlanAnswer}
+use Rattle.model.specs.{declared.Refusal.Refusal, Base.if_then_else_}
+use Rattle.plan_file.specs.{declared.PlanAnswer.PlanAnswer, Bytes.lowFirst}
 
 -- ---- What a plan is: "a list of opened, use and closed, in file order"; a use has its bytes. `other` is an item of no such kind, which
 -- only a list to be written can have.
@@ -25,9 +25,9 @@ pub data Read : Type 0 where
 abbrev pub tagOf : List ℕ → ℕ
 tagOf s = getD s 0 0
 
--- how many bytes it holds: its length, low byte first
+-- how many bytes it holds: its length
 abbrev pub lengthOf : List ℕ → ℕ
-lengthOf s = getD s 1 0 + 256 * getD s 2 0
+lengthOf s = lowFirst (getD s 1 0 ∷ getD s 2 0 ∷ [])
 
 -- how many bytes it takes, tag and length with them
 abbrev pub sizeOf : List ℕ → ℕ

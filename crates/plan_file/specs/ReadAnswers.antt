@@ -2,7 +2,7 @@
 use Rattle.model.specs.Prelude.{ℕ, suc, _+_, _*_, _/_, _<_, _≤_, _≡_, refl, ap, sym, subst, _∙_, true, false, List, [], _∷_, _++_}
 use Rattle.model.specs.Prelude.{append-assoc, arith, length, drop, length-drop, length-append, take-at, drop-drop, drop-append-add, ltb}
 use Rattle.model.specs.Prelude.{lt-ltb, le-ltb}
-use Rattle.model.specs.{declared.{Refusal.Refusal, Verdict.Verdict}, declared.Refusal.the-variants.NoFreeEntry}
+use Rattle.model.specs.{declared.{Refusal.Refusal, Verdict.Verdict}, declared.Refusal.the-variants.NoFreeEntry, Base.All, ListLaws.all-join}
 use Rattle.plan_file.specs.{declared.reader.Step.Step, declared.PlanAnswer.PlanAnswer}
 use Rattle.plan_file.specs.Plan.{Event, opened, used, closed, other, Read, took, no, around, after, fields, readPlan, item, items}
 use Rattle.plan_file.specs.{Plan.{answerOf, leftOf}, Reading.{putItem, putAll, CameAs, GroupRead, PlanRead}}
@@ -16,24 +16,19 @@ WideUse closed = Unit
 WideUse other = Unit
 
 abbrev pub Wide : List Event → Type 0
-Wide [] = Unit
-Wide (e ∷ es) = WideUse e × Wide es
+Wide es = All WideUse es
 
 abbrev pub WideRead : Read → Type 0
 WideRead (took es) = Wide es
 WideRead (no r) = Unit
 
-wide-append : (a b : List Event) → Wide a → Wide b → Wide (a ++ b)
-wide-append [] b p q = q
-wide-append (e ∷ a) b p q = (p .0, wide-append a b (p .1) q)
-
 wide-after : (a b : Read) → WideRead a → WideRead b → WideRead (after a b)
-wide-after (took x) (took y) p q = wide-append x y p q
+wide-after (took x) (took y) p q = all-join WideUse x y p q
 wide-after (took x) (no c) p q = tt
 wide-after (no c) b p q = tt
 
 wide-around : (a : Read) → WideRead a → WideRead (around a)
-wide-around (took x) p = (tt, wide-append x (closed ∷ []) p (tt, tt))
+wide-around (took x) p = (tt, all-join WideUse x (closed ∷ []) p (tt, tt))
 wide-around (no c) p = tt
 
 pub wide-fields : (n d : ℕ) (s : List ℕ) → WideRead (fields n d s)

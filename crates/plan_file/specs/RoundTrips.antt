@@ -1,13 +1,14 @@
 -- The round trips: an accepted file read and written is the same bytes, an accepted list written and read is the same events.
-use Rattle.model.specs.Prelude.{ℕ, zero, suc, _+_, _*_, _-_, _/_, _%_, _<_, _≤_, _≡_, refl, ap, sym, subst, _∙_, false, List, [], _∷_, _++_}
-use Rattle.model.specs.Prelude.{append-assoc, append-nil, arith, length, take, drop, length-take, length-drop, length-append}
-use Rattle.model.specs.Prelude.{take-append-drop, take-at, drop-at, length-take-le, eqb, le-ltb, eq-eqb, eqb-true, eqb-false}
+use Rattle.model.specs.Prelude.{ℕ, zero, suc, _+_, _-_, _<_, _≤_, _≡_, refl, ap, sym, subst, _∙_, false, List, [], _∷_, _++_, append-assoc}
+use Rattle.model.specs.Prelude.{append-nil, arith, length, take, drop, length-take, length-drop, length-append, take-append-drop, take-at}
+use Rattle.model.specs.Prelude.{drop-at, length-take-le, eqb, le-ltb, eq-eqb, eqb-true, eqb-false}
 use Rattle.model.specs.BoolLaws.{by-test}
 use Rattle.plan_file.specs.Plan.{Event, opened, used, closed, other, Read, took, no, tagOf, lengthOf, sizeOf, content, cutShort}
-use Rattle.plan_file.specs.{Plan.{asUse, around, after, field, fields, run, readPlan}, Bytes.{Bytes, bytes-take, bytes-drop}}
+use Rattle.plan_file.specs.Plan.{asUse, around, after, field, fields, run, readPlan}
+use Rattle.plan_file.specs.Bytes.{Bytes, bytes-take, bytes-drop, number-back, number-there}
 use Rattle.plan_file.specs.{ReadingLaws.{uncut, run-step, field-use, field-group}, ReadAnswers.Wide}
 use Rattle.plan_file.specs.Write.{levels, deepest, head, onTop, push, shut, written, top, widest, wrote, writePlan}
-use Rattle.plan_file.specs.Levels.{larger-left, larger-right, larger-low, level-closed, level-tail, level-deep, levels-length, passed}
+use Rattle.plan_file.specs.Levels.{level-closed, level-tail, level-deep, levels-length, passed}
 
 -- ---- A file read and written
 -- a list of events that may follow fields, where d groups may still be nested
@@ -48,7 +49,7 @@ same-use d p es h = (
   record {
     level = h .level;
     some = h .some;
-    deep = larger-low (levels es) (deepest es) 9 (omega (arith, h .deep, level-deep es)) (h .deep);
+    deep = omega (arith, h .deep, level-deep es);
     width = h .width;
   },
   refl,
@@ -65,7 +66,7 @@ same-group d s (took x) k n p = λ es h.
     let v = p (closed ∷ es) (record {
       level = omega (arith, h .level, up);
       some = omega (arith, up);
-      deep = larger-low (levels (closed ∷ es)) (deepest es) 9 (omega (arith, h .level, up)) (h .deep);
+      deep = omega (arith, h .level, h .deep, up);
       width = h .width;
     }) in
     let w : written (x ++ (closed ∷ es)) ≡ onTop s (push (written es)) = v .1 in
@@ -76,9 +77,8 @@ same-group d s (took x) k n p = λ es h.
     let behind : Behind d (opened ∷ (x ++ (closed ∷ es))) = record {
       level = omega (arith, one, h .level, h .some);
       some = omega (arith, one, h .level, h .some);
-      deep = larger-low (levels (opened ∷ (x ++ (closed ∷ es)))) (deepest (x ++ (closed ∷ es))) 9 (omega (arith, one)) (v .0 .deep);
-      width = larger-low (widest (x ++ (closed ∷ es))) (length (top (written (x ++ (closed ∷ es))))) 65535
-          (v .0 .width) (omega (arith, tops));
+      deep = omega (arith, one, v .0 .deep);
+      width = omega (arith, tops, v .0 .width);
     } in
     let shape : (opened ∷ (x ++ (closed ∷ []))) ++ es ≡ opened ∷ (x ++ (closed ∷ es)) =
     ap (λ (z : List Event). opened ∷ z) (append-assoc x (closed ∷ []) es) in
@@ -93,18 +93,15 @@ same-group d s (took x) k n p = λ es h.
     shuts s (g ∷ gs) = ap (λ (z : List ℕ). (head 1 (length z) ++ (z ++ g)) ∷ gs) (append-nil s)
 
 -- the first three bytes of a field are its tag and its length, and what it holds follows
-two-bytes : (a b : ℕ) → a < 256 → b < 256 → ((a + 256 * b) % 256 ≡ a) × ((a + 256 * b) / 256 % 256 ≡ b)
-two-bytes a b h g = (omega arith, omega arith)
-
 front : (s : List ℕ) → Bytes s → 3 ≤ length s → take (sizeOf s) s ≡ head (tagOf s) (lengthOf s) ++ content s
 front [] b h = absurd (omega arith)
 front (x ∷ []) b h = absurd (omega arith)
 front (x ∷ (y ∷ [])) b h = absurd (omega arith)
 front (x ∷ (y ∷ (z ∷ s))) b h =
-    let q = two-bytes y z (b .1 .0) (b .1 .1 .0) in
-    let e : 3 + (y + 256 * z) ≡ suc (suc (suc (y + 256 * z))) = omega arith in
-    ap (λ (n : ℕ). take n (x ∷ (y ∷ (z ∷ s)))) e ∙ sym (ap (λ (k : ℕ). x ∷ (k ∷ ((y + 256 * z) / 256 % 256 ∷ take (y + 256 * z) s))) (q .0)
-    ∙ ap (λ (k : ℕ). x ∷ (y ∷ (k ∷ take (y + 256 * z) s))) (q .1))
+    let n = lengthOf (x ∷ (y ∷ (z ∷ s))) in
+    let e : 3 + n ≡ suc (suc (suc n)) = omega arith in
+    ap (λ (m : ℕ). take m (x ∷ (y ∷ (z ∷ s)))) e
+    ∙ sym (ap (λ (p : List ℕ). x ∷ (p ++ take n s)) (number-back (y ∷ (z ∷ [])) (b .1 .0, (b .1 .1 .0, tt))))
 
 low-length : (s : List ℕ) → Bytes s → 3 ≤ length s → lengthOf s ≤ 65535
 low-length [] b h = absurd (omega arith)
@@ -170,10 +167,7 @@ file-round-trip f es b e =
 -- a field of a tag, a length and so many bytes x, with g behind it
 module _ (t : ℕ) (x g : List ℕ) (h : length x ≤ 65535) where
   field-length : lengthOf (head t (length x) ++ (x ++ g)) ≡ length x
-  field-length = back (length x) h
-    where
-      back : (n : ℕ) → n ≤ 65535 → n % 256 + 256 * (n / 256 % 256) ≡ n
-      back n h = omega arith
+  field-length = number-there 2 (length x) (omega arith)
 
   field-content : content (head t (length x) ++ (x ++ g)) ≡ x
   field-content = ap (λ (n : ℕ). take n (x ++ g)) field-length ∙ take-at x g (length x) refl
@@ -274,15 +268,15 @@ reads-all : (es : List Event) → 1 ≤ levels es → deepest es ≤ 9 → wides
 unfolding levels deepest widest written fields
 reads-all [] l d v w = refl
 reads-all (opened ∷ es) l d v w =
-    let d₁ : deepest es ≤ 9 = omega (arith, larger-right (levels (opened ∷ es)) (deepest es)) in
+    let d₁ : deepest es ≤ 9 = omega arith in
     reads-opened (written es) es (omega (arith, levels-length es)) (omega (arith, levels-length es, level-deep es))
-    (omega (arith, larger-right (widest es) (length (top (written es)))))
-    (reads-all es (omega arith) d₁ (omega (arith, larger-left (widest es) (length (top (written es))))) (w .1))
+    (omega arith)
+    (reads-all es (omega arith) d₁ (omega arith) (w .1))
 reads-all (used p ∷ es) l d v w =
-    reads-used p (written es) es (w .0) (reads-all es l (omega (arith, larger-right (levels es) (deepest es))) v (w .1))
+    reads-used p (written es) es (w .0) (reads-all es l (omega arith) v (w .1))
 reads-all (closed ∷ es) l d v w =
     reads-closed (written es) es
-    (reads-all es (level-tail closed (levels es) l) (omega (arith, larger-right (levels (closed ∷ es)) (deepest es))) v (w .1))
+    (reads-all es (level-tail closed (levels es) l) (omega arith) v (w .1))
 reads-all (other ∷ es) l d v w = absurd (omega arith)
 
 -- AN ACCEPTED LIST WRITTEN AND READ IS THE SAME EVENTS

@@ -1,15 +1,10 @@
 -- The uses of a plan as numbers: THE DEFINITION of `uses`, its contract, and uses that are computed.
 use Rattle.model.specs.Prelude.{ℕ, suc, _+_, _*_, _/_, _≡_, refl, List, [], _∷_, _++_, ltb, length, take, drop, replicate}
 use Rattle.model.specs.{declared.Refusal.the-variants.NoFreeEntry, Base.if_then_else_}
-use Rattle.plan_file.specs.{declared.PlanAnswer.PlanAnswer, declared.PlanAnswer.the-variants.{Done, Refused}}
+use Rattle.plan_file.specs.{declared.PlanAnswer.PlanAnswer, declared.PlanAnswer.the-variants.{Done, Refused}, Bytes.lowFirst}
 use Rattle.plan_file.specs.{Plan.{Event, opened, used, closed, other}, Write.{eventsFrom, eventsOf}}
 
 -- ---- One use
--- "all numbers go low byte first"
-abbrev pub lowFirst : List ℕ → ℕ
-lowFirst [] = 0
-lowFirst (b ∷ bs) = b + 256 * lowFirst bs
-
 -- "index 4, mips 1, layers 2, mip start 1, mip end 1, layer start 2, layer end 2, state 2"
 abbrev pub widths : List ℕ
 widths = 4 ∷ 1 ∷ 2 ∷ 1 ∷ 1 ∷ 2 ∷ 2 ∷ 2 ∷ []

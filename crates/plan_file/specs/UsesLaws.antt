@@ -4,9 +4,9 @@ use Rattle.model.specs.Prelude.{ℕ, zero, suc, _+_, _-_, _*_, _/_, _<_, _≤_,
 use Rattle.model.specs.Prelude.{append-assoc, append-nil, length, take, drop, getD, sets, length-append, drop-length, drop-at, drop-cons}
 use Rattle.model.specs.Prelude.{drop-drop, sets-eq, take-at, lt-ltb, le-ltb, ne-eqb}
 use Rattle.model.specs.{declared.Refusal.the-variants.NoFreeEntry, BoolLaws.by-eq}
-use Rattle.plan_file.specs.{declared.PlanAnswer.the-variants.{Done, Refused}, Plan.{Event, opened, used, closed, other}}
-use Rattle.plan_file.specs.{Write.{eventOf, eventsFrom, eventsOf}, Uses.{lowFirst, numbersBy, numbersOf, usesOf, countOf, UsesListed}}
-use Rattle.plan_file.specs.Events.{following, no-event}
+use Rattle.plan_file.specs.{declared.PlanAnswer.the-variants.{Done, Refused}, Bytes.lowFirst}
+use Rattle.plan_file.specs.{Plan.{Event, opened, used, closed, other}, Write.{eventOf, eventsFrom, eventsOf}}
+use Rattle.plan_file.specs.{Uses.{numbersBy, numbersOf, usesOf, countOf, UsesListed}, Events.{following, no-event}}
 use lib.Seq.{length-sets}
 
 -- ---- One use, byte by byte

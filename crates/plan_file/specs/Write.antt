@@ -1,10 +1,10 @@
 -- Writing a plan (request 08): which list is turned away, and the bytes of the file.
 -- Everything goes by what follows an event, from the end of the list to its front: a group's length stands before what the group holds, and
 -- so is known where it is written. specs/Forward says the same of a walk from the front.
-use Rattle.model.specs.Prelude.{ℕ, zero, suc, _+_, _*_, _-_, _/_, _%_, List, [], _∷_, _++_, length, take, drop, getD, ltb, leb, eqb}
+use Rattle.model.specs.Prelude.{ℕ, zero, suc, _+_, _*_, _-_, _/_, List, [], _∷_, _++_, length, take, drop, getD, ltb, eqb, max}
 use Rattle.model.specs.{declared.Refusal.Refusal, declared.Refusal.the-variants.{GroupsTooDeep, PlanUnbalanced, GroupTooLong, NoFreeEntry}}
 use Rattle.model.specs.Base.{if_then_else_}
-use Rattle.plan_file.specs.{declared.PlanAnswer.PlanAnswer, Plan.{Event, opened, used, closed, other}}
+use Rattle.plan_file.specs.{declared.PlanAnswer.PlanAnswer, Bytes.bytesIn, Plan.{Event, opened, used, closed, other}}
 
 -- ---- The list, from its items: 16 bytes each, the k-th at 16 * k
 -- of an opened or closed item the 15 bytes are not read
@@ -37,19 +37,15 @@ unfoldable pub levels : List Event → ℕ
 levels [] = 1
 levels (e ∷ es) = levelAt e (levels es)
 
--- the larger of two
-abbrev pub larger : ℕ → ℕ → ℕ
-larger a b = if ltb a b then b else a
-
 -- the most levels anywhere, the file itself counted: with eight groups one in another, 9
 unfoldable pub deepest : List Event → ℕ
 deepest [] = 1
-deepest (e ∷ es) = larger (levels (e ∷ es)) (deepest es)
+deepest (e ∷ es) = max (levels (e ∷ es)) (deepest es)
 
 -- ---- The bytes
--- a number below 65,536 in two bytes, low byte first, after its tag
+-- "a one-byte tag and a two-byte length"
 abbrev pub head : ℕ → ℕ → List ℕ
-head tag n = tag ∷ (n % 256 ∷ (n / 256 % 256 ∷ []))
+head tag n = tag ∷ bytesIn 2 n
 
 -- bytes in front of the innermost group's
 abbrev pub onTop : List ℕ → List (List ℕ) → List (List ℕ)
@@ -83,7 +79,7 @@ top (g ∷ gs) = g
 
 -- how many bytes the longest group holds, its own tag and length not counted: a group is measured where it is opened
 abbrev pub widthAt : Event → List (List ℕ) → ℕ → ℕ
-widthAt opened st w = larger w (length (top st))
+widthAt opened st w = max w (length (top st))
 widthAt (used p) st w = w
 widthAt closed st w = w
 widthAt other st w = w

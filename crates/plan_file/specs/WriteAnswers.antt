@@ -9,7 +9,7 @@ use Rattle.plan_file.specs.{declared.writer.Weighed.Weighed, declared.Pl
 use Rattle.plan_file.specs.{Plan.{Event, opened, used, closed, other}, ReadingLaws.unlike, ReadAnswers.{WideUse, Wide}}
 use Rattle.plan_file.specs.Write.{eventAt, eventsFrom, eventsOf, levels, deepest, head, written, top, widest, Wrote, wrote, not}
 use Rattle.plan_file.specs.{Write.{writePlan, answerTo, leftTo}, Writing.{cost, costs, judged, Weighs, Fine, Laid, PlanWritten}}
-use Rattle.plan_file.specs.Levels.{larger-low, flat, flat-push, flat-top, flat-shut, flat-one, levels-length, level-tail}
+use Rattle.plan_file.specs.Levels.{flat, flat-push, flat-top, flat-shut, flat-one, levels-length, level-tail}
 
 -- ---- The uses of a list of items have 15 bytes
 wide-event : (l : List ℕ) (i : ℕ) → 16 * i + 16 ≤ length l → WideUse (eventAt l i)
@@ -58,8 +58,7 @@ unfolding levels widest costs
 narrow [] h w = omega arith
 narrow (opened ∷ es) h w =
     let k : 1 ≤ levels es = omega arith in
-    larger-low (widest es) (length (top (written es))) (3 + costs es - 3) (omega (arith, narrow es k (w .1)))
-    (omega (arith, top-low (written es), flat-length es k (w .1)))
+    omega (arith, narrow es k (w .1), top-low (written es), flat-length es k (w .1))
   where
     top-low : (st : List (List ℕ)) → length (top st) ≤ length (flat st)
     top-low [] = omega arith

@@ -1,8 +1,8 @@
 -- The laws by which the writer's code is the definition.
 use Rattle.model.specs.Prelude.{ℕ, _+_, _*_, _-_, _<_, _≤_, _≡_, refl, ap, sym, _∙_, List, [], _++_, arith, length, take, drop, drop-at}
-use Rattle.model.specs.Prelude.{length-take-le, eqb, le-leb, lt-leb}
+use Rattle.model.specs.Prelude.{max, length-take-le, eqb, le-leb, lt-leb}
 use Rattle.model.specs.{declared.Verdict.Verdict, BoolLaws.{by-test, by-test₂}}
-use Rattle.plan_file.specs.{Plan.{Event, opened, used, closed, other}, Write.{eventOf, eventsFrom, levelAt, levels, larger, deepest}}
+use Rattle.plan_file.specs.{Plan.{Event, opened, used, closed, other}, Write.{eventOf, eventsFrom, levelAt, levels, deepest}}
 use Rattle.plan_file.specs.Writing.{cost, costs, putAt, levelBy, costBy, judged, Weighs}
 use Rattle.plan_file.specs.{Events.{kindBefore, bytesBefore, events-back, none-left, all-left}, Copies.copied}
 use borrow.Rule.Slice.PartMut.{midOf, putMid}
@@ -62,7 +62,7 @@ weigh-starts = record
     { at = rw none-left; depth = rw none-left; sum = rw none-left; within = omega arith; low = omega arith; few = omega arith }
 
 module _ {l : List ℕ} {n level deep total i : ℕ} (g : Weighing l n level deep total i) (h : 0 < i) {level₁ deep₁ cost₁ : ℕ}
-    (a : level₁ ≡ levelBy (kindBefore l i) level) (b : deep₁ ≡ larger level₁ deep)
+    (a : level₁ ≡ levelBy (kindBefore l i) level) (b : deep₁ ≡ max level₁ deep)
     (c : cost₁ ≡ costBy (kindBefore l i)) where
   next : levels (eventsFrom l (n - (i - 1)) (i - 1)) ≡ level₁
   unfolding levels
@@ -71,7 +71,7 @@ module _ {l : List ℕ} {n level deep total i : ℕ} (g : Weighing l n level dee
       ∙ ap (λ (k : ℕ). levelBy (kindBefore l i) k) (sym (g .at)) ∙ sym a)
 
   deeper : deepest (eventsFrom l (n - (i - 1)) (i - 1))
-      ≡ larger (levels (eventsFrom l (n - (i - 1)) (i - 1))) (deepest (eventsFrom l (n - i) i))
+      ≡ max (levels (eventsFrom l (n - (i - 1)) (i - 1))) (deepest (eventsFrom l (n - i) i))
   unfolding deepest
   deeper = rw (events-back l n i h (g .within))
 
@@ -82,7 +82,7 @@ module _ {l : List ℕ} {n level deep total i : ℕ} (g : Weighing l n level dee
   pub weigh-turns : Weighing l n level₁ deep₁ (cost₁ + total) (i - 1)
   weigh-turns = record {
     at = sym next;
-    depth = b ∙ ap (λ (k : ℕ). larger k deep) (sym next) ∙ ap (λ (k : ℕ). larger (levels (eventsFrom l (n - (i - 1)) (i - 1))) k) (g .depth)
+    depth = b ∙ ap (λ (k : ℕ). max k deep) (sym next) ∙ ap (λ (k : ℕ). max (levels (eventsFrom l (n - (i - 1)) (i - 1))) k) (g .depth)
         ∙ sym deeper;
     sum = sym more;
     within = omega (arith, g .within);

@@ -8,7 +8,8 @@ ghost use Prim.Native.Nat.{_+_, _*_, _<_, _≤_};
 ghost use lib.ListN.{length};
 ghost use lib.Seq.{sets};
 ghost use Rattle.plan_file.specs.Write.{eventsFrom};
-ghost use Rattle.plan_file.specs.Uses.{lowFirst, numbersOf, countOf, UsesListed};
+ghost use Rattle.plan_file.specs.Bytes.{lowFirst};
+ghost use Rattle.plan_file.specs.Uses.{numbersOf, countOf, UsesListed};
 
 // A byte as a number of 32 bits.
 fn wide(x: u8) -> u32

@@ -17,6 +17,7 @@ pub struct Step {
     pub count: usize,
 }
 
+// A reader that turns away: it took nothing.
 fn turned_away(r: Refusal, count: usize) -> Step
     ensures { λ x. ⌜ x ≡ turnedAway r count ⌝ }
 {
@@ -27,6 +28,7 @@ fn turned_away(r: Refusal, count: usize) -> Step
     }
 }
 
+// A reader that accepts.
 fn taken(size: usize, count: usize) -> Step
     ensures { λ x. ⌜ x ≡ taken size count ⌝ }
 {

@@ -4,10 +4,10 @@ use crate::parts::held;
 use model::Refusal;
 use model::Verdict;
 ghost use mathlib.Core.Path.{_≡_};
-ghost use Prim.Native.Nat.{_+_, _*_, _<_, _≤_};
+ghost use Prim.Native.Nat.{_+_, _*_, _<_, _≤_, max};
 ghost use lib.Dec.{ltb};
 ghost use lib.ListN.{length};
-ghost use Rattle.plan_file.specs.Write.{larger, head, eventsFrom, widest};
+ghost use Rattle.plan_file.specs.Write.{head, eventsFrom, widest};
 ghost use Rattle.plan_file.specs.Writing.{putAt, levelBy, costBy, judged, Weighs, Fine, Laid, PlanWritten};
 
 // What judging a list tells: whether it is accepted, but for the width of its groups, and how many bytes it makes.
@@ -52,8 +52,9 @@ fn cost_by(kind: u8) -> usize
     0
 }
 
+// The larger of two.
 fn larger_of(a: usize, b: usize) -> usize
-    ensures { λ r. ⌜ r ≡ larger a b ⌝ }
+    ensures { λ r. ⌜ r ≡ max a b ⌝ }
 {
     if a < b { b } else { a }
 }
