@@ -1,6 +1,7 @@
 -- The definitions of plan files, and what is proved of them.
--- Believed: what a file says and what reading does (Plan), what a list writes (Write), the numbers of its uses (Uses), with tables by
--- computation (Samples, and in Uses)
+-- Believed: numbers as bytes (Bytes), what a file says and what reading does (Plan), what a list writes (Write), the numbers of its uses
+-- (Uses), with tables by computation (Samples, and in Uses)
+pub mod Bytes
 pub mod Plan
 pub mod Write
 pub mod Uses
@@ -10,9 +11,8 @@ pub mod Reading
 pub mod Writing
 -- what holds of them
 pub mod Claims
--- its proofs: bytes; the round trips over the definitions; the two calls together; the writer's definitions from the front of a list;
+-- its proofs: the round trips over the definitions; the two calls together; the writer's definitions from the front of a list;
 -- refusals, lengths and rooms; numbers and bytes of a use
-pub mod Bytes
 pub mod RoundTrips
 pub mod Together
 pub mod Forward
