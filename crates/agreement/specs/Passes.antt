@@ -1,7 +1,7 @@
 -- Passes over a texture's mips, one for each piece that is handed in, are one walk over its subresources: for any S that holds a mip, seen
 -- as a list by `view`, with Ok for what holds of it.
 use Rattle.model.specs.Prelude.{ℕ, zero, suc, ◌-◌, ◌+◌, ◌≤◌, ◌<◌, arith, ◌≡◌, refl, sym, ap, ◌∙◌, Bool, true, false, ◌&&◌, Option, none}
-use Rattle.model.specs.Prelude.{some, Option_map, List, [], ◌∷◌, ◌++◌, map, append_assoc, append-nil, map_append, leb, ltb, replicate}
+use Rattle.model.specs.Prelude.{some, Option_map, List, [], ◌∷◌, ◌++◌, map, append_assoc, append-nil, map-append, leb, ltb, replicate}
 use Rattle.model.specs.Prelude.{length, length-replicate, length-append, take, drop, take-append-drop, length-take, le-leb, lt-ltb, le-ltb}
 use Rattle.model.specs.Prelude.{leb-true}
 use Rattle.model.specs.declared.{Extent.Extent, Range.Range}
@@ -60,8 +60,8 @@ module _ {S C K D : Type 0} (view : S → List C) (Ok : S → Type 0) (cl : K �
       → All Ok (d ++ (x ∷ l)) → view x ≡ y → Option_map cl o ≡ o' → GridsOf view Ok cl (map view (d ++ (x ∷ []))) more v
       → GridsOf view Ok cl (map view d) (and_then o (d ++ (x ∷ l)) more) (onward y o' (map view l) v)
   after_row d x l y none o' more v t e q ih =
-      rw (← q) record { tiled = ih.tiled; same = ih.same ∙ rw (map_append view d, append_assoc, e); conflict = ih.conflict }
-  after_row d x l y (some c) o' more v t e q ih = rw (← q) record { tiled = t; same = rw (map_append view d, e); conflict = refl }
+      rw (← q) record { tiled = ih.tiled; same = ih.same ∙ rw (map-append view d, append_assoc, e); conflict = ih.conflict }
+  after_row d x l y (some c) o' more v t e q ih = rw (← q) record { tiled = t; same = rw (map-append view d, e); conflict = refl }
 
 -- Passes over mips, one for each piece: what a pass does with the layers that it names, by the subresources' rule f.
 -- Q holds of the subresources that no pass has met yet.

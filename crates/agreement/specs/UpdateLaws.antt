@@ -1,6 +1,6 @@
 -- A Many texture in a tracker, its start and its end side by side: an update of both is the grid's.
 use Rattle.model.specs.Prelude.{ℕ, zero, suc, ◌-◌, ◌≤◌, ◌<◌, arith, ◌≡◌, refl, sym, ap, ◌∙◌, true, false, Bool, Option, none, some, List}
-use Rattle.model.specs.Prelude.{[], ◌∷◌, ◌++◌, map, map_append, eqb, replicate, length, length-replicate, length-map}
+use Rattle.model.specs.Prelude.{[], ◌∷◌, ◌++◌, map, map-append, eqb, replicate, length, length-replicate, length-map}
 use Rattle.model.specs.declared.{Extent.Extent, InvalidUse.InvalidUse, Range.Range, UsageFlags.UsageFlags}
 use Rattle.model.specs.{Base.{if◌then◌else◌, zip₂, Stop, fine, walk₂, zip₃, passes, walk, All}, Representation.in_mips, StateRules.end_after}
 use Rattle.model.specs.RangedStates.{coalesce, isolate, paint, layer_states, Tiles}
@@ -120,11 +120,11 @@ update_one_lem u sh q t x y z h g o hx hy e =
 
     end_parts : layer_states t.end ≡ ends x ++ (ends y ++ ends z)
     end_parts = sym (zip_ends (layer_states t.end) (layer_states t.start) same) ∙ ap ends e
-        ∙ rw (map_append (λ (c : Pair). c.end) x, map_append (λ (c : Pair). c.end) y)
+        ∙ rw (map-append (λ (c : Pair). c.end) x, map-append (λ (c : Pair). c.end) y)
 
     start_parts : layer_states t.start ≡ starts x ++ (starts y ++ starts z)
     start_parts = sym (zip_starts (layer_states t.end) (layer_states t.start) same) ∙ ap starts e
-        ∙ rw (map_append (λ (c : Pair). c.start) x, map_append (λ (c : Pair). c.start) y)
+        ∙ rw (map-append (λ (c : Pair). c.start) x, map-append (λ (c : Pair). c.start) y)
 
     known : eqb q.state u ≡ false
         → (let s : Two = record {

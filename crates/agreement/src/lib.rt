@@ -21,3 +21,5 @@
 // (AssertLaws, AssertCalls); WebGPU (FitLaws to UsagesJudged). Laws of tests, lists, checks and ranges are crate `model`'s.
 //
 // must-fail/ holds wrong rules, one edit each, that the proofs refuse.
+#![tactic(auto)]
+

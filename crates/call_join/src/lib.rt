@@ -11,6 +11,8 @@
 // What holds: the answer, the head, the entries and the view of the tracker are the model's (model/specs/Log, through specs/Contract), all
 // that is lent stays but what is of the textures that the given set owns, and a refusal leaves every number as it was. The given set is
 // only read.
+#![tactic(auto)]
+
 pub mod calls;
 pub mod every;
 

@@ -11,6 +11,8 @@
 //
 // What holds: the answer and the view of the scope are the model's (model/specs/Calls, through specs/Contract), all that is lent
 // stays but what is of the textures that the call names, and a refusal leaves every number as it was. A given set is only read.
+#![tactic(auto)]
+
 pub mod scope;
 pub mod single;
 pub mod slot;

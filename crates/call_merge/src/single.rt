@@ -15,7 +15,7 @@ use texture_merge::Stopped;
 use texture_merge::from_set::full;
 
 // What a selection names: all of a texture, or what a selector names.
-#[derive(Drop)]
+#[derive(Clone, Copy)]
 pub struct Use {
     pub all: bool,
     pub selector: Selector,

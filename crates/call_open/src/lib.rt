@@ -6,6 +6,8 @@
 // What holds: the answer is the model's (Refusals: `opening_refusal`); otherwise the table is written as specs/Open says, number by
 // number, and its view is the model's newly opened set. The ranges are not written: room that is not needed stays untouched, and what
 // is lent beyond it is ignored.
+#![tactic(auto)]
+
 ghost use Rattle.std.specs.Prelude.{◌≡◌, ◌≤◌, ◌/◌, min};
 ghost use Rattle.model.specs.Refusals.{opening_refusal, refused_for};
 ghost use Rattle.call_open.specs.Open.{asked, headed, cleared, TableOpened, OpenedScope, OpenedTracker};

@@ -16,6 +16,8 @@
 // What holds: the answer, the head, the entries and the views of the tracker and of the scope are the model's (model/specs/Log, through
 // specs/Removed), a refusal leaves every number as it was, the scope's table changes in its words of ownership alone, and of the tracker's
 // numbers all stay but those of the textures that are listed and owned.
+#![tactic(auto)]
+
 pub mod logged;
 pub mod sparse;
 pub mod taken;

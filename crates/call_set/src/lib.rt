@@ -7,6 +7,8 @@
 //
 // What holds: the answer, the head, the entries and the view of the tracker are the model's (model/specs/Log, through specs/Contract), all
 // that is lent stays but what is of the named texture, and a refusal leaves every number as it was.
+#![tactic(auto)]
+
 pub mod single;
 
 pub use single::set_single;

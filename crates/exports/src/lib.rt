@@ -20,6 +20,8 @@
 // What C must see to is what the types say here: each pointer is good for the length beside it (a table's is 2,376), and what a call writes
 // overlaps nothing else that it is lent. A slice is passed as a pointer and a length, two arguments of their own, also where one is the
 // last in a register and the other the first on the stack. C declares it so; so must Rust, which would pass a `&[u32]` there otherwise.
+#![tactic(auto)]
+
 pub mod answers;
 pub mod logs;
 pub mod plans;
@@ -31,7 +33,7 @@ pub mod trackers;
 // What a call answers, in numbers. kind 0: done. 1: refused, by 01's `number`, at `place`. 2: a conflict of the texture `index`, at some
 // mips and layers, between the state that was there and the one that was given. Numbers that a kind does not tell are 0.
 #[repr(C)]
-#[derive(Drop)]
+#[derive(Clone, Copy)]
 pub struct Answer {
     pub kind: u32,
     pub number: u32,
@@ -47,7 +49,7 @@ pub struct Answer {
 
 // What a call with a log answers, and the head of the log after it.
 #[repr(C)]
-#[derive(Drop)]
+#[derive(Clone, Copy)]
 pub struct LoggedAnswer {
     pub answer: Answer,
     pub written: usize,
@@ -57,7 +59,7 @@ pub struct LoggedAnswer {
 // What a call on ranges answers: where the isolated run is, how many ranges it has or were listed, and how many are in use now. Counts
 // that a call does not tell, and those of a refusal, are 0.
 #[repr(C)]
-#[derive(Drop)]
+#[derive(Clone, Copy)]
 pub struct RangesAnswer {
     pub answer: Answer,
     pub position: usize,
@@ -68,7 +70,7 @@ pub struct RangesAnswer {
 // What a merge of two logs answers, the head of the third log after it, and the rest: `rest_length` numbers from `rest_offset` on, of the
 // first log where `rest_first` is 1, and of the second where it is 0.
 #[repr(C)]
-#[derive(Drop)]
+#[derive(Clone, Copy)]
 pub struct MergedAnswer {
     pub answer: Answer,
     pub written: usize,
@@ -80,7 +82,7 @@ pub struct MergedAnswer {
 
 // What a call on plan files answers, and how many items, bytes or uses it wrote: 0 where it is refused.
 #[repr(C)]
-#[derive(Drop)]
+#[derive(Clone, Copy)]
 pub struct CountedAnswer {
     pub answer: Answer,
     pub count: usize,

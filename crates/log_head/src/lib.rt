@@ -5,6 +5,8 @@
 //
 // What holds: each answer is the model's (model/specs/Log), and a refusal leaves the head as it was. specs/Called is the contract of a call
 // that logs, over any view of the sets that it is lent, check by check; specs/UpTo what a loop over textures adds.
+#![tactic(auto)]
+
 ghost use Rattle.std.specs.Prelude.{◌≡◌, ◌+◌, ◌/◌, ◌≤◌, ◌<◌, length, get_or};
 ghost use Rattle.model.specs.Sets.{capacity};
 ghost use Rattle.set_storage.specs.Storage.{numbers_of, layer_limit_at, mip_limit_at, textures_at};

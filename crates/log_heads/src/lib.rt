@@ -8,6 +8,8 @@
 //
 // What holds: what holds of the call that each function hands on to. The `ensures` are that call's own definitions, at what is lent here;
 // so nothing is required, a refusal leaves everything as it was, and nothing more is to be believed.
+#![tactic(auto)]
+
 pub mod logs;
 
 pub use logs::{

@@ -11,6 +11,8 @@
 // What holds: specs/Merge is the definition, specs/Claims what is proved of it, and specs/Calls the contracts. Nothing is required of a
 // caller. Whether there is room (15) is known before anything is written, by the closed form of how many entries are merged; so a refusal
 // leaves everything as it was.
+#![tactic(auto)]
+
 pub mod calls;
 mod order;
 mod weave;
@@ -19,21 +21,21 @@ pub use calls::{hand_over, merge_at, merge_logs, rest_of};
 use model::{LogHead, Outcome};
 
 // What is left of one of the two logs: the first's numbers from `from` on, otherwise the second's.
-#[derive(Drop)]
+#[derive(Clone, Copy)]
 pub struct Rest {
     pub first: bool,
     pub from: usize,
 }
 
 // What a merge of two logs tells: the outcome, and the rest.
-#[derive(Drop)]
+#[derive(Clone, Copy)]
 pub struct Merged {
     pub outcome: Outcome,
     pub rest: Rest,
 }
 
 // What it answers: what it tells, and the head of the third log after it.
-#[derive(Drop)]
+#[derive(Clone, Copy)]
 pub struct MergedAt {
     pub merged: Merged,
     pub head: LogHead,

@@ -5,14 +5,14 @@ ghost use Rattle.log_merge.specs.Merge.{index_of, one, ascending};
 ghost use Rattle.log_merge.specs.Order.{Scans, Needs, out_of_order, both};
 
 // Whether a log ascends, and how many of its entries have an index below a limit.
-#[derive(Drop)]
+#[derive(Clone, Copy)]
 pub struct Scanned {
     pub ascends: bool,
     pub below: usize,
 }
 
 // Whether both logs are in order, and how many entries a merge of them writes.
-#[derive(Drop)]
+#[derive(Clone, Copy)]
 pub struct Needed {
     pub ordered: bool,
     pub total: usize,

@@ -8,7 +8,7 @@ pub use Rattle.std.proofs.Math.Path.{fun_ext}
 pub use Rattle.std.proofs.Math.Bool.{and_assoc, and-eq-true_iff, and-false, and-true}
 pub use Rattle.std.proofs.lemmas.Bool.{false≢true, eqb-false, lt-leb, not-false, not-true}
 pub use Rattle.std.proofs.Math.Option.{Option, map as Option_map, none, some}
-pub use Rattle.std.proofs.lemmas.List.{map_append, get_or-replicate, length-map, length-replicate, replicate-append-replicate, drop-append-le, get_or_at, set-append_left, set_at, set-get_or, set_split, take-append-le, take-set-le}
+pub use Rattle.std.proofs.lemmas.List.{map-append, get_or-replicate, length-map, length-replicate, replicate-append-replicate, drop-append-le, get_or_at, set-append_left, set_at, set-get_or, set_split, take-append-le, take-set-le}
 pub use Rattle.std.proofs.Math.Dec.{eqb-suc-zero as eqb_suc_zero}
 pub use Rattle.std.proofs.lemmas.Nat.{and_comm, and_le_l, and_le_r, and_mask, or_comm, or_disjoint, or_lt}
 pub use Rattle.std.specs.Int.Bits.{and_self, and_step, and_zero_l, and_zero_r, bit_and, bit_or, bit_xor, or_add_and, or_self, or_step, or_zero_l, or_zero_r, xor_add_and}

@@ -8,23 +8,25 @@
 // names of the libraries.
 //
 // A usage state is a number of 16 bits, here in a u32. A tracker index, a mip and a layer are kept apart by their types.
+#![tactic(auto)]
+
 ghost use Rattle.std.specs.Prelude.{◌≡◌};
 ghost use Rattle.model.specs.Refusals.{number_of, place_of};
 
 // The position of a texture in a set: the Rust's `TrackerIndex`.
-#[derive(Drop)]
+#[derive(Clone, Copy)]
 pub struct TrackerIndex(pub u32);
 
 // The number of a mip level.
-#[derive(Drop)]
+#[derive(Clone, Copy)]
 pub struct Mip(pub u32);
 
 // The number of an array layer.
-#[derive(Drop)]
+#[derive(Clone, Copy)]
 pub struct Layer(pub u32);
 
 // The constants of the Rust's `TextureUses` that the tracker reads (01: a palette). `exclusive` is a mask, the others are one bit each.
-#[derive(Drop)]
+#[derive(Clone, Copy)]
 pub struct UsageFlags {
     pub exclusive: u32,
     pub uninitialized: u32,
@@ -33,42 +35,42 @@ pub struct UsageFlags {
 }
 
 // How many mips and layers a texture has (01: its shape).
-#[derive(Drop)]
+#[derive(Clone, Copy)]
 pub struct Extent {
     pub mips: u32,
     pub layers: u32,
 }
 
 // Mips from `start` up to, not including, `end`.
-#[derive(Drop)]
+#[derive(Clone, Copy)]
 pub struct MipRange {
     pub start: Mip,
     pub end: Mip,
 }
 
 // Layers from `start` up to, not including, `end`.
-#[derive(Drop)]
+#[derive(Clone, Copy)]
 pub struct LayerRange {
     pub start: Layer,
     pub end: Layer,
 }
 
 // Some mips and some layers of a texture: the Rust's `TextureSelector`.
-#[derive(Drop)]
+#[derive(Clone, Copy)]
 pub struct Selector {
     pub mips: MipRange,
     pub layers: LayerRange,
 }
 
 // A use of all of a texture, or of a part of it: a selector absent or given.
-#[derive(Drop)]
+#[derive(Clone, Copy)]
 pub enum Selection {
     Full,
     Part(Selector),
 }
 
 // One entry of ranged states (01: a strip): what lies from `start` up to, not including, `end` is in `state`.
-#[derive(Drop)]
+#[derive(Clone, Copy)]
 pub struct Range {
     pub start: u32,
     pub end: u32,
@@ -76,7 +78,7 @@ pub struct Range {
 }
 
 // A log entry of seven numbers: the Rust's `PendingTransition`.
-#[derive(Drop)]
+#[derive(Clone, Copy)]
 pub struct PendingTransition {
     pub index: TrackerIndex,
     pub selector: Selector,
@@ -85,14 +87,14 @@ pub struct PendingTransition {
 }
 
 // How many entries of the lent log are written, and how many after them are free.
-#[derive(Drop)]
+#[derive(Clone, Copy)]
 pub struct LogHead {
     pub written: usize,
     pub free: usize,
 }
 
 // Two states that one subresource cannot have together, and where: the Rust's `InvalidUse` with its selector.
-#[derive(Drop)]
+#[derive(Clone, Copy)]
 pub struct InvalidUse {
     pub selector: Selector,
     pub old: u32,
@@ -100,7 +102,7 @@ pub struct InvalidUse {
 }
 
 // An invalid use of a texture of a set (01: a clash): the Rust's `ResourceUsageCompatibilityError`.
-#[derive(Drop)]
+#[derive(Clone, Copy)]
 pub struct Conflict {
     pub index: TrackerIndex,
     pub found: InvalidUse,
@@ -108,7 +110,7 @@ pub struct Conflict {
 
 // Why a call is turned away, one case for each number of 01's table, in its order. 10 is reserved: 16 to 19 stand in its place. Before
 // 15, which is last in every call, stand 31, request 14's, and 20 to 25, request 08's.
-#[derive(Drop)]
+#[derive(Clone, Copy)]
 pub enum Refusal {
     NumbersOutOfLimits,
     FlagsBreakRule,
@@ -138,7 +140,7 @@ pub enum Refusal {
 }
 
 // What a public call answers.
-#[derive(Drop)]
+#[derive(Clone, Copy)]
 pub enum Outcome {
     Done,
     Refused(Refusal),
@@ -146,14 +148,14 @@ pub enum Outcome {
 }
 
 // What checks tell before anything changes: that all pass, or the first that fails.
-#[derive(Drop)]
+#[derive(Clone, Copy)]
 pub enum Verdict {
     Accepted,
     Refused(Refusal),
 }
 
 // What a call that logs answers: the outcome, and the head of the log after it.
-#[derive(Drop)]
+#[derive(Clone, Copy)]
 pub struct Answered {
     pub outcome: Outcome,
     pub head: LogHead,

@@ -14,9 +14,11 @@
 //     parts    the bytes of a use, moved as words
 //
 // What holds: nothing is required of a caller; answers and borrowed memory are those of specs/Plan, specs/Write and specs/Uses; a refusal
-// changes nothing; an accepted file read and written is the same bytes, an accepted list written and read the same events (specs/Claims).
+// changes nothing; an accepted file read and written is the same bytes, an accepted list written and read the same events (proofs/Claims).
 // Each call judges its input before it writes: the readers without room for any item, the writer and the lister by counting. A group is
 // read only while fewer than eight stand round it, so at most nine group readers are on the stack at a time.
+#![tactic(auto)]
+
 mod lister;
 mod parts;
 mod reader;

@@ -7,6 +7,6 @@ pub fn held(part: &[u8]) -> [u8; 15]
     ensures { result ≡ part.now }
 {
     let mut fifteen = [0u8; 15];
-    bytes::copy(part, &mut fifteen);
+    fifteen.copy_from_slice(part);
     fifteen
 }

@@ -69,7 +69,7 @@ fn put(items: &mut [u8], k: usize, kind: u8, rest: &[u8])
         let to = at + 16;
         items[at] = kind;
         let part = held(rest);
-        bytes::copy(&part, &mut items[from..to]);
+        items[from..to].copy_from_slice(&part);
     }
 }
 
@@ -86,7 +86,7 @@ fn read_use(content: &[u8], items: &mut [u8], k: usize) -> Step
 }
 
 // The field reader: the field that s begins with. What a group holds goes to the group reader.
-#[cycle(read_field_read_group)]
+#[cycle(reading)]
 fn read_field(s: &[u8], depth: usize, items: &mut [u8], k: usize) -> Step
     requires { k + length s.now < 18446744073709551616 }
     ensures { FieldRead s.now depth k items.old result items.new }
@@ -119,7 +119,7 @@ fn read_field(s: &[u8], depth: usize, items: &mut [u8], k: usize) -> Step
 }
 
 // The group reader: what a group holds, or a file, field by field to the end of s.
-#[cycle(read_field_read_group)]
+#[cycle(reading)]
 fn read_group(s: &[u8], depth: usize, items: &mut [u8], k: usize) -> Step
     requires { k + length s.now < 18446744073709551616 }
     ensures { GroupRead s.now depth k items.old result items.new }

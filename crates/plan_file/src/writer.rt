@@ -100,7 +100,7 @@ fn put_at(file: &mut [u8], p: usize, part: &[u8])
 {
     let end = p + part.len();
     if end <= file.len() {
-        bytes::copy(part, &mut file[p..end]);
+        file[p..end].copy_from_slice(part);
     }
 }
 

@@ -6,12 +6,14 @@
 // What holds: nothing is required. The first `told` records of the slice are in use. Each answer, and the records afterwards, equal the
 // definitions of model/specs/RangeCalls (specs/RangeContract); a refusal (18, 19, 14, 15) leaves every number as it was, and up to two
 // numbers that make no whole record always stay.
+#![tactic(auto)]
+
 ghost use Rattle.range_calls.specs.RangeContract.{Isolates, Coalesces, Filters};
 
 use model::{Refusal, Verdict};
 
 // Where the run is, how many ranges it has, and how many records are in use now.
-#[derive(Drop)]
+#[derive(Clone, Copy)]
 pub struct Isolation {
     pub position: usize,
     pub count: usize,
@@ -19,21 +21,21 @@ pub struct Isolation {
 }
 
 // What `isolate` answers.
-#[derive(Drop)]
+#[derive(Clone, Copy)]
 pub enum IsolateAnswer {
     Refused(Refusal),
     Isolated(Isolation),
 }
 
 // What `coalesce` answers: how many records are in use now.
-#[derive(Drop)]
+#[derive(Clone, Copy)]
 pub enum CoalesceAnswer {
     Refused(Refusal),
     Coalesced(usize),
 }
 
 // What `iter_filter` answers: how many overlaps were listed.
-#[derive(Drop)]
+#[derive(Clone, Copy)]
 pub enum FilterAnswer {
     Refused(Refusal),
     Filtered(usize),

@@ -4,6 +4,8 @@
 //
 // What holds: nothing is required and nothing is written; each check equals the model's (model/specs/RangeCalls), and what is accepted has
 // the room that the call asks for (specs/Accepted).
+#![tactic(auto)]
+
 pub mod checking;
 
 pub use checking::{check_coalesce, check_filter, check_isolate};

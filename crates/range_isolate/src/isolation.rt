@@ -12,14 +12,14 @@ use model::Range;
 use range_states::{get, larger, put};
 
 // The new count, and where the run ends.
-#[derive(Drop)]
+#[derive(Clone, Copy)]
 struct Placed {
     pub len: usize,
     pub end: usize,
 }
 
 // The new count, and the run's position and end.
-#[derive(Drop)]
+#[derive(Clone, Copy)]
 pub struct Isolated {
     pub len: usize,
     pub position: usize,

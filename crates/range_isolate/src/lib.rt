@@ -6,6 +6,8 @@
 // What holds: the first records become what the model's `isolate` gives, gaps filled, and every other number of the slice stays
 // (specs/Isolation: `Isolating`); room is asked for exactly, and `isolated_count` tells it beforehand. Ranges that tile their layers never
 // need more records than there are layers (specs/Tiling).
+#![tactic(auto)]
+
 pub mod isolation;
 
 ghost use Rattle.std.specs.Prelude.{◌+◌, ◌*◌, ◌≤◌, length};

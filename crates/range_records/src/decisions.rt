@@ -14,7 +14,7 @@ use range_states::{larger, smaller};
 
 // What `survey` has found among the records so far: where the last one ends, whether they ascend, and how many end at or before the index's
 // start, overlap the index, leave a gap in it, are cut by its start, and by its end.
-#[derive(Drop)]
+#[derive(Clone, Copy)]
 pub struct Scan {
     pub from: u32,
     pub ascends: bool,
@@ -26,7 +26,7 @@ pub struct Scan {
 }
 
 // What `isolate` answers, how many records there will be (none if it is refused), and where the last of them ends.
-#[derive(Drop)]
+#[derive(Clone, Copy)]
 pub struct Plan {
     pub answer: IsolateAnswer,
     pub len: usize,
@@ -34,14 +34,14 @@ pub struct Plan {
 }
 
 // The next record that `cut` writes, and how many records are left to read.
-#[derive(Drop)]
+#[derive(Clone, Copy)]
 pub struct Piece {
     pub range: Range,
     pub left: usize,
 }
 
 // The record that `join` writes, where, and how many there are then.
-#[derive(Drop)]
+#[derive(Clone, Copy)]
 pub struct Next {
     pub range: Range,
     pub at: usize,

@@ -12,6 +12,8 @@
 // it was, and no room is asked of the caller. specs/Passes says what each pass computes, in the direction of its loop. In proofs/, Laws
 // shows that the passes together are the model's calls, strips/ are the walks, by the rules of crate `walk`, and Walks has a range record
 // as the element of a run.
+#![tactic(auto)]
+
 mod decisions;
 pub mod strips;
 

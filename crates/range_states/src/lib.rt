@@ -10,6 +10,8 @@
 // What holds of every function: record k stands at the numbers 3k, 3k + 1 and 3k + 2; only `get` and `put` know that. All others are
 // stated over `view`, the list of the records (specs/View), in the form `Becomes`: the first records become what the model's definition
 // gives, and every other number of the slice stays. Nothing is asked of the ranges: they may have gaps, be empty or overlap.
+#![tactic(auto)]
+
 pub mod coalescing;
 pub mod filtering;
 

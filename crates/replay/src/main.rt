@@ -5,6 +5,8 @@
 // the oracle, which runs the Rust itself; `rt check` runs this program and compares. `oracle/compare` hands it fresh calls. Lines, answers
 // and storage: oracle/README.md. Crate `replay_lines` reads the lines and writes the answers; here the bytes come in, and `call` makes a
 // call: what it is lent, the call, and what it leaves.
+#![tactic(auto)]
+
 mod call;
 
 ghost use Rattle.std.specs.Prelude.{◌≤◌};
@@ -41,7 +43,7 @@ type Piece = [u8; 65536];
 type Words = [u32; 65536];
 
 // What is known of the line after a piece, and how many pieces may follow.
-#[derive(Drop)]
+#[derive(Clone, Copy)]
 struct Read {
     line: Scan,
     left: usize,

@@ -12,6 +12,8 @@
 //     ranged    the calls on ranged states
 //     logs      what a lent log is before a call, and the merge of two logs
 //     plans     the calls on plan files
+#![tactic(auto)]
+
 pub mod logs;
 pub mod numbers;
 pub mod out;

@@ -51,7 +51,7 @@ pub const START: u32 = 29445;
 
 // What is known of a line so far: how many words and numbers are stored, the value of the one that is being read, and how many bytes of it
 // were met.
-#[derive(Drop)]
+#[derive(Clone, Copy)]
 pub struct Scan {
     pub count: usize,
     pub value: u32,

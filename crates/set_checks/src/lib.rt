@@ -6,6 +6,8 @@
 //
 // What holds: nothing is written. A check that passes answers `Accepted`, and one that fails the refusal with its place. What
 // passed checks show is in specs/Passed.
+#![tactic(auto)]
+
 pub mod sets;
 
 ghost use Rattle.std.specs.Prelude.{◌≡◌, ◌≤◌, ◌<◌, get_or};

@@ -12,6 +12,8 @@
 //     Walked    a walk over slots by any relation: which are done, and which are left as they were
 //     SetWalk   such a walk over a set as it is lent
 //     Named     what the frame of a call says of the numbers that no texture uses, and of a texture that it does not name
+#![tactic(auto)]
+
 ghost use Rattle.std.specs.Prelude.{◌≡◌};
 ghost use Rattle.model.specs.Representation.{is_full};
 

@@ -13,6 +13,8 @@
 //
 // What holds: the view (specs/Storage) is total, any numbers read as a set. The mips of an index are read as at most M, since an index
 // that is not owned may hold any extent and its view must not reach into another's; a count past W reads as no ranges.
+#![tactic(auto)]
+
 ghost use Rattle.std.specs.Prelude.{◌≡◌, ◌+◌, ◌*◌, ◌≤◌, ◌<◌, length, set};
 ghost use Rattle.set_storage.specs.Part.{base_of, Within};
 ghost use Rattle.set_storage.specs.Storage.{flags_of, count_at, end_half, table_length};
@@ -96,7 +98,7 @@ pub fn base(i: usize, m: usize, mips: usize, layers: usize, room: usize) -> usiz
 }
 
 // Where the ranges of a mip lie, and how many there are.
-#[derive(Drop)]
+#[derive(Clone, Copy)]
 pub struct Located {
     pub base: usize,
     pub end: usize,

@@ -10,6 +10,8 @@
 // ranges of a Many half, for one that is UNKNOWN, and a third time at a mip that has one, to compare start and end. Both have the table of
 // bits once and hand it down. Tests of numbers are the definitions word for word, written with `&` and `|`, which make no branch; only
 // EXCLUSIVE, which needs a look-up, is tested by itself: of words last, of a range first.
+#![tactic(auto)]
+
 pub mod unknowns;
 pub mod words;
 

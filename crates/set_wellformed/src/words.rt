@@ -22,7 +22,7 @@ use set_storage::{END, LAYER_LIMIT, LAYERS, MIP_LIMIT, MIPS, OWNED, START, Table
 use usage::{OnesTable, exclusive_part, incompatible_by, one_bit_by};
 
 // Whether the words of every index fit, and whether none is owned as Many.
-#[derive(Drop)]
+#[derive(Clone, Copy)]
 pub struct Words {
     pub fit: bool,
     pub plain: bool,

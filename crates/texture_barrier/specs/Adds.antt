@@ -1,6 +1,6 @@
 -- THE FORM OF EVERY CONTRACT: what a function that counts and writes transitions does to the log, and how such steps follow one another.
 use Rattle.model.specs.Prelude.{ℕ, ◌+◌, ◌*◌, ◌≤◌, ◌<◌, arith, ◌≡◌, refl, sym, ap, subst, ◌∙◌, Bool, true, false, List, [], ◌∷◌, ◌++◌}
-use Rattle.model.specs.Prelude.{append_assoc, append-nil, map_append, length, take, drop, length-append, take-append-drop}
+use Rattle.model.specs.Prelude.{append_assoc, append-nil, map-append, length, take, drop, length-append, take-append-drop}
 use Rattle.model.specs.{declared.PendingTransition.PendingTransition, Base.if◌then◌else◌, Log.pending_of, Texture.Entry}
 use Rattle.texture_barrier.specs.{Over.{over, over_then}, Entries.{flatten, flatten_long, Added, added_is}}
 
@@ -22,7 +22,7 @@ entries_at i es = pending_of (record { index = i; what = es })
 
 -- some after others
 pub entries_at_append : (i : ℕ) (xs ys : List Entry) → entries_at i (xs ++ ys) ≡ entries_at i xs ++ entries_at i ys
-entries_at_append i xs ys = map_append _ xs ys
+entries_at_append i xs ys = map-append _ xs ys
 
 -- ---- What is written reads as the model's `added`
 module _ {top : ℕ} {l : List ℕ} {n : ℕ} {new : List PendingTransition} {x : ℕ} {l' : List ℕ} where

@@ -17,6 +17,8 @@
 // `log_merge`, which moves whole entries: `entries_of` (specs/Entries) is the view of a log, and through it what is written is the model's
 // `added`. The bounds in the contracts are crude and are there so that no sum is too large; `log_top` (specs/Steps) is past the entries of
 // any log, so a caller always meets it.
+#![tactic(auto)]
+
 pub mod entries;
 pub mod many;
 pub mod mip;

@@ -11,7 +11,7 @@ use range_states::filtering::{clipped, overlap};
 use range_states::get;
 
 // What is done with each range of a texture that is Many.
-#[derive(Drop)]
+#[derive(Clone, Copy)]
 pub enum Step {
     // it goes to one state
     To(u32),
@@ -22,7 +22,7 @@ pub enum Step {
 }
 
 // What a step makes of a range: whether anything, of which layers, from which state to which.
-#[derive(Drop)]
+#[derive(Clone, Copy)]
 pub struct Change {
     pub made: bool,
     pub start: u32,

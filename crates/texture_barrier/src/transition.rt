@@ -24,7 +24,7 @@ pub fn moves(unknown: u32, mask: u32, old: u32, new: u32) -> bool
 
 // What stays the same during one `barrier`: whose transitions they are, what decides whether there is one, and whether they are written
 // or only counted.
-#[derive(Drop)]
+#[derive(Clone, Copy)]
 pub struct Task {
     pub index: TrackerIndex,
     pub unknown: u32,

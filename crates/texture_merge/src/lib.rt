@@ -13,6 +13,8 @@
 // (set_storage/specs/Texture: `TextureReady`, `TextureHeld`, which `UseReady`, `SetReady` and `MergeReady` extend) and keeps it. The half
 // becomes what the model's definition gives (`HalfBecomes`, `MipsBecome`), a conflict is the model's (`HalfMerged`, `MipsWalked`), and no
 // other number of the storage changes (`HalfFrame`, `Frame`).
+#![tactic(auto)]
+
 pub mod every;
 pub mod from_set;
 pub mod giving;
@@ -22,14 +24,14 @@ pub mod using;
 use model::InvalidUse;
 
 // Where a walk over a texture met a conflict.
-#[derive(Drop)]
+#[derive(Clone, Copy)]
 pub enum Stopped {
     Nowhere,
     At(InvalidUse),
 }
 
 // What a texture's mips do with a piece of another texture.
-#[derive(Drop)]
+#[derive(Clone, Copy)]
 pub enum Doing {
     // `insert`: the piece is painted
     Insert,

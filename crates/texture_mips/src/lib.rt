@@ -12,6 +12,8 @@
 // the first ranges at exit and the answer are what the model's definition makes of the first `len` ranges at entry; numbers past the new
 // count are free (specs/Paint: `Leaves`, specs/Merge: `Walked`). Room is required exactly; a mip that tiles its layers has it with as many
 // ranges as layers, and goes on tiling them (specs/Kept).
+#![tactic(auto)]
+
 pub mod learning;
 pub mod painting;
 pub mod uniting;

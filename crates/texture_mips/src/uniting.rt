@@ -10,14 +10,14 @@ use range_states::{coalesce, get, put};
 use usage::{United, unite_known};
 
 // What a merge met: nothing, or a range whose state cannot be united with the given one; the range is told with its old state.
-#[derive(Drop)]
+#[derive(Clone, Copy)]
 pub enum Met {
     Nothing,
     Conflict(Range),
 }
 
 // The new count, and what was met.
-#[derive(Drop)]
+#[derive(Clone, Copy)]
 pub struct Merged {
     pub len: usize,
     pub met: Met,

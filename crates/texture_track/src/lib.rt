@@ -12,5 +12,7 @@
 //
 // What holds: the transitions and the texture are the model's (model/specs/Calls: `log_slot`, `set_slot`), and all else that is lent stays
 // (specs/Slot: `SlotSet`). specs/Tracked is the contract of the calls above.
+#![tactic(auto)]
+
 pub mod given;
 pub mod using;

@@ -11,6 +11,8 @@
 // What holds: a half that is Many has ranges that tile the layers, and every function requires that (`TextureHeld` of each half, in
 // specs/Update: `UpdateReady` and specs/FromSet: `UpdateFromReady`). The texture becomes what the model's `update` gives, and nothing but
 // its states, counts and ranges changes (specs/Both: `BothBecome`, with set_storage's `BothFrame`).
+#![tactic(auto)]
+
 pub mod both;
 pub mod from_set;
 pub mod pair;

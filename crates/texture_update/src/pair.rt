@@ -11,7 +11,7 @@ use texture_mips::learn;
 use texture_mips::painting::set_run;
 
 // How many ranges a mip of the start and of the end has.
-#[derive(Drop)]
+#[derive(Clone, Copy)]
 pub struct Both {
     pub start: usize,
     pub end: usize,

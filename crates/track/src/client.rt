@@ -12,7 +12,7 @@ use model::{Answered, Extent, LogHead, Selector, TrackerIndex, UsageFlags};
 use set_storage::{TABLE_LENGTH, Table};
 
 // What the second emptying and the second call answered.
-#[derive(Drop)]
+#[derive(Clone, Copy)]
 pub struct Shown {
     pub emptied: Answered,
     pub answered: Answered,

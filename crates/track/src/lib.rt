@@ -15,6 +15,8 @@
 // refuses, and its entries tell the model's transitions), OpenedLaws (opened storage is the model's, and well formed), StepLaws (a step
 // that meets its contract is the model's), TraceLaws (step by step, for every trace) and UsageLaws (a last step that merges a usage).
 // `client` is a program whose calls are such a trace (Client, ClientLaws): what a trace asks of its steps can be met.
+#![tactic(auto)]
+
 pub mod client;
 
 ghost use Rattle.set_storage.specs.Lent.{LentScope, LentTracker};

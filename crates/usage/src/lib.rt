@@ -7,6 +7,8 @@
 // one; nothing is required but, where a table is handed in, that it is the one that counts bits. The definitions count sixteen bits, so
 // `one_bit` looks at the low sixteen. specs/StateLaws has that wgpu-core's test is 01's, Ones the table's rule, Gathered how the states of
 // a set are tested together, BitLaws and CountLaws laws on bits and on counts of them.
+#![tactic(auto)]
+
 pub mod flags;
 pub mod table;
 pub mod united;

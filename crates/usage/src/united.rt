@@ -7,7 +7,7 @@ use crate::{incompatible, less, union};
 use model::UsageFlags;
 
 // A new state, or none that the old one and the given one could have together.
-#[derive(Drop)]
+#[derive(Clone, Copy)]
 pub enum United {
     Conflict,
     State(u32),

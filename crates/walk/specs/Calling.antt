@@ -1,14 +1,14 @@
 -- A call. Each argument is a value, which is had for nothing, or what the context owns; the callee is known by its contract and its theorem.
 --     Arg          an argument: `of` a value, or `own` what the context owns at its machine values
 --     tokens       the tokens of a call's lifetimes.        taken        what the arguments take from the context
---     calls-to     the call: after it the tokens are back, with the result, what is said of the last values and what the callee ensures.        calls        the same where the result is plain data, which is then in its local
+--     calls_to     the call: after it the tokens are back, with the result, what is said of the last values and what the callee ensures.        calls        the same where the result is plain data, which is then in its local
 --     gives        the same where the contract says what is returned and left.        asks         the same of a callee with no lifetime
 -- Assumes `Logic`.
 use Rattle.std.specs.Prelude.{◌≡◌, refl, ℕ, zero, suc, List, [], ◌∷◌, ◌++◌}
 use Rattle.std.proofs.Common.{sym, ap, subst}
 use Rattle.std.proofs.Math.Option.{Option, some}
 use seplogic.Ra.Ura.{Ura}
-use mir.Syntax.{Name, Place, place, Opd as Operand, Body, seq, call}
+use mir.Syntax.{Callee, Place, place, Opd as Operand, Body, seq, call}
 use mir.Val.{Val}
 use base.Logic.{SProp, ent, sep, emp, id⊢, via, mono_l, mono_r, emp∗}
 use base.Fml.{ftrue, flft}
@@ -45,7 +45,7 @@ vals_of (own x vs) = vs
 
 abbrev takes : {M : Type 1} {𝓤 : Ura M} {R : RattleType} → Arg R → List (Item 𝓤) → List (Item 𝓤)
 takes (of v) Γ = Γ
-takes {R = R} (own x vs) Γ = ‵ (R.own x vs) ∷ Γ
+takes {R = R} (own x vs) Γ = ‵ (R.own_val x vs) ∷ Γ
 
 abbrev pub Args : List RattleType → Type 2
 Args [] = Unit {2}
@@ -79,24 +79,24 @@ module _ {M : Type 1} {𝓤 : Ura M} (𝓛 : Logic 𝓤) where
   of_toks (suc n) κs qs = mono_r 𝓤 (A.lft κs.0 qs.0) (of_toks n κs.1 qs.1)
 
   -- what the arguments own
-  had_one : {R : RattleType} (x : Arg R) (Γ : List (Item 𝓤)) → ent 𝓤 (⋆ 𝓛 (takes x Γ)) (sep 𝓤 (sem 𝓛 (R.own (value_of x) (vals_of x))) (⋆ 𝓛 Γ))
+  had_one : {R : RattleType} (x : Arg R) (Γ : List (Item 𝓤)) → ent 𝓤 (⋆ 𝓛 (takes x Γ)) (sep 𝓤 (sem 𝓛 (R.own_val (value_of x) (vals_of x))) (⋆ 𝓛 Γ))
   had_one (of v) Γ = via 𝓤 (sep 𝓤 (emp 𝓤) (⋆ 𝓛 Γ)) (emp∗ 𝓤 (⋆ 𝓛 Γ)) (mono_l 𝓤 (⋆ 𝓛 Γ) (v.type.makes M 𝓤 𝓛 v.value (v.type.val v.value ∷ []) v.is))
-  had_one {R} (own x vs) Γ = pop 𝓛 (‵ (R.own x vs)) Γ
+  had_one {R} (own x vs) Γ = pop 𝓛 (‵ (R.own_val x vs)) Γ
 
   had : (Rs : List RattleType) (xs : Args Rs) → ent 𝓤 (⋆ 𝓛 (taken Rs xs)) (sem 𝓛 (owns Rs (denoted Rs xs) (spelled Rs xs)))
   had [] xs = id⊢ 𝓤 (emp 𝓤)
-  had (R ∷ Rs) xs = via 𝓤 (sep 𝓤 (sem 𝓛 (R.own (value_of xs.0) (vals_of xs.0))) (⋆ 𝓛 (taken Rs xs.1))) (had_one xs.0 (taken Rs xs.1)) (mono_r 𝓤 (sem 𝓛 (R.own (value_of xs.0) (vals_of xs.0))) (had Rs xs.1))
+  had (R ∷ Rs) xs = via 𝓤 (sep 𝓤 (sem 𝓛 (R.own_val (value_of xs.0) (vals_of xs.0))) (⋆ 𝓛 (taken Rs xs.1))) (had_one xs.0 (taken Rs xs.1)) (mono_r 𝓤 (sem 𝓛 (R.own_val (value_of xs.0) (vals_of xs.0))) (had Rs xs.1))
 
 -- a result that is owned is spelled out, and goes to the local _j
-pub takes_in : {M : Type 1} {𝓤 : Ura M} {𝓛 : Logic 𝓤} {K : Type 0} {Γ : List (Item 𝓤)} {E : Env 𝓤 𝓛.H} {hs : List (Option Val)} {C : Calls 𝓤 𝓛.H} {Λ : Loops 𝓤 𝓛.H} {q : Post 𝓤 𝓛.H} {j : ℕ} {rest : Body} → K → {R : RattleType} (D : Data R) (r : R.Denot) (v : Val) → Has 𝓛 E j → R.mir ≡ (spot_of 𝓤 𝓛.H E j).0 ∷ []
-    → (Is R r (D.val r ∷ []) → Seq K 𝓛 (held 𝓤 𝓛.H E (with j (some (D.val r)) hs) ∷ Γ) (runs C Λ E rest q)) → Seq K 𝓛 (‵ (R.own r (v ∷ [])) ∷ held 𝓤 𝓛.H E hs ∷ Γ) (lands C Λ E (place j []) v rest q)
+pub takes_in : {M : Type 1} {𝓤 : Ura M} {𝓛 : Logic 𝓤} {K : Type 0} {Γ : List (Item 𝓤)} {E : Env 𝓤 𝓛.H} {hs : List (Option Val)} {C : Calls 𝓤 𝓛.H} {Λ : Loops 𝓤 𝓛.H} {q : Post 𝓤 𝓛.H} {j : ℕ} {rest : Body} → K → {R : RattleType} (D : Data R) (r : R.Denot) (v : Val) → Has 𝓤 𝓛.H E j → R.mir ≡ (spot_of 𝓤 𝓛.H E j).0 ∷ []
+    → (Is R r (D.val r ∷ []) → Seq K 𝓛 (held 𝓤 𝓛.H E (with j (some (D.val r)) hs) ∷ Γ) (runs C Λ E rest q)) → Seq K 𝓛 (‵ (R.own_val r (v ∷ [])) ∷ held 𝓤 𝓛.H E hs ∷ Γ) (lands C Λ E (place j []) v rest q)
 takes_in {𝓤 = 𝓤} {𝓛 = 𝓛} {K = K} {Γ = Γ} {E = E} {hs = hs} {C = C} {Λ = Λ} {q = q} {j = j} {rest = rest} t {R} D r v i m k = facts t R (Is R) (shows 𝓛 R) r (v ∷ []) (λ is.
     subst (λ (u : Val). Seq K 𝓛 (held 𝓤 𝓛.H E hs ∷ Γ) (lands C Λ E (place j []) u rest q)) (sym (ap only (D.tells r (v ∷ []) is)))
     (lands_in t i (fits_in 𝓛 D r (subst (Is R r) (D.tells r (v ∷ []) is) is) m) $ k (subst (Is R r) (D.tells r (v ∷ []) is) is)))
 
 -- ---- the call
 -- the operands are read, and the callee takes what it asks, P, out of the context, of which it leaves Δ
-pub calls_by : {M : Type 1} {𝓤 : Ura M} {𝓛 : Logic 𝓤} {K : Type 0} {Γ : List (Item 𝓤)} {E : Env 𝓤 𝓛.H} {C : Calls 𝓤 𝓛.H} {Λ : Loops 𝓤 𝓛.H} {q : Post 𝓤 𝓛.H} {f : Name} {os : List Operand} {d : Place} {rest : Body} → K → FmC 𝓤 𝓛.H 𝓛.laws C
+pub calls_by : {M : Type 1} {𝓤 : Ura M} {𝓛 : Logic 𝓤} {K : Type 0} {Γ : List (Item 𝓤)} {E : Env 𝓤 𝓛.H} {C : Calls 𝓤 𝓛.H} {Λ : Loops 𝓤 𝓛.H} {q : Post 𝓤 𝓛.H} {f : Callee} {os : List Operand} {d : Place} {rest : Body} → K → FmC 𝓤 𝓛.H 𝓛.laws C
     → (Δ : List (Item 𝓤)) (P : SProp 𝓤) (vs : List Val) (Q : Val → SProp 𝓤) → ent 𝓤 P (C f vs Q) → ent 𝓤 (⋆ 𝓛 Γ) (sep 𝓤 P (⋆ 𝓛 Δ)) → Opds K 𝓛 Γ E os vs
     → ((v : Val) → Seq K 𝓛 (raw (Q v) ∷ Δ) (lands C Λ E d v rest q)) → Seq K 𝓛 Γ (runs C Λ E (seq (call f os d) rest) q)
 calls_by {𝓤 = 𝓤} {𝓛 = 𝓛} {E = E} {C = C} {Λ = Λ} {q = q} {f = f} {os = os} {d = d} {rest = rest} t fm Δ P vs Q met brings opds k = record {
@@ -128,17 +128,17 @@ module _ (T : Ended) (κs : Lfts T.signature.lifetimes) (qs : Shares T.signature
   abbrev at : {M : Type 1} {𝓤 : Ura M} (𝓛 : Logic 𝓤) (c : Clauses 𝓤 T) → (c κs (denoted Rs xs)).ghost → AllOutlive n T.signature.outlives κs → (Met T 𝓛 c).Ghost
   at 𝓛 c g bounds = ((κs, qs, bounds, denoted Rs xs, spelled Rs xs), g)
 
-  module _ {M : Type 1} {𝓤 : Ura M} {𝓛 : Logic 𝓤} {K : Type 0} {Γ : List (Item 𝓤)} {E : Env 𝓤 𝓛.H} {hs : List (Option Val)} {C : Calls 𝓤 𝓛.H} {Λ : Loops 𝓤 𝓛.H} {q : Post 𝓤 𝓛.H} {f : Name} {os : List Operand} {j : ℕ} {rest : Body} where
+  module _ {M : Type 1} {𝓤 : Ura M} {𝓛 : Logic 𝓤} {K : Type 0} {Γ : List (Item 𝓤)} {E : Env 𝓤 𝓛.H} {hs : List (Option Val)} {C : Calls 𝓤 𝓛.H} {Λ : Loops 𝓤 𝓛.H} {q : Post 𝓤 𝓛.H} {f : Callee} {os : List Operand} {j : ℕ} {rest : Body} where
     open 𝓛 use {H}
 
     module _ (t : K) (fm : FmC 𝓤 H 𝓛.laws C) (c : Clauses 𝓤 T) (met : Triple 𝓤 (C f) (Met T 𝓛 c)) (bounds : AllOutlive n T.signature.outlives κs) (g : (c κs (denoted Rs xs)).ghost) (need : ent 𝓤 (emp 𝓤) ((c κs (denoted Rs xs)).requires g)) where
       -- the result is owned, at the machine value that lands
       module _ (opds : Opds K 𝓛 (held 𝓤 H E hs ∷ tokens n κs qs ∷ (taken Rs xs ++ Γ)) E os (flat Rs (spelled Rs xs))) where
         pub calls_to : ((v : Val) (y : R.Denot) (us : Lasts T κs (denoted Rs xs))
-            → Seq K 𝓛 (‵ (R.own y (v ∷ [])) ∷ held 𝓤 H E hs ∷ tokens n κs qs ∷ ‵ (lasts T κs (denoted Rs xs) us) ∷ raw (Says T κs xs c g y us) ∷ Γ) (lands C Λ E (place j []) v rest q))
+            → Seq K 𝓛 (‵ (R.own_val y (v ∷ [])) ∷ held 𝓤 H E hs ∷ tokens n κs qs ∷ ‵ (lasts T κs (denoted Rs xs) us) ∷ raw (Says T κs xs c g y us) ∷ Γ) (lands C Λ E (place j []) v rest q))
             → Seq K 𝓛 (held 𝓤 H E hs ∷ tokens n κs qs ∷ (taken Rs xs ++ Γ)) (runs C Λ E (seq (call f os (place j [])) rest) q)
         calls_to k = calls_by t fm (held 𝓤 H E hs ∷ Γ) ((Met T 𝓛 c).pre (at 𝓛 c g bounds)) ((Met T 𝓛 c).args (at 𝓛 c g bounds)) ((Met T 𝓛 c).post (at 𝓛 c g bounds)) (met (at 𝓛 c g bounds)) brings opds (λ v.
-            use1 𝓛 (later (Some-of (λ (y : R.Denot). (raw (toks 𝓛 n κs qs) ⊛ ‵ (R.own y (v ∷ []))) ⊛ Some-of (λ (us : Lasts T κs (denoted Rs xs)). ‵ (lasts T κs (denoted Rs xs) us) ⊛ raw (Says T κs xs c g y us))))) (id⊢ 𝓤 _) $ await t tt $
+            use1 𝓛 (later (Some-of (λ (y : R.Denot). (raw (toks 𝓛 n κs qs) ⊛ ‵ (R.own_val y (v ∷ []))) ⊛ Some-of (λ (us : Lasts T κs (denoted Rs xs)). ‵ (lasts T κs (denoted Rs xs) us) ⊛ raw (Says T κs xs c g y us))))) (id⊢ 𝓤 _) $ await t tt $
             pick t (λ y. split t $ split t $ move t (2 ∷ []) $ pick t (λ us. split t $
             -- [the last values; what is ensured; the tokens; the result; the locals; Γ]
             move t (2 ∷ []) $ use1 𝓛 (tokens n κs qs) (of_toks 𝓛 n κs qs) $ move t (3 ∷ 4 ∷ []) $ k v y us)))
@@ -150,7 +150,7 @@ module _ (T : Ended) (κs : Lfts T.signature.lifetimes) (qs : Shares T.signature
                 move ! (2 ∷ []) $ use1 𝓛 (‵ (owns Rs (denoted Rs xs) (spelled Rs xs))) (had 𝓛 Rs xs) $ move ! (2 ∷ []) $ use1 𝓛 (raw (toks 𝓛 n κs qs)) (toks_of 𝓛 n κs qs) $ join ! $
                 use0 𝓛 (raw ((c κs (denoted Rs xs)).requires g)) need $ move ! (1 ∷ 0 ∷ []) $ join ! $ frame ! $ by ! (push 𝓛 (held 𝓤 H E hs) Γ))
 
-      module _ (D : Data R) (opds : Opds K 𝓛 (held 𝓤 H E hs ∷ tokens n κs qs ∷ (taken Rs xs ++ Γ)) E os (flat Rs (spelled Rs xs))) (i : Has 𝓛 E j) (m : R.mir ≡ (spot_of 𝓤 H E j).0 ∷ []) where
+      module _ (D : Data R) (opds : Opds K 𝓛 (held 𝓤 H E hs ∷ tokens n κs qs ∷ (taken Rs xs ++ Γ)) E os (flat Rs (spelled Rs xs))) (i : Has 𝓤 H E j) (m : R.mir ≡ (spot_of 𝓤 H E j).0 ∷ []) where
         pub calls : ((y : R.Denot) (us : Lasts T κs (denoted Rs xs)) → Is R y (D.val y ∷ [])
             → Seq K 𝓛 (held 𝓤 H E (with j (some (D.val y)) hs) ∷ tokens n κs qs ∷ ‵ (lasts T κs (denoted Rs xs) us) ∷ raw (Says T κs xs c g y us) ∷ Γ) (runs C Λ E rest q))
             → Seq K 𝓛 (held 𝓤 H E hs ∷ tokens n κs qs ∷ (taken Rs xs ++ Γ)) (runs C Λ E (seq (call f os (place j [])) rest) q)
@@ -168,7 +168,7 @@ module _ (T : Ended) (κs : Lfts T.signature.lifetimes) (qs : Shares T.signature
 abbrev ByValue : (params : List (Slot 0)) → Slot 0 → Kepts params → Ended
 ByValue params result kept = record { signature = record { lifetimes = 0; outlives = []; params = params; result = result }; kept = kept }
 
-module _ {M : Type 1} {𝓤 : Ura M} {𝓛 : Logic 𝓤} {K : Type 0} {Γ : List (Item 𝓤)} {E : Env 𝓤 𝓛.H} {hs : List (Option Val)} {C : Calls 𝓤 𝓛.H} {Λ : Loops 𝓤 𝓛.H} {q : Post 𝓤 𝓛.H} {f : Name} {os : List Operand} {j : ℕ} {rest : Body}
+module _ {M : Type 1} {𝓤 : Ura M} {𝓛 : Logic 𝓤} {K : Type 0} {Γ : List (Item 𝓤)} {E : Env 𝓤 𝓛.H} {hs : List (Option Val)} {C : Calls 𝓤 𝓛.H} {Λ : Loops 𝓤 𝓛.H} {q : Post 𝓤 𝓛.H} {f : Callee} {os : List Operand} {j : ℕ} {rest : Body}
     {ps : List (Slot 0)} {result : Slot 0} {kept : Kepts ps} where
   -- the contract says that the result is r, and the last values are let go
   open 𝓛 use {H}
@@ -176,7 +176,7 @@ module _ {M : Type 1} {𝓤 : Ura M} {𝓛 : Logic 𝓤} {K : Type 0} {Γ : List
   pub asks : K → FmC 𝓤 H 𝓛.laws C → (c : Clauses 𝓤 (ByValue ps result kept)) → Triple 𝓤 (C f) (Met (ByValue ps result kept) 𝓛 c) → (xs : Args (types_at ps tt)) (g : (c tt (denoted (types_at ps tt) xs)).ghost)
       → ent 𝓤 (emp 𝓤) ((c tt (denoted (types_at ps tt) xs)).requires g) → (D : Data (type_at result tt)) (r : (type_at result tt).Denot)
       → ((y : (type_at result tt).Denot) (ws : Lasts (ByValue ps result kept) tt (denoted (types_at ps tt) xs)) → ent 𝓤 (Says (ByValue ps result kept) tt xs c g y ws) (fact 𝓤 (y ≡ r)))
-      → Opds K 𝓛 (held 𝓤 H E hs ∷ ‵ ftrue ∷ (taken (types_at ps tt) xs ++ Γ)) E os (flat (types_at ps tt) (spelled (types_at ps tt) xs)) → Has 𝓛 E j → (type_at result tt).mir ≡ (spot_of 𝓤 H E j).0 ∷ []
+      → Opds K 𝓛 (held 𝓤 H E hs ∷ ‵ ftrue ∷ (taken (types_at ps tt) xs ++ Γ)) E os (flat (types_at ps tt) (spelled (types_at ps tt) xs)) → Has 𝓤 H E j → (type_at result tt).mir ≡ (spot_of 𝓤 H E j).0 ∷ []
       → (Is (type_at result tt) r (D.val r ∷ []) → Seq K 𝓛 (held 𝓤 H E (with j (some (D.val r)) hs) ∷ Γ) (runs C Λ E rest q))
       → Seq K 𝓛 (held 𝓤 H E hs ∷ (taken (types_at ps tt) xs ++ Γ)) (runs C Λ E (seq (call f os (place j [])) rest) q)
   asks t fm c met xs g need D r told opds i m k = nothing t $ move t (1 ∷ []) $ calls (ByValue ps result kept) tt tt xs t fm c met tt g need D opds i m (λ y us is.

@@ -1,7 +1,7 @@
 -- A function whose last parameter is a `&mut R`, and one that takes an R by value in its place, behind the same parameters ps and so with one lifetime less.
 --     fore-, last-     of the lifetimes and their shares those before the last, and the last
 --     Lending, Handing     the two signatures.        args, vals, typed        the first one's machine values, and that they are of its types
---     behind       what the reference is.        handed, handed-vals      the second one's arguments from the first one's
+--     behind       what the reference is.        handed, handed_vals      the second one's arguments from the first one's
 --     left_behind      last values of the first, from those of the second and what is left behind the reference
 --     toks-, owns-, lasts-     the last token, what the reference owns and what is said of its last value, apart from the others'
 -- Assumes nothing, but `Logic` where it is named.
@@ -131,22 +131,22 @@ module _ (n : ℕ) (R : RattleType) where
 
       pub Others : (ps : List (Param n)) → Denots (Rs ps) → Valss (Rs ps) → SProp 𝓤
       Others [] a vss = emp 𝓤
-      Others (p ∷ ps) a vss = sep 𝓤 (sem 𝓛 ((p.slot.row (fore_lfts n κs)).own a.0 vss.0)) (Others ps a.1 vss.1)
+      Others (p ∷ ps) a vss = sep 𝓤 (sem 𝓛 ((p.slot.row (fore_lfts n κs)).own_val a.0 vss.0)) (Others ps a.1 vss.1)
 
-      pub owns_out : (ps : List (Param n)) (a : Denots (Rs ps)) → ent 𝓤 (sem 𝓛 (owns (Rs ps) a (vals ps a))) (sep 𝓤 (sem 𝓛 ((Lent κs).own (behind ps a) (mut_vals (behind ps a)))) (Others ps a (vals ps a)))
+      pub owns_out : (ps : List (Param n)) (a : Denots (Rs ps)) → ent 𝓤 (sem 𝓛 (owns (Rs ps) a (vals ps a))) (sep 𝓤 (sem 𝓛 ((Lent κs).own_val (behind ps a) (mut_vals (behind ps a)))) (Others ps a (vals ps a)))
       unfolding Others
       owns_out [] a = id⊢ 𝓤 (sem 𝓛 (owns (Rs []) a (vals [] a)))
-      owns_out (p ∷ ps) a = out_past 𝓤 (sem 𝓛 ((p.slot.row (fore_lfts n κs)).own a.0 (p.spell (fore_lfts n κs) a.0))) (sem 𝓛 ((Lent κs).own (behind ps a.1) (mut_vals (behind ps a.1))))
+      owns_out (p ∷ ps) a = out_past 𝓤 (sem 𝓛 ((p.slot.row (fore_lfts n κs)).own_val a.0 (p.spell (fore_lfts n κs) a.0))) (sem 𝓛 ((Lent κs).own_val (behind ps a.1) (mut_vals (behind ps a.1))))
           (Others ps a.1 (vals ps a.1)) (sem 𝓛 (owns (Rs ps) a.1 (vals ps a.1))) (owns_out ps a.1)
 
-      pub owns_in : (ps : List (Param n)) (a : Denots (Rs ps)) (vss : Valss (Rs ps)) (us : List Val) → ent 𝓤 (sep 𝓤 (sem 𝓛 (R.own (behind ps a).now us)) (Others ps a vss)) (sem 𝓛 (owns (Rs' ps) (handed ps a) (handed_vals ps vss us)))
+      pub owns_in : (ps : List (Param n)) (a : Denots (Rs ps)) (vss : Valss (Rs ps)) (us : List Val) → ent 𝓤 (sep 𝓤 (sem 𝓛 (R.own_val (behind ps a).now us)) (Others ps a vss)) (sem 𝓛 (owns (Rs' ps) (handed ps a) (handed_vals ps vss us)))
       unfolding Others
       owns_in [] a vss us = id⊢ 𝓤 (sem 𝓛 (owns (Rs' []) (handed [] a) (us, tt)))
-      owns_in (p ∷ ps) a vss us = in_past 𝓤 (sem 𝓛 ((p.slot.row (fore_lfts n κs)).own a.0 vss.0)) (sem 𝓛 (R.own (behind ps a.1).now us))
+      owns_in (p ∷ ps) a vss us = in_past 𝓤 (sem 𝓛 ((p.slot.row (fore_lfts n κs)).own_val a.0 vss.0)) (sem 𝓛 (R.own_val (behind ps a.1).now us))
           (Others ps a.1 vss.1) (sem 𝓛 (owns (Rs' ps) (handed ps a.1) (handed_vals ps vss.1 us))) (owns_in ps a.1 vss.1 us)
 
       pub lasts_in : (ps : List (Param n)) (a : Denots (Rs ps)) (ws : Fins (fore_lfts n κs) (hand_slots ps) (hand_kept ps) (handed ps a)) (h : R.Denot)
-          → ent 𝓤 (sep 𝓤 (A.res (behind ps a).name (R.coded.code h)) (sem 𝓛 (Said ps a ws))) (sem 𝓛 (lasts_of κs (lent_slots ps) (lent_kept ps) a (left_behind ps a ws h)))
-      lasts_in [] a ws h = mono_r 𝓤 (A.res a.0.name (R.coded.code h)) (top 𝓤 (sem 𝓛 (Said [] a ws)))
-      lasts_in (p ∷ ps) a ws h = in_past 𝓤 (sem 𝓛 (left ((p.slot.row (fore_lfts n κs)).exit yes) a.0 ws.0)) (A.res (behind ps a.1).name (R.coded.code h)) (sem 𝓛 (Said ps a.1 ws.1))
+          → ent 𝓤 (sep 𝓤 (sem 𝓛 (left ((Lent κs).exit yes) (behind ps a) h)) (sem 𝓛 (Said ps a ws))) (sem 𝓛 (lasts_of κs (lent_slots ps) (lent_kept ps) a (left_behind ps a ws h)))
+      lasts_in [] a ws h = mono_r 𝓤 (sem 𝓛 (left ((Lent κs).exit yes) a.0 h)) (top 𝓤 (sem 𝓛 (Said [] a ws)))
+      lasts_in (p ∷ ps) a ws h = in_past 𝓤 (sem 𝓛 (left ((p.slot.row (fore_lfts n κs)).exit yes) a.0 ws.0)) (sem 𝓛 (left ((Lent κs).exit yes) (behind ps a.1) h)) (sem 𝓛 (Said ps a.1 ws.1))
           (sem 𝓛 (lasts_of κs (lent_slots ps) (lent_kept ps) a.1 (left_behind ps a.1 ws.1 h))) (lasts_in ps a.1 ws.1 h)

@@ -1,8 +1,8 @@
 -- A function's parameters, each with what its walk needs at entry and at exit, and the way from a walk to the function's contract.
 --     Param        a parameter: its slot, what the proof has of it at exit, how its value is spelled, and that the spelling is of its type
 --     by_value     plain data, of which nothing is had at exit
---     shared, shared-ref       a `&'j [R]` and a `&'j R`, likewise
---     lent         a `&'j mut [R]` that is still owned at exit.        given, given-ref     one, and a `&'j mut R`, that the body gave to a callee for good
+--     shared, shared_ref       a `&'j [R]` and a `&'j R`, likewise
+--     lent         a `&'j mut [R]` that is still owned at exit.        given, given_ref     one, and a `&'j mut R`, that the body gave to a callee for good
 --     Function     a function with such parameters.        args, Walks, Post    its machine values, a walk of its code from the entry, and what it ends in.        free         nothing is required
 --     ends         a walk's end: the tokens and what is had of the parameters are left to show.        bare         nothing is had of one
 --     settled      no update is left to make.        proved       a walk of the code proves the function
@@ -10,7 +10,7 @@
 use Rattle.std.specs.Prelude.{◌≡◌, refl, ℕ, List, [], ◌∷◌}
 use Rattle.std.proofs.Common.{sym, subst}
 use seplogic.Ra.Ura.{Ura}
-use mir.Syntax.{Name, Fn}
+use mir.Syntax.{Callee, Fn}
 use mir.Val.{Val}
 use base.Logic.{SProp, ent, sep, emp, id⊢, via, fst∗}
 use Rattle.std.specs.Borrow.{Fml, ftrue, fsep}
@@ -144,7 +144,7 @@ module _ {n : ℕ} (F : Function n) where
     open 𝓛 use {H}
 
     abbrev c : Clauses 𝓤 T
-    c = F.clauses 𝓛 𝓜.mem 𝓡.run
+    c = F.clauses 𝓛 𝓜.mem 𝓡.returns
 
     module _ (κs : Lfts n) (qs : Shares n) (a : Denots (Rs κs)) (g : (c κs a).ghost) where
       abbrev pub Post : Val → SProp 𝓤
@@ -155,7 +155,7 @@ module _ {n : ℕ} (F : Function n) where
 
       -- the code f, read over γ, goes from P to what is owed
       abbrev Goes_from : SProp 𝓤 → Env → Fn → Type 1
-      Goes_from P γ f = ent 𝓤 P (WpFn 𝓤 H (tables_at 𝓛 𝓜 𝓡 γ).C (tables_at 𝓛 𝓜 𝓡 γ).Λ f (args κs a) Post)
+      Goes_from P γ f = ent 𝓤 P (WpFn 𝓤 H (tables_at 𝓤 H 𝓜 𝓡 γ).C (tables_at 𝓤 H 𝓜 𝓡 γ).Λ f (args κs a) Post)
 
       abbrev pub Walks : Env → Fn → Type 1
       Walks = Goes_from Entry
@@ -170,19 +170,19 @@ module _ {n : ℕ} (F : Function n) where
       pub ends : {K : Type 0} {Γ : List (Item 𝓤)} → K → (D : Data (type_at F.result κs)) (r : (type_at F.result κs).Denot) → Is (type_at F.result κs) r (D.val r ∷ []) → (ws : Lasts T κs a) → Fit T (stays F.params) κs a ws
           → ent 𝓤 (emp 𝓤) ((c κs a).ensures g r (at_exit T κs a ws)) → Step K (rules 𝓛 𝓜) Γ (prop (Left ws)) Γ (prop (Post (D.val r)))
       ends t D r is ws fit told = suffices t (Left ws) (qed (rules 𝓛 𝓜) (raw (toks 𝓛 n κs qs) ∷ ‵ (has_of κs (slots F.params) (kepts F.params) (stays F.params) a ws (vals κs a)) ∷ []) ∵
-          suffices ! _ (ends_at 𝓛 T (stays F.params) c (rules 𝓛 𝓜) ((κs, qs, tt, a, vals κs a), g) (D.val r) r ws fit) $ use0 (rules 𝓛 𝓜) (raw ((c κs a).ensures g r (at_exit T κs a ws))) told $ owned_by ! D r is $
+          suffices ! _ (ends_at 𝓛 T (stays F.params) c ((κs, qs, tt, a, vals κs a), g) (D.val r) r ws fit) $ use0 (rules 𝓛 𝓜) (raw ((c κs a).ensures g r (at_exit T κs a ws))) told $ owned_by ! D r is $
           -- [the result; what is ensured; the tokens; what is had]
           move ! (3 ∷ 0 ∷ []) $ join ! $ move ! (2 ∷ 0 ∷ []) $ join ! $ frame ! $ by ! (id⊢ 𝓤 _))
 
-    pub proved : (γ : Env) (k : Name) (f : Fn) → Closed 𝓤 H (tables 𝓤 H 𝓜 𝓡 γ).C (tables 𝓤 H 𝓜 𝓡 γ).Λ k f
+    pub proved : (γ : Env) (k : Callee) (f : Fn) → Closed 𝓤 H (tables 𝓤 H 𝓜 𝓡 γ).C (tables 𝓤 H 𝓜 𝓡 γ).Λ k f
         → ((κs : Lfts n) (qs : Shares n) (a : Denots (Rs κs)) (g : (c κs a).ghost) → Are (Rs κs) (Ises (Rs κs)) a (vals κs a) → Goes_from κs qs a g (sep 𝓤 (Entry κs qs a g) ((c κs a).requires g)) γ f)
         → Meets 𝓛 T.signature (𝓡.run (γ k)) (closing 𝓛 T c)
     proved γ k f closed walk =
         let A = 𝓛.A in
         let W = rules 𝓛 𝓜 in
-        let 𝓣 = tables_at 𝓛 𝓜 𝓡 γ in
+        let 𝓣 = tables_at 𝓤 H 𝓜 𝓡 γ in
         let hs = stays F.params in
-        proves 𝓛 𝓜 𝓡 γ (triple_of 𝓛 T.signature (closing 𝓛 T c)) k f closed (walk_Meets 𝓛 T hs W (all_go W F.params) c (WpFn 𝓤 H 𝓣.C 𝓣.Λ f) (WpFn-mono 𝓤 H W.laws 𝓣 f)
+        proves 𝓤 H 𝓜 𝓡 γ (triple_of 𝓛 T.signature (closing 𝓛 T c)) k f closed (walk_Meets 𝓛 T hs (all_go 𝓛 F.params) c (WpFn 𝓤 H 𝓣.C 𝓣.Λ f) (WpFn-mono 𝓤 H W.laws 𝓣 f)
         (walked 𝓛 T hs c (WpFn 𝓤 H 𝓣.C 𝓣.Λ f) (spells F.params) (all_tell F.params) (λ κs qs bounds. walk κs qs)))
 
 module _ {M : Type 1} {𝓤 : Ura M} {𝓛 : Logic 𝓤} {K : Type 0} {Γ : List (Item 𝓤)} where

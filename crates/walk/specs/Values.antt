@@ -65,5 +65,5 @@ abbrev pub half : (n : ℕ) → n < 2 ^ 32 → Value (UInt w32)
 half n l = record { type = number w32; value = n; is = (refl, l) }
 
 -- a value beside what there is
-pub owned_by : {M : Type 1} {𝓤 : Ura M} {𝓛 : Logic 𝓤} {K : Type 0} {Γ : List (Item 𝓤)} {G : Goal 𝓤 𝓛.H} → K → {R : RattleType} (D : Data R) (x : R.Denot) → Is R x (D.val x ∷ []) → Step K 𝓛 (‵ (R.own x (D.val x ∷ [])) ∷ Γ) G Γ G
+pub owned_by : {M : Type 1} {𝓤 : Ura M} {𝓛 : Logic 𝓤} {K : Type 0} {Γ : List (Item 𝓤)} {G : Goal 𝓤 𝓛.H} → K → {R : RattleType} (D : Data R) (x : R.Denot) → Is R x (D.val x ∷ []) → Step K 𝓛 (‵ (R.own_val x (D.val x ∷ [])) ∷ Γ) G Γ G
 owned_by {M} {𝓤} {𝓛} t {R} D x is = owned t R (Is R) (D.makes M 𝓤 𝓛) x (D.val x ∷ []) is

@@ -14,3 +14,4 @@
 //     PassedOn    functions that pass all their parameters on for good
 //     LastParam   a `&mut R` behind other parameters, and an R by value in its place
 //     Walk        what a walk names, by one line
+#![tactic(auto)]

@@ -1,6 +1,6 @@
 -- The second pass of `iter_filter`: the overlaps of ascending records stand together.
 use Rattle.model.specs.Prelude.{ℕ, zero, suc, ◌+◌, ◌≤◌, ◌<◌, arith, ◌≡◌, refl, sym, ap, ◌∙◌, Bool, true, false, ◌&&◌, List, [], ◌∷◌, ◌++◌}
-use Rattle.model.specs.Prelude.{map, map_append, append_assoc, leb, ltb, length, get_or, take, drop, length-append, length-drop, length-map}
+use Rattle.model.specs.Prelude.{map, map-append, append_assoc, leb, ltb, length, get_or, take, drop, length-append, length-drop, length-map}
 use Rattle.model.specs.Prelude.{take-suc, drop-cons, get_or-drop, set_at, length-take-le, take-append-le, drop-append-le, lt-ltb, le-ltb}
 use Rattle.model.specs.Prelude.{le-leb, lt-leb}
 use Rattle.model.specs.{declared.Range.Range, Base.if◌then◌else◌, RangedStates.iter_filter}
@@ -86,7 +86,7 @@ clipped (suc n) first a e rs out h k =
     let done : List Range = map (clip a e) (take n (drop first rs)) in
     let size : length done ≡ n = rw length-map (length-take-le n (drop first rs) (rw length-drop (omega arith))) in
     let more = take-suc (drop first rs) n blank (rw length-drop (omega arith)) in
-    rw (clipped n first a e rs out (omega arith) (omega arith), drop-cons out n blank k, more, get_or-drop, map_append, append_assoc)
+    rw (clipped n first a e rs out (omega arith) (omega arith), drop-cons out n blank k, more, get_or-drop, map-append, append_assoc)
     (set_at done (get_or out n blank) (drop (suc n) out) (clip a e (get_or rs (first + n) blank)) n size)
 
 -- ---- after the first pass

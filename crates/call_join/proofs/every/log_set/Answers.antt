@@ -1,0 +1,44 @@
+-- `log_set`: the entries of the indices below `k` are added, in their order.
+use Rattle.model.specs.Prelude.{ℕ, ◌*◌, ◌-◌, arith}
+use Rattle.texture_track.specs.GivenSlot.{given_entries}
+use Rattle.texture_barrier.specs.Adds.{entries_at, Adding, adding_start, adding_room, adding_turn, adding_end}
+use Rattle.log_head.specs.UpTo.{up_left, up_all, up_next, up_done}
+use Rattle.call_join.specs.Join.{entries_to}
+use Rattle.call_join.proofs.every.log_set.Goals as goal
+
+pub loop-k-init : goal.loop-k-init
+loop-k-init c = adding_start _ _ _ _ _ _ _ (omega arith) (up_all _ _)
+
+pub overflow_add-at : goal.overflow_add-at
+overflow_add-at c =
+    let v = c.loop-k.invariant in let p = c.requires in
+    omega (arith, v.high, v.few, p.0.few, p.1.0, c.loop-k-test.true)
+
+pub log_at-y-requires : goal.log_at-y-requires
+log_at-y-requires c =
+    let v = c.loop-k.invariant in let p = c.requires in
+    let b = c.loop-k-test.true in record { logs_at = p.0.each _ b; at_le_log_top = omega (arith, v.high, v.few, p.0.few, p.1.0, b); room_for = adding_room v p.1.1 (up_next _ _ b) }
+
+pub overflow_add-x : goal.overflow_add-x
+overflow_add-x c =
+    let v = c.loop-k.invariant in
+    let p = c.requires in
+    omega (arith, v.high, v.few, p.0.few, c.loop-k-test.true, c.log_at-y.ensures.few)
+
+pub overflow_add-k : goal.overflow_add-k
+overflow_add-k c =
+    omega (arith, c.requires.logs_set.few, c.loop-k-test.true)
+
+pub loop-k-smaller : goal.loop-k-smaller
+loop-k-smaller c = omega (arith, c.loop-k-test.true)
+
+pub loop-k-preserved : goal.loop-k-preserved
+loop-k-preserved c =
+    let p = c.requires in
+    let b = c.loop-k-test.true in
+    adding_turn c.loop-k.invariant p.1.1 (up_next _ _ b) b c.log_at-y.ensures (omega arith)
+
+pub returns : goal.returns
+returns c =
+    let v = c.loop-k.invariant in
+    adding_end v (omega (arith, v.high, c.requires.logs_set.few)) c.loop-k-test.false (up_done _ _)

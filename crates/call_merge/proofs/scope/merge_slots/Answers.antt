@@ -1,0 +1,30 @@
+-- `merge_slots`: each lap merges one texture, and those to come read as at entry.
+use Rattle.model.specs.Prelude.{◌-◌, ◌∙◌}
+use Rattle.call_merge.proofs.{Slots.{Merging, start, lap_ready, turn, stop, finish}}
+use Rattle.std.proofs.Common.{rules}
+use Rattle.call_merge.proofs.scope.merge_slots.Goals as goal
+
+pub loop-k-init : goal.loop-k-init
+loop-k-init c = start _ _ _ _ _
+
+pub merge_owned_at-x-requires : goal.merge_owned_at-x-requires
+merge_owned_at-x-requires c =
+    let w = rw c.wide.ensures.0 (lap_ready c.loop-k.invariant c.requires c.loop-k-test.true) in record { owned_ready = w.0; p_value = w.1 }
+
+pub shape_of-ranges-in-At : goal.shape_of-ranges-in-At
+shape_of-ranges-in-At c = let e = c.merge_owned_at-x.ensures.frame.ranges.long
+    ∙ c.loop-k.invariant.frame.ranges.long in
+    search (rules, e)
+
+pub returns-in-At : goal.returns-in-At
+returns-in-At c =
+    stop c.loop-k.invariant c.requires c.loop-k-test.true
+    (rw c.wide.ensures.0 at c.merge_owned_at-x.ensures) c.in-At.is
+
+pub loop-k-preserved : goal.loop-k-preserved
+loop-k-preserved c =
+    turn c.loop-k.invariant c.requires c.loop-k-test.true
+    (rw c.wide.ensures.0 at c.merge_owned_at-x.ensures) c.in_default.is
+
+pub returns : goal.returns
+returns c = finish c.loop-k.invariant c.loop-k-test.false

@@ -1,0 +1,5 @@
+-- `told`: a walk's conflict becomes the call's.
+use Rattle.call_merge.proofs.single.told.Goals as goal
+
+pub returns-in-At : goal.returns-in-At
+returns-in-At c = rw (c.x-1.given).1

@@ -1,0 +1,11 @@
+-- `weave_both` moves the entry that goes next, until a log is used up.
+use Rattle.model.specs.Prelude.{arith, ◌+◌, ◌-◌, ◌∙◌, length}
+use Rattle.log_merge.proofs.Weaving.{Weaving, weaving_start, first_whole, second_whole, third_room, first_turn, first_end}
+use Rattle.log_merge.proofs.{Weaving.{second_turn, second_end}}
+use Rattle.log_merge.proofs.weave.weave_both.Given as goal
+
+abbrev pub invariant-loop-y : goal.invariant-loop-y
+invariant-loop-y l = Weaving l.first l.second l.initial.third l.at l.k l.i l.j l.x l.y l.third
+
+abbrev pub decreases-loop-y : goal.decreases-loop-y
+decreases-loop-y l = length l.first + length l.second - (l.i + l.j)

@@ -1,0 +1,20 @@
+-- `put_use` reads the eight numbers and then writes them.
+use Rattle.std.proofs.Common.{suc, ◌+◌, arith, ◌≡◌, ap}
+use Rattle.std.proofs.lemmas.List.Edits.{sets}
+use Rattle.plan_file.specs.UsesLaws.{eight_are}
+use Rattle.plan_file.proofs.lister.put_use.Goals as goal
+
+pub returns : goal.returns
+returns c =
+    let n = c.args.at in
+    let e1 : n + 1 ≡ suc n = omega arith in
+    let e2 : n + 2 ≡ suc (suc n) = omega arith in
+    let e3 : n + 3 ≡ suc (suc (suc n)) = omega arith in
+    let e4 : n + 4 ≡ suc (suc (suc (suc n))) = omega arith in
+    let e5 : n + 5 ≡ suc (suc (suc (suc (suc n)))) = omega arith in
+    let e6 : n + 6 ≡ suc (suc (suc (suc (suc (suc n))))) = omega arith in
+    let e7 : n + 7 ≡ suc (suc (suc (suc (suc (suc (suc n)))))) = omega arith in
+    rw (e1, e2, e3, e4, e5, e6, e7) (ap (sets c.args.list.now n)
+    (eight_are c.args.bytes.now _ _ _ _ _ _ _ _ c.requires.0 c.four-index.ensures
+    c.wide-mips.ensures.0 c.two-layers.ensures.0 c.wide-mip_start.ensures.0 c.wide-mip_end.ensures.0
+    c.two-layer_start.ensures.0 c.two-layer_end.ensures.0 c.two-state.ensures.0))

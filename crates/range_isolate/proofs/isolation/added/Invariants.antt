@@ -1,0 +1,10 @@
+-- `added` counts what the loop of `cover` would add, record by record.
+use Rattle.model.specs.Prelude.{◌-◌, arith}
+use Rattle.range_isolate.proofs.Counting.{Counting, start_of, stop, last, turn, finish, gap_few}
+use Rattle.range_isolate.proofs.isolation.added.Given as goal
+
+abbrev pub invariant-loop-k : goal.invariant-loop-k
+invariant-loop-k l = Counting l.s l.len l.pos l.at l.end l.n l.k l.a
+
+abbrev pub decreases-loop-k : goal.decreases-loop-k
+decreases-loop-k l = l.len - l.k

@@ -1,0 +1,10 @@
+-- `coalesce` reads up to the first record that joins, and from there on is the pass of `Joining`.
+use Rattle.model.specs.Prelude.{◌-◌, refl}
+use Rattle.range_states.proofs.Joining.{Joining, all_apart, joining_from, turn_yes, turn_no, finish, none}
+use Rattle.range_states.proofs.coalescing.coalesce.Given as goal
+
+abbrev pub invariant-loop-i : goal.invariant-loop-i
+invariant-loop-i l = Joining l.initial.s l.len l.s l.w l.i l.cur
+
+abbrev pub decreases-loop-i : goal.decreases-loop-i
+decreases-loop-i l = l.len - l.i

@@ -1,0 +1,10 @@
+-- `first_join` reads on while no record joins the one before it.
+use Rattle.model.specs.Prelude.{◌-◌}
+use Rattle.range_states.proofs.Joining.{Reading, reading_start, reading_on, reading_ends}
+use Rattle.range_states.proofs.coalescing.first_join.Given as goal
+
+abbrev pub invariant-loop-i : goal.invariant-loop-i
+invariant-loop-i l = Reading l.s l.len l.i l.cur
+
+abbrev pub decreases-loop-i : goal.decreases-loop-i
+decreases-loop-i l = l.len - l.i

@@ -1,0 +1,7 @@
+-- Three stores are a `Put`.
+use Rattle.model.specs.Prelude.{arith, length-set}
+use Rattle.range_states.specs.View.{puts}
+use Rattle.range_states.proofs.put.Goals as goal
+
+pub returns : goal.returns
+returns c = puts c.args.s.now c.args.k c.args.r (omega arith)

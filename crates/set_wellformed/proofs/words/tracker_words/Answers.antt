@@ -1,0 +1,39 @@
+-- One index more is one test more of each kind and its part of the union; what the union leaves is tested last.
+use Rattle.model.specs.Prelude.{◌≤◌, ◌-◌, arith, ◌≡◌, sym, ◌∙◌, not-false}
+use Rattle.usage.specs.Gathered.{Gathered, gathered_none, gathered_more, gathered_wider}
+use Rattle.set_storage.specs.Storage.{start_half, end_half}
+use Rattle.set_wellformed.specs.Words.{half_word, WordsAre, tracker_word_proper, tracker_word_plain}
+use Rattle.set_wellformed.proofs.{Parting.tracker_unfit, Telling.{words_none, words_more}}
+use Rattle.set_wellformed.proofs.words.tracker_words.Goals as goal
+
+pub loop-i-init : goal.loop-i-init
+loop-i-init c = (omega arith, (words_none _ _, (gathered_none, gathered_none)))
+
+pub loop-i-preserved : goal.loop-i-preserved
+loop-i-preserved c =
+    let x = c.requires.n_bound in let inv = c.loop-i.invariant in (
+      omega arith,
+      (
+        words_more _ _ _ inv.1.0 (rw x.1 at c.pair_proper-fit.ensures) (rw x.1 at c.plain_pair-plain.ensures),
+        (
+          gathered_wider _ (gathered_more c.exclusive_part.ensures inv.1.1.0),
+          gathered_more c.exclusive_part-in-loop-i.ensures (gathered_wider _ inv.1.1.1),
+        ),
+      ),
+    )
+
+pub returns-then-not-fit : goal.returns-then-not-fit
+returns-then-not-fit c =
+    let z : c.loop-i.i ≡ c.args.n = omega arith in
+    tracker_unfit c.args.table.now c.args.n (rw z at c.loop-i.invariant.1.0) c.if-not-fit.true
+
+pub tracker_compatible-requires : goal.tracker_compatible-requires
+tracker_compatible-requires c =
+    let x = c.requires.n_bound in
+    let z : c.loop-i.i ≡ c.args.n = omega arith in
+    let inv = rw z at c.loop-i.invariant in let w = inv.1.0 in record { counts_ones = c.requires.counts_ones; n_bound = x; n_value = sym w.fit ∙ (c.if-not-fit.false); gathered = inv.1.1.0; gathered_2 = inv.1.1.1 }
+
+pub returns : goal.returns
+returns c =
+    let z : c.loop-i.i ≡ c.args.n = omega arith in
+    let w = rw z at c.loop-i.invariant.1.0 in record { fit = c.tracker_compatible.ensures; plain = w.plain }

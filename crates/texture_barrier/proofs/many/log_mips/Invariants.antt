@@ -1,0 +1,13 @@
+-- `log_mips` takes the mips one by one, each with the same step.
+use Rattle.model.specs.Prelude.{◌*◌, ◌-◌, arith, refl}
+use Rattle.texture_barrier.specs.Adds.{Adding, adding_start, adding_room, adding_turn, adding_end}
+use Rattle.texture_barrier.specs.{Ready.{mip_ready, run_is, run_ready}, Steps.step_entries}
+use Rattle.texture_barrier.proofs.{Remaining.{mips_left, mips_left_lem, mips_done}}
+use Rattle.set_storage.specs.{Locate.locates, Storage.{numbers_of, mip_of}}
+use Rattle.texture_barrier.proofs.many.log_mips.Given as goal
+
+abbrev pub invariant-loop-m : goal.invariant-loop-m
+invariant-loop-m l = let left = mips_left l.t.index.0 (step_entries l.t.unknown l.t.mask l.step) (mip_of (numbers_of l.table) l.half l.table l.ranges l.i) l.high in Adding (256 * l.m) l.t.write l.initial.log l.at (left l.low) left l.high l.x l.m l.log
+
+abbrev pub decreases-loop-m : goal.decreases-loop-m
+decreases-loop-m l = l.high - l.m

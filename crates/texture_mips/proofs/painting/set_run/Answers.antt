@@ -1,0 +1,14 @@
+-- `set_run` is a pass that nothing stops.
+use Rattle.model.specs.Prelude.{◌-◌}
+use Rattle.model.specs.RangedStates.{in_state}
+use Rattle.texture_mips.proofs.{Passing.{Passing, start_of, turn}, Painted.{never, set_all}}
+use Rattle.texture_mips.proofs.painting.set_run.Goals as goal
+
+pub loop-k-init : goal.loop-k-init
+loop-k-init c = search start_of
+
+pub loop-k-preserved : goal.loop-k-preserved
+loop-k-preserved c = search turn
+
+pub returns : goal.returns
+returns c = search set_all

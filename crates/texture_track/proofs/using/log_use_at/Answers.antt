@@ -1,0 +1,15 @@
+-- `log_use_at`: none where the texture is not owned, otherwise the entries of `barrier`.
+use Rattle.model.specs.Prelude.{eq-eqb, ne_eqb}
+use Rattle.texture_barrier.specs.Adds.{adds_none}
+use Rattle.set_ready.specs.Half.{half_held}
+use Rattle.texture_track.proofs.using.log_use_at.Goals as goal
+
+pub returns-then-table-i-eq0 : goal.returns-then-table-i-eq0
+returns-then-table-i-eq0 c = rw (eq-eqb _ _ c.if-table-i-eq0.true) (adds_none _ _ _ _)
+
+pub barrier_use-requires : goal.barrier_use-requires
+barrier_use-requires c =
+    let p = c.requires in let o = c.if-table-i-eq0.false in let u = p.1.0 in record { texture_held = half_held p.0.end o; selector_within = (u.selector, u.whole); at_le_log_top = p.1.1.0; fact = rw (ne_eqb _ _ o) at p.1.1.1 }
+
+pub returns : goal.returns
+returns c = rw (ne_eqb _ _ c.if-table-i-eq0.false) c.barrier_use.ensures

@@ -1,0 +1,24 @@
+-- `update_from_mip`: each lap gives one range, and what is left decides.
+use Rattle.model.specs.Prelude.{◌-◌, ◌≤◌, arith, map, drop}
+use Rattle.range_states.specs.View.{decode}
+use Rattle.set_storage.specs.Storage.{numbers_of, ends_of}
+use Rattle.texture_merge.specs.Giving.{piece_on}
+use Rattle.texture_update.specs.Pieces.{updates}
+use Rattle.texture_update.proofs.Takes.{Taking, range_start, range_small, range_selects, range_turn, range_done}
+use Rattle.texture_update.proofs.from_set.update_from_mip.Goals as goal
+
+pub loop-k-init : goal.loop-k-init
+loop-k-init c = let p = c.requires in (omega arith, range_start p.0 p.1)
+
+pub piece_at-q-requires : goal.piece_at-q-requires
+piece_at-q-requires c = let p = c.requires in range_small p.0 p.1
+
+pub update_piece-requires : goal.update_piece-requires
+update_piece-requires c =
+    let p = c.requires in let w = c.loop-k.invariant in let w = rw c.piece_at-q.ensures (w.1.ready, range_selects p.0 p.1 w.1 c.loop-k-test.true c.get-r.ensures) in record { pair_ready = w.0; selects = w.1 }
+
+pub loop-k-preserved : goal.loop-k-preserved
+loop-k-preserved c = let p = c.requires in let w = c.loop-k.invariant in (omega arith, range_turn p.0 p.1 w.1 c.loop-k-test.true c.get-r.ensures (rw c.piece_at-q.ensures at c.update_piece.ensures))
+
+pub returns : goal.returns
+returns c = let p = c.requires in let w = c.loop-k.invariant in range_done p.0 p.1 w.1 c.loop-k-test.false

@@ -1,0 +1,12 @@
+-- `incompatible` is the definition's two tests, the second only where the first holds.
+use Rattle.model.specs.Prelude.{sym, ◌∙◌}
+use Rattle.model.specs.Flags.{incompatible}
+use Rattle.usage.proofs.incompatible.Goals as goal
+
+pub returns-then-meets : goal.returns-then-meets
+unfolding incompatible
+returns-then-meets c = let m = sym c.meets.ensures ∙ c.if-meets.true in rw (m, c.one_bit.ensures)
+
+pub returns : goal.returns
+unfolding incompatible
+returns c = let m = sym c.meets.ensures ∙ c.if-meets.false in rw m
