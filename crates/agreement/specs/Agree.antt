@@ -59,7 +59,7 @@ use_gives sh (some q) st t = go (is_full sh q) refl
         { single = b; states = tab (named_row sh q st) 0 sh.mips })
     go true e = rw (full_grid sh q st e) gives_one
     go false e =
-        let w = selector_within sh q t in gives_place w.span w.in_layers w.order w.in_mips_lem
+        let w = selector_within sh q t in gives_place w.span w.in_layers w.order w.in_mips
 
 held_gives : (sh : Extent) (h : Held) → Fit sh h → Measured sh × Gives sh (from_held h) (named_all (grid_of sh h))
 unfolding grid_of

@@ -198,7 +198,7 @@ abbrev Good_selector : Extent → Option Selector → Type 0
 Good_selector sh sel = Passed (selector_checks sh sel)
 
 inner : (sh : Extent) (q : Selector) → Good_selector sh (some q) → (q.layers.start.0 < q.layers.end.0) × (q.mips.end.0 ≤ sh.mips)
-inner sh q t = let w = selector_within sh q t in (w.span, w.in_mips_lem)
+inner sh q t = let w = selector_within sh q t in (w.span, w.in_mips)
 
 named_names : (sh : Extent) (sel : Option Selector) (st m l : ℕ) → Good_selector sh sel
     → is_named (get_or (get_or (named_use sh sel st).states m []) l none) ≡ true → Names sh sel m l

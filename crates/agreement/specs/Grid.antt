@@ -149,7 +149,7 @@ grid = record {
   Conflict = SubresourceConflict;
   Log = List (List (Option Move));
   fresh = λ st. record { single = true; states = [] };
-  use_of_lem = named_use;
+  use_of = named_use;
   pass = named_all;
   insert = grid_insert;
   merge = grid_merge;

@@ -24,7 +24,7 @@ module _ (K L : Representation) (v : Extent → K.Held → L.Held) (cl : K.Confl
     pub fresh : (n : ℕ) → v (record { mips = 0; layers = 0 }) (K.fresh n) ≡ L.fresh n
     pub used : (h : Head) (i : ℕ) (sh : Extent) (sel : Option Selector) (st : ℕ) → flags_fit h.flags ≡ true → Word st
         → single_refusal h i sh sel st ≡ none
-        → Gives h.flags sh (K.use_of_lem sh sel st) (L.use_of_lem sh sel st)
+        → Gives h.flags sh (K.use_of sh sel st) (L.use_of sh sel st)
     pub passed_on : (p : UsageFlags) (sh : Extent) (h : K.Held) → Fit p sh h → Gives p sh (K.pass h) (L.pass (v sh h))
     pub inserted : (p : UsageFlags) (sh : Extent) (g : K.Given) (n : L.Given) → Gives p sh g n
         → Fit p sh (K.insert p sh g) × (v sh (K.insert p sh g) ≡ L.insert p sh n)
@@ -75,8 +75,8 @@ module _ (K L : Representation) (v : Extent → K.Held → L.Held) (cl : K.Confl
     single_sim s i sh sel st word t =
         rw (extents_image v s.slots) (unless_by₂ Matches (single_refusal (head_of s) i sh sel st)
         (λ r. record { fit = t; answer = refl; after = refl; quiet = (refl, refl) }) λ e.
-        let slot = slot_at (K.fresh 0) s i in let out = merge_slot K s.flags sh (K.use_of_lem sh sel st) i slot in
-        let m = slot_sim s.numbers s.flags sh _ (L.use_of_lem sh sel st) i slot (R.used (head_of s) i sh sel st t.flags word e)
+        let slot = slot_at (K.fresh 0) s i in let out = merge_slot K s.flags sh (K.use_of sh sel st) i slot in
+        let m = slot_sim s.numbers s.flags sh _ (L.use_of sh sel st) i slot (R.used (head_of s) i sh sel st t.flags word e)
         (slot_fits_lem Fit s (K.fresh 0) i t) (single_at s (K.fresh 0) i sh sel st e) in
         rw (slot_image v (K.fresh 0) (L.fresh 0) (R.fresh 0) s i) record {
           fit = put_slot Fit s i out.value t m.0;

@@ -76,7 +76,7 @@ module _ (K L : Representation) (v : Extent → K.Held → L.Held) (Word : ℕ �
     pub fresh : (n : ℕ) → v (record { mips = 0; layers = 0 }) (K.fresh n) ≡ L.fresh n
     pub used : (h : Head) (i : ℕ) (sh : Extent) (sel : Option Selector) (st : ℕ) → flags_fit h.flags ≡ true → Word st
         → single_refusal h i sh sel st ≡ none
-        → Pairs h.flags sh (K.use_of_lem sh sel st) (L.use_of_lem sh sel st) (K.use_of_lem sh sel st) (L.use_of_lem sh sel st)
+        → Pairs h.flags sh (K.use_of sh sel st) (L.use_of sh sel st) (K.use_of sh sel st) (L.use_of sh sel st)
     pub passed_on : (p : UsageFlags) (sh : Extent) (h : K.Held) → Fit p sh h
         → Pairs p sh (K.pass h) (L.pass (v sh h)) (K.pass h) (L.pass (v sh h))
     pub joined : (p : UsageFlags) (sh : Extent) (e : Ends K.Held) → FitE p sh e
@@ -135,7 +135,7 @@ module _ (K L : Representation) (v : Extent → K.Held → L.Held) (Word : ℕ �
     single_set t i sh sel st word w =
         rw (extents_image (image_ends v) t.set.slots)
         (unless_by₂ (MatchesT any) (single_refusal (head_of t.set) i sh (some sel) st) (λ r. away t r w) λ e.
-        let p = t.set.flags in let a = K.use_of_lem sh (some sel) st in let b = L.use_of_lem sh (some sel) st in
+        let p = t.set.flags in let a = K.use_of sh (some sel) st in let b = L.use_of sh (some sel) st in
         let slot = slot_at (no_ends K) t.set i in let r = R.used (head_of t.set) i sh (some sel) st w.flags word e in
         let x = slot_fits_lem FitE t.set (no_ends K) i w in let y = single_at t.set (no_ends K) i sh (some sel) st e in
         let m = slot_set t.set.numbers p sh a b a b i slot r x y in

@@ -285,7 +285,7 @@ single_few t i sh sel st word w =
     let x = slot_fits_lem FitEW t.set (no_ends ranged) i w in let y = single_at t.set (no_ends ranged) i sh (some sel) st e in
     let few = slot_few t.set.numbers t.set.flags t.mask sh a b a b i slot r x y in
     let same = state_eq sh (λ m l. one_if (named_at b m l)) (λ m l. one_if (holds sel m l))
-    (λ m l. use_named sh sel st m l q.span q.in_mips_lem) in (
+    (λ m l. use_named sh sel st m l q.span q.in_mips) in (
       omega arith,
       le_trans (slot_most t.set.numbers t.set.flags t.mask sh a b a b i slot r x y).1
           (slot_in (no_ends ranged) t.set.slots i),

@@ -105,7 +105,7 @@ module _ (K : Representation) where
   step_own (call_merge_single n i sh sel st) k =
       with_one k (get_elem? k.scopes n) _ (λ s. unless_own (single_refusal (head_of s) i.0 sh sel st) s _
       (single_own (head_of s) i.0 sh sel st)
-      (answer_own (merge_slot K s.flags sh (K.use_of_lem sh sel st) i.0 (slot_at (K.fresh 0) s i.0)).conflict))
+      (answer_own (merge_slot K s.flags sh (K.use_of sh sel st) i.0 (slot_at (K.fresh 0) s i.0)).conflict))
   step_own (call_merge_usage_scope n m) k =
       by_test OwnResult (eqb n m) (λ e. tt)
       (λ e. with_two k (get_elem? k.scopes n) (get_elem? k.scopes m) _ (λ s g. unless_own (set_refusal (head_of s) (head_of g)) s _

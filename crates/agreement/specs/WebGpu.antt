@@ -198,7 +198,7 @@ histories = record {
   Conflict = SubresourceConflict;
   Log = List (List (Option Move));
   fresh = λ st. record { single = true; states = [] };
-  use_of_lem = hand_use;
+  use_of = hand_use;
   pass = hand_all;
   insert = history_insert;
   merge = history_merge;

@@ -22,7 +22,7 @@ full_use sh = record {
   passed = λ a b e. record {
     order = a;
     span = b;
-    in_mips_lem = omega arith;
+    in_mips = omega arith;
     in_layers = omega arith;
   };
 }

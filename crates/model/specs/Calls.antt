@@ -72,7 +72,7 @@ module _ (K : Representation) where
   -- `TextureUsageScope::merge_single`
   abbrev pub merge_single : Scope → ℕ → Extent → Option Selector → ℕ → Result Scope
   merge_single s i sh sel st =
-      let w = merge_slot s.flags sh (K.use_of_lem sh sel st) i (slot_at (K.fresh 0) s i) in
+      let w = merge_slot s.flags sh (K.use_of sh sel st) i (slot_at (K.fresh 0) s i) in
       unless (single_refusal (head_of s) i sh sel st) s
       (record { answer = answer w.conflict; log = []; after = with_slots s (set s.slots i w.value) })
 
@@ -105,7 +105,7 @@ module _ (K : Representation) where
   -- `TextureTracker::set_single`
   abbrev pub set_single : Tracker K.Held → ℕ → Extent → Selector → ℕ → Result (Tracker K.Held)
   set_single t i sh sel st =
-      let p = t.set.flags in let g = K.use_of_lem sh (some sel) st in let s = slot_at no_ends t.set i in
+      let p = t.set.flags in let g = K.use_of sh (some sel) st in let s = slot_at no_ends t.set i in
       unless (single_refusal (head_of t.set) i sh (some sel) st) t
       (record { answer = done; log = log_slot p t.mask sh g i s; after = with_tracker t (set t.set.slots i (set_slot p sh g g s)) })
 

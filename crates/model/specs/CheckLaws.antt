@@ -79,7 +79,7 @@ starts_below a e n q = omega (arith, eqb-false a e n, ltb-false e a q)
 -- a selector that names something of a texture of extent sh, and nothing past it
 pub record SelectorWithin (sh : Extent) (q : Selector) : Type 0 where
   pub order : mip_start q < mip_end q
-  pub in_mips_lem : mip_end q ≤ sh.mips
+  pub in_mips : mip_end q ≤ sh.mips
   pub span : layer_start q < layer_end q
   pub in_layers : layer_end q ≤ sh.layers
 
@@ -90,7 +90,7 @@ selector_within sh q p =
     let ends = neither (ltb sh.mips (mip_end q)) (ltb sh.layers (layer_end q)) past in
     record {
       order = starts_below (mip_start q) (mip_end q) p.0 p.1.0;
-      in_mips_lem = ltb-false sh.mips (mip_end q) ends.0;
+      in_mips = ltb-false sh.mips (mip_end q) ends.0;
       span = starts_below (layer_start q) (layer_end q) layers.0 layers.1.0;
       in_layers = ltb-false sh.layers (layer_end q) ends.1;
     }

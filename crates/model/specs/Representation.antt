@@ -59,7 +59,7 @@ pub record Representation : Type 1 where
   -- a texture in one state, as an opened set has it
   pub fresh : ℕ → Held
   -- what a selector with a state hands in, and what a set's texture does
-  pub use_of_lem : Extent → Option Selector → ℕ → Given
+  pub use_of : Extent → Option Selector → ℕ → Given
   pub pass : Held → Given
   pub insert : UsageFlags → Extent → Given → Held
   pub merge : UsageFlags → Extent → Held → Given → Stop Conflict Held

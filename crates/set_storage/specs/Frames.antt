@@ -97,14 +97,14 @@ module _ {d : Numbers} {h i m : ℕ} {t r : List ℕ} (q : MipReady d h t r i m)
   abbrev t' : List ℕ
   t' = set t (count_at h i m) n
 
-  in_mips_lem : m < d.mips
-  in_mips_lem = omega (arith, q.mip, q.top)
+  in_mips : m < d.mips
+  in_mips = omega (arith, q.mip, q.top)
 
   room : base + 3 * d.layers ≤ length r
-  room = room_of q.measured i m q.texture in_mips_lem
+  room = room_of q.measured i m q.texture in_mips
 
   in_table : count_at h i m < length t
-  in_table = omega (arith, q.measured.table, q.measured.half.1, q.measured.textures, q.measured.mips, q.texture, in_mips_lem)
+  in_table = omega (arith, q.measured.table, q.measured.half.1, q.measured.textures, q.measured.mips, q.texture, in_mips)
 
   put_frame : Frame d h i t r t' r'
   put_frame =
@@ -116,11 +116,11 @@ module _ {d : Numbers} {h i m : ℕ} {t r : List ℕ} (q : MipReady d h t r i m)
     where
       off_count : (x : ℕ) → (x < count_at h i 0) ⊎ (count_at h i 16 ≤ x) → x ≡ count_at h i m → ⊥
       off_count x (inl o) z = omega arith
-      off_count x (inr o) z = omega (arith, q.measured.mips, in_mips_lem)
+      off_count x (inr o) z = omega (arith, q.measured.mips, in_mips)
 
       off_part : (x : ℕ) → (x < ranges_at d i) ⊎ (ranges_at d (suc i) ≤ x) → get_or r' x 0 ≡ get_or r x 0
       off_part x (inl o) = put_before r base (3 * d.layers) p room size x 0 (omega (arith, mip_first d i m))
-      off_part x (inr o) = put_after r base (3 * d.layers) p room size x 0 (omega (arith, mip_last d i m in_mips_lem))
+      off_part x (inr o) = put_after r base (3 * d.layers) p room size x 0 (omega (arith, mip_last d i m in_mips))
 
   put_here : n ≤ d.layers → mip_of d h t' r' i m ≡ decode n p
   unfolding mip_of

@@ -47,7 +47,7 @@ module _ {h : ℕ} {t r : List ℕ} {i : ℕ} {sh : Extent} (q : TextureHeld (nu
               ≡ each_at (step_entries p.unknown mask (step_of b s new)) (mip_start s) (list_from G (mip_start s) (mip_end s - mip_start s))
           go G true z =
               let n : sh.mips - 0 ≡ sh.mips = omega arith in rw (z refl, n) (many_to_state p mask sh (list_from G 0 sh.mips) new)
-          go G false z = many_to_piece p mask sh G sh.mips new s (omega (arith, w.order)) w.in_mips_lem
+          go G false z = many_to_piece p mask sh G sh.mips new s (omega (arith, w.order)) w.in_mips
 
     -- ---- a given texture: g, u and v are its half, its table and its ranges
     module _ {g : ℕ} {u v : List ℕ} (w : TextureHeld (numbers_of u) g u v i sh) where

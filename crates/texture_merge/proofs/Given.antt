@@ -43,7 +43,7 @@ module _ {t₀ : List ℕ} {i mip len : ℕ} {part : List ℕ} (q : GivenMip t�
         (tiles_at (decode len part) 0 (get_or t₀ (layers_at i) 0) k q.tiled (omega (arith, long)))
 
     pub range_within : {t : List ℕ} → SameTexture t₀ t i → Selects (numbers_of t) t i (select mip (suc mip) x.start x.end)
-    range_within s = record { mips = omega arith; layers = range_inside.0; in_mips_lem = rw s.mips (omega (arith, q.mip)); in_layers = rw s.layers range_inside.1 }
+    range_within s = record { mips = omega arith; layers = range_inside.0; in_mips = rw s.mips (omega (arith, q.mip)); in_layers = rw s.layers range_inside.1 }
 
 -- ---- the mips of a given texture
 module _ {t₀ : List ℕ} {i mips from : ℕ} {t₂ r₂ : List ℕ} (q : GivenTexture t₀ i mips from t₂ r₂) where

@@ -69,13 +69,13 @@ module _ {q : Selector} {h i : ℕ} {t₀ r₀ : List ℕ} (p : ManyReady (numbe
   selector_start f = record {
     from = omega arith;
     upto = omega (arith, s.mips);
-    walk = walk_from (among q f) (numbers_of t₀) h i t₀ r₀ (mip_start q) (omega (arith, s.mips, s.in_mips_lem)) (λ j x a. among_under q f j x a);
+    walk = walk_from (among q f) (numbers_of t₀) h i t₀ r₀ (mip_start q) (omega (arith, s.mips, s.in_mips)) (λ j x a. among_under q f j x a);
   }
 
   module _ {f : ℕ → List Range → Stop InvalidUse (List Range)} {m : ℕ} {t r : List ℕ} (w : SelectorLap q f h i t₀ r₀ m t r) where
     module _ (b : m < mip_end q) where
       inside : m < mips_in (numbers_of t₀) t₀ i
-      inside = omega (arith, s.in_mips_lem)
+      inside = omega (arith, s.in_mips)
 
       pub selector_small : m < 16
       selector_small = lap_small p inside

@@ -14,7 +14,7 @@ use Rattle.texture_merge.proofs.Given.{mip_next, mip_tiles, mip_within}
 -- the texture at hand, where the loop has come to
 module _ {h i : ℕ} {goal : Stop InvalidUse (List (List Range))} {t₀ r₀ t r : List ℕ} {left : List (List Range) → Stop InvalidUse (List (List Range))} (m : ManyReady (numbers_of t₀) h t₀ r₀ i (get_or t₀ (layers_at i) 0)) (g : Giving h i (get_or t₀ (layers_at i) 0) goal t₀ r₀ left t r) where
   same : SameTexture t₀ t i
-  same = same_texture t₀ t i (omega (arith, m.decreases.textures, m.texture)) (giving_word m g)
+  same = same_texture t₀ t i (omega (arith, m.measured.textures, m.texture)) (giving_word m g)
 
   pub lap_many : HalfTiled h t r i
   lap_many = subst (λ (y : ℕ). ManyReady (numbers_of t) h t r i y) (sym same.layers) (giving_ready m g)

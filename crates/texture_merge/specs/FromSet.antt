@@ -27,7 +27,7 @@ pub set_use : {h i from : ℕ} {sh : Extent} {p : UsageFlags} {t r t₂ r₂ : L
     → (new ≡ p.complex → ⊥) → UseReady (numbers_of t) h t r i sh true (full sh) p new
 set_use new x c = record {
   texture = x.texture;
-  selector = record { order = x.texture.mip; in_mips_lem = omega arith; span = x.texture.some; in_layers = omega arith };
+  selector = record { order = x.texture.mip; in_mips = omega arith; span = x.texture.some; in_layers = omega arith };
   flags = x.flags;
   whole = λ z. refl;
   plain = c;

@@ -118,7 +118,7 @@ pub record PieceReady (h : ℕ) (t r : List ℕ) (i m a e : ℕ) : Type 0 where
 pub record Selects (d : Numbers) (t : List ℕ) (i : ℕ) (q : Selector) : Type 0 where
   pub mips : mip_start q < mip_end q
   pub layers : layer_start q < layer_end q
-  pub in_mips_lem : mip_end q ≤ mips_in d t i
+  pub in_mips : mip_end q ≤ mips_in d t i
   pub in_layers : layer_end q ≤ get_or t (layers_at i) 0
 
 -- the mips of texture i, all of them
@@ -130,7 +130,7 @@ pub record EveryReady (d : Numbers) (h : ℕ) (t r : List ℕ) (i mips : ℕ) : 
 module _ {d : Numbers} {h i : ℕ} {sh : Extent} {t r : List ℕ} (x : TextureReady d h t r i sh) where
   pub texture_selects : {q : Selector} → SelectorWithin sh q → Selects d t i q
   texture_selects w = record
-      { mips = w.order; layers = w.span; in_mips_lem = rw (texture_mips x) w.in_mips_lem; in_layers = rw x.layers w.in_layers }
+      { mips = w.order; layers = w.span; in_mips = rw (texture_mips x) w.in_mips; in_layers = rw x.layers w.in_layers }
 
   pub texture_every : EveryReady d h t r i sh.mips
   texture_every = record { measured = x.measured; texture = x.index; all = sym (texture_mips x) }

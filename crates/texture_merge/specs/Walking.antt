@@ -105,4 +105,4 @@ pub walk_fresh : {C A : Type 0} (v : A) (k n : ℕ) (l : List A) → length l �
 walk_fresh v k zero [] e = refl
 walk_fresh v k (suc n) [] e = absurd (omega arith)
 walk_fresh v k zero (x ∷ l) e = absurd (omega arith)
-walk_fresh v k (suc n) (x ∷ l) e = rw (walk_fresh v (suc k) n l (omega arith))
+walk_fresh {C = C} v k (suc n) (x ∷ l) e = rw (walk_fresh {C = C} v (suc k) n l (omega arith))

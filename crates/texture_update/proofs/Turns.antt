@@ -82,8 +82,8 @@ module _ (u new : ℕ) {q : Selector} {i : ℕ} {t₀ s₀ e₀ : List ℕ} (p :
   turn_start = record {
     from = omega arith;
     upto = omega (arith, k.mips);
-    starts = place_skip [] (taught u new q t₀ e₀ i) _ (mip_start q) (rw (mips_long (numbers_of t₀) start_half t₀ s₀ i) (omega (arith, k.mips, k.in_mips_lem))) (λ j x a. untaught j x (rw (lt-leb (mip_start q) j a)));
-    ends = place_skip [] (painting u new q) _ (mip_start q) (rw (mips_long (numbers_of t₀) end_half t₀ e₀ i) (omega (arith, k.mips, k.in_mips_lem))) (λ j x a. among_under q (λ k x. fine (given u new q x)) j x a);
+    starts = place_skip [] (taught u new q t₀ e₀ i) _ (mip_start q) (rw (mips_long (numbers_of t₀) start_half t₀ s₀ i) (omega (arith, k.mips, k.in_mips))) (λ j x a. untaught j x (rw (lt-leb (mip_start q) j a)));
+    ends = place_skip [] (painting u new q) _ (mip_start q) (rw (mips_long (numbers_of t₀) end_half t₀ e₀ i) (omega (arith, k.mips, k.in_mips))) (λ j x a. among_under q (λ k x. fine (given u new q x)) j x a);
     start_word = refl;
     end_word = refl;
     frame = both_refl t₀ s₀ e₀;
@@ -101,7 +101,7 @@ module _ (u new : ℕ) {q : Selector} {i : ℕ} {t₀ s₀ e₀ : List ℕ} (p :
 
     module _ (b : m < mip_end q) where
       inside : m < mips_in (numbers_of t₀) t₀ i
-      inside = omega (arith, k.in_mips_lem)
+      inside = omega (arith, k.in_mips)
 
       named : in_mips q m ≡ true
       named = rw (le-leb (mip_start q) m w.from, lt-ltb m (mip_end q) b)

@@ -5,7 +5,7 @@ use Rattle.set_wellformed.proofs.all_fit.Goals as goal
 
 pub scope_words-x-requires : goal.scope_words-x-requires
 scope_words-x-requires c =
-    let x = c.requires in record { counts_ones = c.requires.counts_ones; n_bound = (omega (arith, x.counts_ones.textures, x.measured), x.n_value) }
+    let x = c.requires in record { counts_ones = c.requires.counts_ones; n_bound = (omega (arith, x.measured.textures, x.n_value.0), x.n_value.1) }
 
 pub returns-then-not-x : goal.returns-then-not-x
 returns-then-not-x c =

@@ -7,15 +7,13 @@ pub returns-then-not-head_fits : goal.returns-then-not-head_fits
 returns-then-not-head_fits c =
     let a = c.args in
     record {
-      is = rw (scope_is a.table.now a.ranges.now, sym c.head_fits.ensures ∙ not-true _ c.if-not-head_fits.true);
+      is = rw (scope_is a.table.now a.ranges.now, sym c.head_fits.ensures ∙ (c.if-not-head_fits.true));
       long = c.table_len.ensures.1;
     }
 
 pub all_fit-requires : goal.all_fit-requires
 all_fit-requires c =
-    let at-ones-table =
-    c in
-    let at-table-len = at-ones-table.before in record { counts_ones = at-ones-table.ones-table.ensures; measured = head_measured _ _ at-table-len.table-len.ensures.1 (sym c.head_fits.ensures ∙ not-false _ c.if-not-head_fits.false); n_value = (c.wide.ensures.0, c.flags_of.ensures) }
+    record { counts_ones = c.ones_table-ones.ensures; measured = head_measured _ _ c.table_len.ensures.1 (sym c.head_fits.ensures ∙ (c.if-not-head_fits.false)); n_value = (c.wide.ensures.0, c.flags_of.ensures) }
 
 pub returns : goal.returns
 returns c =
@@ -24,7 +22,7 @@ returns c =
       is = rw (
         scope_is a.table.now a.ranges.now,
         sym c.head_fits.ensures
-            ∙ not-false _ c.if-not-head_fits.false,
+            ∙ (c.if-not-head_fits.false),
       ) (rw
           c.wide.ensures.0 at c.all_fit.ensures);
       long = c.table_len.ensures.1;

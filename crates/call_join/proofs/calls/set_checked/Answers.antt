@@ -42,7 +42,7 @@ subresources-requires c =
 
 pub log_set-x-requires : goal.log_set-x-requires
 log_set-x-requires c =
-    let w = rw (c.flags_of-p.ensures, c.wide-n.ensures.0) (logs_set (entry c).requires.0, (omega arith, λ w. absurd (false≢true w))) in record { logs_set = w.0; set_top_bound = w.1; room_for = w.2 }
+    rw (c.flags_of-p.ensures, c.wide-n.ensures.0) (record { logs_set = logs_set (entry c).requires.0; set_top_bound = omega arith; room_for = λ w. absurd (false≢true w) })
 
 pub returns-then-free-x : goal.returns-then-free-x
 returns-then-free-x c =

@@ -15,7 +15,7 @@ set_checked-requires c =
     let p = c.requires in
     let z = (rw c.in-Accepted.is at c.check_set.ensures) in
     let k = (rw c.lent_entries-lent.ensures.0 at (sym c.head_fits.ensures
-    ∙ (c.if-not-head_fits.false))) in record { joins = joins p.0 p.1.0 z; first_len_bound = joined_few p.0 p.1.0 z p.1.1; head_value = k; log_len_bound = c.lent_entries-lent.ensures.1 }
+    ∙ (c.if-not-head_fits.false))) in record { joins = joins p.tracker_tested p.given_tested z; first_len_bound = joined_few p.tracker_tested p.given_tested z p.last_len_bound; head_value = k; log_len_bound = c.lent_entries-lent.ensures.1 }
 
 pub returns-in-Accepted : goal.returns-in-Accepted
 returns-in-Accepted c =
@@ -23,7 +23,7 @@ returns-in-Accepted c =
     let z = (rw c.in-Accepted.is at c.check_set.ensures) in
     let k = (rw c.lent_entries-lent.ensures.0 at (sym c.head_fits.ensures
     ∙ (c.if-not-head_fits.false))) in
-    from_done p.0 p.1.0 k z c.set_checked.ensures
+    from_done p.tracker_tested p.given_tested k z c.set_checked.ensures
 
 pub returns-in-Refused : goal.returns-in-Refused
 returns-in-Refused c =
@@ -31,4 +31,4 @@ returns-in-Refused c =
     let z = (rw c.in-Refused.is at c.check_set.ensures) in
     let k = (rw c.lent_entries-lent.ensures.0 at (sym c.head_fits.ensures
     ∙ (c.if-not-head_fits.false))) in
-    rw c.refused-in-Refused.ensures (from_away p.0 p.1.0 k z)
+    rw c.refused-in-Refused.ensures (from_away p.tracker_tested p.given_tested k z)

@@ -12,18 +12,18 @@ loop-k-init c = adding_start _ _ _ _ _ _ _ (omega arith) (up_all _ _)
 pub overflow_add-at : goal.overflow_add-at
 overflow_add-at c =
     let v = c.loop-k.invariant in let p = c.requires in
-    omega (arith, v.high, v.few, p.0.few, p.1.0, c.loop-k-test.true)
+    omega (arith, v.high, v.few, p.logs_set.few, p.set_top_bound, c.loop-k-test.true)
 
 pub log_at-y-requires : goal.log_at-y-requires
 log_at-y-requires c =
     let v = c.loop-k.invariant in let p = c.requires in
-    let b = c.loop-k-test.true in record { logs_at = p.0.each _ b; at_le_log_top = omega (arith, v.high, v.few, p.0.few, p.1.0, b); room_for = adding_room v p.1.1 (up_next _ _ b) }
+    let b = c.loop-k-test.true in record { logs_at = p.logs_set.each _ b; at_le_log_top = omega (arith, v.high, v.few, p.logs_set.few, p.set_top_bound, b); room_for = adding_room v p.room_for (up_next _ _ b) }
 
 pub overflow_add-x : goal.overflow_add-x
 overflow_add-x c =
     let v = c.loop-k.invariant in
     let p = c.requires in
-    omega (arith, v.high, v.few, p.0.few, c.loop-k-test.true, c.log_at-y.ensures.few)
+    omega (arith, v.high, v.few, p.logs_set.few, c.loop-k-test.true, c.log_at-y.ensures.few)
 
 pub overflow_add-k : goal.overflow_add-k
 overflow_add-k c =
@@ -36,7 +36,7 @@ pub loop-k-preserved : goal.loop-k-preserved
 loop-k-preserved c =
     let p = c.requires in
     let b = c.loop-k-test.true in
-    adding_turn c.loop-k.invariant p.1.1 (up_next _ _ b) b c.log_at-y.ensures (omega arith)
+    adding_turn c.loop-k.invariant p.room_for (up_next _ _ b) b c.log_at-y.ensures (omega arith)
 
 pub returns : goal.returns
 returns c =

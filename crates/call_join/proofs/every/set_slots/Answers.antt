@@ -12,12 +12,12 @@ loop-k-init c = (omega arith, setting_start _ _ _ _)
 pub set_at-requires : goal.set_at-requires
 set_at-requires c =
     let p = c.requires in
-    setting_ready p.0 c.loop-k.invariant.1 (rw p.1.0 at c.loop-k-test.true) p.1.1
+    setting_ready p.joins c.loop-k.invariant.1 (rw p.n_value.0 at c.loop-k-test.true) p.n_value.1
 
 pub overflow_add-k : goal.overflow_add-k
 overflow_add-k c =
     let p = c.requires in
-    omega (arith, p.0.given.start.textures, c.loop-k-test.true, p.1.0)
+    omega (arith, p.joins.given.start.textures, c.loop-k-test.true, p.n_value.0)
 
 pub loop-k-smaller : goal.loop-k-smaller
 loop-k-smaller c = omega (arith, c.loop-k-test.true)
@@ -25,9 +25,9 @@ loop-k-smaller c = omega (arith, c.loop-k-test.true)
 pub loop-k-preserved : goal.loop-k-preserved
 loop-k-preserved c =
     let p = c.requires in let h = c.loop-k-test.true in
-    (omega (arith, h), setting_next p.0 c.loop-k.invariant.1 (rw p.1.0 at h) c.set_at.ensures)
+    (omega (arith, h), setting_next p.joins c.loop-k.invariant.1 (rw p.n_value.0 at h) c.set_at.ensures)
 
 pub returns : goal.returns
 returns c =
     let p = c.requires in let v = c.loop-k.invariant in
-    setting_end _ _ p.1.1 (omega (arith, v.0, c.loop-k-test.false, p.1.0)) v.1
+    setting_end _ _ p.n_value.1 (omega (arith, v.0, c.loop-k-test.false, p.n_value.0)) v.1

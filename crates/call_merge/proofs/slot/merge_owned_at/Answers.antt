@@ -10,7 +10,7 @@ returns-then-given-i-eq0 c = rw (eq-eqb _ _ c.if-given-i-eq0.true) (scope_kept _
 pub merge_given_at-requires : goal.merge_given_at-requires
 merge_given_at-requires c =
     let p = c.requires in
-    let w = where_owned _ c.if-given-i-eq0.false p.0 in record { half_ready = w.0; half_given = w.1; p_value = p.1 }
+    let w = where_owned _ c.if-given-i-eq0.false p.owned_ready in record { half_ready = w.0; half_given = w.1; p_value = p.p_value }
 
 pub returns : goal.returns
 returns c =

@@ -38,7 +38,7 @@ subresources-requires c = let m = (entry c).requires.0.tracker.starts in (m.text
 
 pub log_listed-n-requires : goal.log_listed-n-requires
 log_listed-n-requires c =
-    let pre = (entry c).requires in let q = pre.0 in let w = rw c.flags_of-p.ensures (logs_listed q.tracker q.scope q.passed, (pre.1.1.0, (omega arith, λ w. absurd (false≢true w)))) in record { logs_listed = w.0; is_bound = w.1; most_entries_bound = w.2; fact = w.3 }
+    let pre = (entry c).requires in let q = pre.0 in rw c.flags_of-p.ensures (record { logs_listed = logs_listed q.tracker q.scope q.passed; is_bound = pre.1.1.0; most_entries_bound = omega arith; fact = λ w. absurd (false≢true w) })
 
 pub returns-then-free-n : goal.returns-then-free-n
 returns-then-free-n c =

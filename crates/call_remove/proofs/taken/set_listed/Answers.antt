@@ -9,7 +9,7 @@ loop-k-init c = taking_start _ _ _ _ _ _
 pub take_at-requires : goal.take_at-requires
 take_at-requires c =
     let p = c.requires in
-    rw c.wide-i.ensures.0 (taking_ready p.0 c.loop-k.invariant c.loop-k-test.true p.1)
+    rw c.wide-i.ensures.0 (taking_ready p.listing c.loop-k.invariant c.loop-k-test.true p.p_value)
 
 pub overflow_add-k : goal.overflow_add-k
 overflow_add-k c = omega (arith, c.loop-k-test.true)
@@ -21,7 +21,7 @@ pub loop-k-preserved : goal.loop-k-preserved
 loop-k-preserved c =
     let p = c.requires in
     let z = (rw c.wide-i.ensures.0 at c.take_at.ensures) in
-    taking_turn p.0 c.loop-k.invariant c.loop-k-test.true p.1 z
+    taking_turn p.listing c.loop-k.invariant c.loop-k-test.true p.p_value z
 
 pub returns : goal.returns
 returns c = taking_end c.loop-k.invariant c.loop-k-test.false

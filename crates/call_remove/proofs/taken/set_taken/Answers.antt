@@ -31,7 +31,7 @@ pub returns-then-both_single : goal.returns-then-both_single
 returns-then-both_single c =
     let p = c.requires in
     let single = sym c.both_single.ensures ∙ c.if-both_single.true in
-    rw c.set_state.ensures (plain_set p.0 p.1 c.if-table-i-eq0.false single)
+    rw c.set_state.ensures (plain_set p.sets_at p.fact c.if-table-i-eq0.false single)
 
 pub set_owned_at-requires-2 : goal.set_owned_at-requires-2
 set_owned_at-requires-2 c = c.requires.sets_at

@@ -43,7 +43,7 @@ subresources-requires c = let m = (entry c).requires.0.start.measured in (m.text
 
 pub log_use_at-n-requires : goal.log_use_at-n-requires
 log_use_at-n-requires c =
-    let pre = (entry c).requires in let w = rw c.flags_of-p.ensures (pre.0, (pre.1.0, (omega arith, λ w. absurd (false≢true w)))) in record { both_ready = w.0; taken_use = w.1; at_le_log_top = w.2; fact = w.3 }
+    let pre = (entry c).requires in rw c.flags_of-p.ensures (record { both_ready = pre.0; taken_use = pre.1.0; at_le_log_top = omega arith; fact = λ w. absurd (false≢true w) })
 
 pub returns-then-free-n : goal.returns-then-free-n
 returns-then-free-n c =
@@ -56,11 +56,11 @@ log_use_at-n-requires-2 c =
     let f = fitting c in
     let r = read c in let a = (entry r).args in let pre = (entry r).pre in
     let k = pre.1.1.1.0 in let h = head_le (length a.log.now / 7) a.head k in
-    let room = room_for a.head a.log.now (new (entry r)) k f.fits in let w = rw (r.flags_of.ensures, f.same) (pre.0, (pre.1.0, (omega (arith, h, pre.1.1.1.1), λ w. room))) in record { both_ready = w.0; taken_use = w.1; at_le_log_top = w.2; fact = w.3 }
+    let room = room_for a.head a.log.now (new (entry r)) k f.fits in rw (r.flags_of.ensures, f.same) (record { both_ready = pre.0; taken_use = pre.1.0; at_le_log_top = omega (arith, h, pre.1.1.1.1); fact = λ w. room })
 
 pub set_use_at-requires : goal.set_use_at-requires
 set_use_at-requires c =
-    let r = read c in let w = rw r.flags_of.ensures ((entry r).pre.0, (entry r).pre.1.0) in record { both_ready = w.0; taken_use = w.1 }
+    let r = read c in rw r.flags_of.ensures (record { both_ready = (entry r).pre.0; taken_use = (entry r).pre.1.0 })
 
 pub moved_on-requires : goal.moved_on-requires
 moved_on-requires c =

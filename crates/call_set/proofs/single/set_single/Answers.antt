@@ -4,41 +4,33 @@ use Rattle.set_wellformed.specs.Whole.{tracker_unfit, tracker_fit}
 use Rattle.set_ready.specs.Tested.{tracker_tested}
 use Rattle.texture_track.specs.Tracked.{away_unfit, away_short}
 use Rattle.call_set.proofs.Uses.{single_away, single_done, single_few, single_ready, single_use, as_use_lem}
+use Rattle.model.specs.Prelude.{ap, not}
 use Rattle.call_set.proofs.single.set_single.Goals as goal
 
 pub returns-then-not-tracker_fits : goal.returns-then-not-tracker_fits
-returns-then-not-tracker_fits c = rw c.refused.ensures (away_unfit (tracker_unfit c.tracker_fits_lem.ensures c.if-not-tracker_fits.true))
+returns-then-not-tracker_fits c = rw c.refused.ensures (away_unfit (tracker_unfit c.tracker_fits.ensures (ap not c.if-not-tracker_fits.true)))
 
 pub returns-then-not-head_fits : goal.returns-then-not-head_fits
 returns-then-not-head_fits c =
     let k = (rw c.lent_entries.ensures.0 at (sym c.head_fits.ensures
     ∙ (c.if-not-head_fits.true))) in
     rw c.refused-then-not-head_fits.ensures
-    (away_short (tracker_fit c.tracker_fits_lem.ensures c.if-not-tracker_fits.false) k)
+    (away_short (tracker_fit c.tracker_fits.ensures (ap not c.if-not-tracker_fits.false)) k)
 
 pub check_single-requires : goal.check_single-requires
 check_single-requires c =
-    (tracker_tested _ _ _ c.tracker_fits_lem.ensures.long (tracker_fit c.tracker_fits_lem.ensures
-    c.if-not-tracker_fits.false)).starts.textures
+    (tracker_tested _ _ _ c.tracker_fits.ensures.long (tracker_fit c.tracker_fits.ensures
+    (ap not c.if-not-tracker_fits.false))).starts.textures
 
 pub set_checked-requires : goal.set_checked-requires
 set_checked-requires c =
     let a = c.args in
     let z = (rw (c.in-Accepted.is, c.state_of-new.ensures.0) at
     c.check_single.ensures) in
-    let fit = tracker_fit c.tracker_fits_lem.ensures c.if-not-tracker_fits.false in
+    let fit = tracker_fit c.tracker_fits.ensures (ap not c.if-not-tracker_fits.false) in
     let k = (rw c.lent_entries.ensures.0 at (sym c.head_fits.ensures
-    ∙ (c.if-not-head_fits.false))) in let w = rw (c.wide-i.ensures.0, c.state_of-new.ensures.0) (
-      single_ready z (tracker_tested _ _ _ c.tracker_fits_lem.ensures.long fit),
-      (
-        single_use z c.is_full-all.ensures,
-        (
-          single_few a.table.now a.starts.now a.ends.now _ _ fit c.state_of-new.ensures.1 z _
-              (as_use_lem _ _ _ _ c.is_full-all.ensures),
-          (k, c.lent_entries.ensures.1),
-        ),
-      ),
-    ) in record { both_ready = w.0; taken_use = w.1; len_bound = w.2; head_value = w.3; log_len_bound = w.4 }
+    ∙ (c.if-not-head_fits.false))) in rw (c.wide-i.ensures.0, c.state_of-new.ensures.0) (record { both_ready = single_ready z (tracker_tested _ _ _ c.tracker_fits.ensures.long fit); taken_use = single_use z c.is_full-all.ensures; len_bound = single_few a.table.now a.starts.now a.ends.now _ _ fit c.state_of-new.ensures.1 z _
+              (as_use_lem _ _ _ _ c.is_full-all.ensures); head_value = k; log_len_bound = c.lent_entries.ensures.1 })
 
 pub returns-in-Accepted : goal.returns-in-Accepted
 returns-in-Accepted c =
@@ -46,7 +38,7 @@ returns-in-Accepted c =
     c.check_single.ensures) in
     let k = (rw c.lent_entries.ensures.0 at (sym c.head_fits.ensures
     ∙ (c.if-not-head_fits.false))) in
-    single_done (tracker_fit c.tracker_fits_lem.ensures c.if-not-tracker_fits.false) k _ z
+    single_done (tracker_fit c.tracker_fits.ensures (ap not c.if-not-tracker_fits.false)) k _ z
     (as_use_lem _ _ _ _ c.is_full-all.ensures)
     (rw (c.wide-i.ensures.0, c.state_of-new.ensures.0) at
     c.set_checked.ensures)
@@ -57,4 +49,4 @@ returns-in-Refused c =
     c.check_single.ensures) in
     let k = (rw c.lent_entries.ensures.0 at (sym c.head_fits.ensures
     ∙ (c.if-not-head_fits.false))) in
-    rw c.refused-in-Refused.ensures (single_away (tracker_fit c.tracker_fits_lem.ensures c.if-not-tracker_fits.false) k z)
+    rw c.refused-in-Refused.ensures (single_away (tracker_fit c.tracker_fits.ensures (ap not c.if-not-tracker_fits.false)) k z)

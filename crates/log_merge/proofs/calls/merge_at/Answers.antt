@@ -25,20 +25,20 @@ returns-then-not-head_fits c =
     (rw c.lent_entries-lent.ensures.0 at (sym c.head_fits.ensures ∙ (c.if-not-head_fits.true))))
 
 pub returns-then-not-need : goal.returns-then-not-need
-returns-then-not-need c = rw c.turned_away-then-not-need.ensures (away_disordered (looked c) ((c.if-not-need.true)))
+returns-then-not-need c = rw c.turned_away-then-not-need.ensures (away_disordered (looked c) (not-true _ c.if-not-need.true))
 
 pub returns-then-head-total : goal.returns-then-head-total
 returns-then-head-total c =
-    rw c.turned_away-then-head-total.ensures (away_few (looked c) ((c.if-not-need.false)) c.if-head-total.true)
+    rw c.turned_away-then-head-total.ensures (away_few (looked c) (not-false _ c.if-not-need.false) c.if-head-total.true)
 
 pub weave-rest-requires : goal.weave-rest-requires
 weave-rest-requires c =
-    weavable (looked c) ((c.if-not-need.false)) c.if-head-total.false
+    weavable (looked c) (not-false _ c.if-not-need.false) c.if-head-total.false
 
 pub overflow_add-result : goal.overflow_add-result
 overflow_add-result c =
-    record { fits = sum_fits (looked c) ((c.if-not-need.false)) c.if-head-total.false }
+    record { fits = sum_fits (looked c) (not-false _ c.if-not-need.false) c.if-head-total.false }
 
 pub returns : goal.returns
 returns c =
-    merges (looked c) ((c.if-not-need.false)) c.if-head-total.false c.weave-rest.ensures
+    merges (looked c) (not-false _ c.if-not-need.false) c.if-head-total.false c.weave-rest.ensures

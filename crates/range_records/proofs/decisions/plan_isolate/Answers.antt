@@ -16,17 +16,17 @@ told_fits c = let a = c.before.before.before.args in run_told a.lent a.told a.s 
 pub overflow_add-n : goal.overflow_add-n
 overflow_add-n c =
     let p = c.requires in
-    record { fits = omega (arith, told_fits c, c.one.ensures.1, p.0.gaps, p.0.lead, p.0.tail, p.1) }
+    record { fits = omega (arith, told_fits c, c.one.ensures.1, p.few.gaps, p.few.lead, p.few.tail, p.lent_bound) }
 
 pub overflow_add-n-in-Accepted : goal.overflow_add-n-in-Accepted
 overflow_add-n-in-Accepted c =
     let p = c.requires in
-    record { fits = omega (arith, told_fits c, c.one.ensures.1, p.0.gaps, p.0.lead, p.0.tail, p.1) }
+    record { fits = omega (arith, told_fits c, c.one.ensures.1, p.few.gaps, p.few.lead, p.few.tail, p.lent_bound) }
 
 pub overflow_add-n-in-Accepted-2 : goal.overflow_add-n-in-Accepted-2
 overflow_add-n-in-Accepted-2 c =
     let p = c.requires in
-    record { fits = omega (arith, told_fits c, c.one.ensures.1, p.0.gaps, p.0.lead, p.0.tail, p.1) }
+    record { fits = omega (arith, told_fits c, c.one.ensures.1, p.few.gaps, p.few.lead, p.few.tail, p.lent_bound) }
 
 pub returns-then-lent-n : goal.returns-then-lent-n
 unfolding isolate_plan

@@ -3,6 +3,7 @@ use Rattle.model.specs.Prelude.{◌-◌}
 use Rattle.set_wellformed.specs.Parts.{Testing, testing_start, testing_stop, testing_turn, testing_end}
 use Rattle.set_wellformed.specs.Unknowns.{mip_agrees, itself}
 use Rattle.set_wellformed.proofs.{Ends.mip_of_lem}
+use Rattle.model.specs.Prelude.{ap, not}
 use Rattle.set_wellformed.proofs.unknowns.mips_agree.Goals as goal
 
 pub loop-m-init : goal.loop-m-init
@@ -14,11 +15,11 @@ mip_agrees-requires c =
 
 pub returns-then-not-mip_agrees : goal.returns-then-not-mip_agrees
 returns-then-not-mip_agrees c =
-    testing_stop c.loop-m.invariant c.loop-m-test.true c.mip_agrees.ensures c.if-not-mip_agrees.true
+    testing_stop c.loop-m.invariant c.loop-m-test.true c.mip_agrees.ensures (ap not c.if-not-mip_agrees.true)
 
 pub loop-m-preserved : goal.loop-m-preserved
 loop-m-preserved c =
-    testing_turn c.loop-m.invariant c.loop-m-test.true c.mip_agrees.ensures c.if-not-mip_agrees.false
+    testing_turn c.loop-m.invariant c.loop-m-test.true c.mip_agrees.ensures (ap not c.if-not-mip_agrees.false)
 
 pub returns : goal.returns
 returns c = testing_end c.loop-m.invariant c.loop-m-test.false

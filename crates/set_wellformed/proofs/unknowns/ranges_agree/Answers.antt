@@ -8,7 +8,7 @@ pub loop-i-init : goal.loop-i-init
 loop-i-init c = (omega arith, (omega arith, walk_start c.requires))
 
 pub get-x-requires : goal.get-x-requires
-get-x-requires c = omega (arith, c.requires.false)
+get-x-requires c = omega (arith, c.requires.left)
 
 pub get-y-requires : goal.get-y-requires
 get-y-requires c =

@@ -4,6 +4,7 @@ use Rattle.model.specs.WellFormed.{ends_fit, slot_fits}
 use Rattle.set_storage.specs.Storage.{numbers_of, flags_of, tracker_slot}
 use Rattle.set_wellformed.specs.{Parts.{every_at, Testing, testing_start, testing_stop, testing_turn, testing_end}, Unknowns.itself}
 use Rattle.set_wellformed.specs.Words.{tracker_word_fits}
+use Rattle.model.specs.Prelude.{ap, not}
 use Rattle.set_wellformed.proofs.unknowns.slots_fit.Goals as goal
 
 pub loop-i-init : goal.loop-i-init
@@ -11,16 +12,16 @@ loop-i-init c = testing_start _ _ _
 
 pub slot_fits-requires : goal.slot_fits-requires
 slot_fits-requires c =
-    let q = c.requires in record { counts_ones = c.requires.counts_ones; texture_stored = record { measured = q.counts_ones; texture = omega arith }; texture_stored_2 = record { measured = q.measured; texture = omega arith }; p_value = q.measured_2.1; i_value = every_at (tracker_word_fits c.args.table.now) itself _ _
-            q. c.loop-i-test.true }
+    let q = c.requires in record { counts_ones = c.requires.counts_ones; texture_stored = record { measured = q.measured; texture = omega arith }; texture_stored_2 = record { measured = q.measured_2; texture = omega arith }; p_value = q.n_value.1; i_value = every_at (tracker_word_fits c.args.table.now) itself _ _
+            q.n_value_2 c.loop-i-test.true }
 
 pub returns-then-not-slot_fits : goal.returns-then-not-slot_fits
 returns-then-not-slot_fits c =
-    testing_stop c.loop-i.invariant c.loop-i-test.true c.slot_fits.ensures c.if-not-slot_fits.true
+    testing_stop c.loop-i.invariant c.loop-i-test.true c.slot_fits.ensures (ap not c.if-not-slot_fits.true)
 
 pub loop-i-preserved : goal.loop-i-preserved
 loop-i-preserved c =
-    testing_turn c.loop-i.invariant c.loop-i-test.true c.slot_fits.ensures c.if-not-slot_fits.false
+    testing_turn c.loop-i.invariant c.loop-i-test.true c.slot_fits.ensures (ap not c.if-not-slot_fits.false)
 
 pub returns : goal.returns
 returns c = testing_end c.loop-i.invariant c.loop-i-test.false

@@ -1,4 +1,5 @@
 -- One index more is one test more of each kind and its part of the union; what the union leaves is tested last.
+use Rattle.model.specs.Prelude.{ap, not}
 use Rattle.model.specs.Prelude.{◌≤◌, ◌-◌, arith, ◌≡◌, sym, ◌∙◌, not-false}
 use Rattle.usage.specs.Gathered.{Gathered, gathered_none, gathered_more}
 use Rattle.set_storage.specs.Storage.{start_half}
@@ -22,13 +23,13 @@ loop-i-preserved c =
 pub returns-then-not-fit : goal.returns-then-not-fit
 returns-then-not-fit c =
     let z : c.loop-i.i ≡ c.args.n = omega arith in
-    scope_unfit c.args.table.now c.args.n (rw z at c.loop-i.invariant.1.0) c.if-not-fit.true
+    scope_unfit c.args.table.now c.args.n (rw z at c.loop-i.invariant.1.0) (ap not c.if-not-fit.true)
 
 pub scope_compatible-requires : goal.scope_compatible-requires
 scope_compatible-requires c =
     let x = c.requires.n_bound in
     let z : c.loop-i.i ≡ c.args.n = omega arith in
-    let inv = rw z at c.loop-i.invariant in let w = inv.1.0 in record { counts_ones = c.requires.counts_ones; n_bound = x; n_value = sym w.fit ∙ (c.if-not-fit.false); gathered = inv.1.1 }
+    let inv = rw z at c.loop-i.invariant in let w = inv.1.0 in record { counts_ones = c.requires.counts_ones; n_bound = x; n_value = sym w.fit ∙ c.if-not-fit.false; gathered = inv.1.1 }
 
 pub returns : goal.returns
 returns c =

@@ -11,7 +11,7 @@ barrier_use-requires c =
     let n = told_single c.flags_of-flags.ensures c.if-new-flags.true in
     let room = rw (given_single_lem p.texture_held a.p a.mask p.texture_held_2 n) at p.fact in
     let w : SelectorWithin a.extent (full a.extent) =
-    record { order = r.mip; in_mips_lem = omega arith; span = r.some; in_layers = omega arith } in let w = rw c.full.ensures (p.texture_held, ((w, λ z. refl), (p.at_le_log_top, room))) in record { texture_held = w.0; selector_within = w.1; at_le_log_top = w.2; fact = w.3 }
+    record { order = r.mip; in_mips = omega arith; span = r.some; in_layers = omega arith } in rw c.full.ensures (record { texture_held = p.texture_held; selector_within = (w, λ z. refl); at_le_log_top = p.at_le_log_top; fact = room })
 
 pub returns-then-new-flags : goal.returns-then-new-flags
 returns-then-new-flags c =

@@ -9,16 +9,16 @@ returns-then-not-moves c = move_none _ _ _ _ _ _ _ _ _ (sym c.moves.ensures ∙ 
 pub returns-then-not-t : goal.returns-then-not-t
 returns-then-not-t c =
     move_counted _ _ _ _ _ _ _ _ _ (sym c.moves.ensures
-    ∙ (c.if-not-moves.false)) ((c.if-not-t.true))
+    ∙ (c.if-not-moves.false)) (not-true _ c.if-not-t.true)
 
 pub put_entry-requires : goal.put_entry-requires
 put_entry-requires c =
     let a = c.args in
     move_room a.selector a.t.unknown a.t.mask a.old a.new a.t.index.0 a.t.write a.log.now a.at
     (sym c.moves.ensures ∙ (c.if-not-moves.false))
-    ((c.if-not-t.false)) c.requires
+    (not-false _ c.if-not-t.false) c.requires
 
 pub returns : goal.returns
 returns c =
-    move_written _ _ _ _ _ _ _ _ _ (sym c.moves.ensures ∙ (c.if-not-moves.false)) ((c.if-not-t.false))
+    move_written _ _ _ _ _ _ _ _ _ (sym c.moves.ensures ∙ (c.if-not-moves.false)) (not-false _ c.if-not-t.false)
     c.put_entry.ensures

@@ -10,10 +10,10 @@ pub loop-m-init : goal.loop-m-init
 loop-m-init c = (omega arith, walk_from _ _ _ _ _ _ _ (omega arith) (λ j x a. absurd (omega arith)))
 
 pub fresh_mip-requires : goal.fresh_mip-requires
-fresh_mip-requires c = let p = c.requires in lap_ready p.decreases p.texture c.loop-m.invariant.1 (rw p.all at c.loop-m-test.true)
+fresh_mip-requires c = let p = c.requires in lap_ready p.measured p.texture c.loop-m.invariant.1 (rw p.all at c.loop-m-test.true)
 
 pub loop-m-preserved : goal.loop-m-preserved
-loop-m-preserved c = let p = c.requires in (omega arith, lap_on p.decreases p.texture c.loop-m.invariant.1 (rw p.all at c.loop-m-test.true) (λ s. fine _) (λ x. refl) (record { conflict = refl; into = c.fresh_mip.ensures }) refl)
+loop-m-preserved c = let p = c.requires in (omega arith, lap_on p.measured p.texture c.loop-m.invariant.1 (rw p.all at c.loop-m-test.true) (λ s. fine _) (λ x. refl) (record { conflict = refl; into = c.fresh_mip.ensures }) refl)
 
 pub returns : goal.returns
-returns c = let p = c.requires in fresh_end p.decreases p.texture c.loop-m.invariant.1 p.all c.loop-m-test.false
+returns c = let p = c.requires in fresh_end p.measured p.texture c.loop-m.invariant.1 p.all c.loop-m-test.false

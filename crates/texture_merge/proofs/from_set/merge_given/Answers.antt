@@ -7,7 +7,7 @@ use Rattle.texture_merge.proofs.from_set.merge_given.Goals as goal
 
 pub merge_single_use-requires : goal.merge_single_use-requires
 merge_single_use-requires c =
-    let w = rw c.full-q.ensures ((set_use _ c.requires.set_ready c.if-word-p.true), single_ready (set_use _ c.requires.set_ready c.if-word-p.true) (set_held c.requires.merge_ready c.if-word-p.true) _ refl c.if-cur-p.true) in record { use_ready = w.0; single_ready = w.1 }
+    rw c.full-q.ensures (record { use_ready = (set_use _ c.requires.set_ready c.if-word-p.true); single_ready = single_ready (set_use _ c.requires.set_ready c.if-word-p.true) (set_held c.requires.merge_ready c.if-word-p.true) _ refl c.if-cur-p.true })
 
 pub returns-then-cur-p : goal.returns-then-cur-p
 returns-then-cur-p c =
@@ -15,7 +15,7 @@ returns-then-cur-p c =
 
 pub merge_use-requires : goal.merge_use-requires
 merge_use-requires c =
-    let w = rw c.full-q.ensures ((set_use _ c.requires.set_ready c.if-word-p.true), (set_held c.requires.merge_ready c.if-word-p.true)) in record { use_ready = w.0; held_ready = w.1 }
+    rw c.full-q.ensures (record { use_ready = (set_use _ c.requires.set_ready c.if-word-p.true); held_ready = (set_held c.requires.merge_ready c.if-word-p.true) })
 
 pub returns-then-word-p : goal.returns-then-word-p
 returns-then-word-p c =
@@ -23,7 +23,7 @@ returns-then-word-p c =
 
 pub give_mips-requires : goal.give_mips-requires
 give_mips-requires c =
-    let w = rw c.wide-mips.ensures.0 (many_ready c.requires.set_ready c.if-word-p.false c.requires.merge_ready c.if-cur-p-2.true) in record { half_tiled = w.0; given_texture = w.1 }
+    rw c.wide-mips.ensures.0 (let w = (many_ready c.requires.set_ready c.if-word-p.false c.requires.merge_ready c.if-cur-p-2.true) in record { half_tiled = w.0; given_texture = w.1 })
 
 pub returns-then-cur-p-2 : goal.returns-then-cur-p-2
 returns-then-cur-p-2 c =
@@ -35,7 +35,7 @@ fresh_mips-requires c =
 
 pub give_mips-x-requires : goal.give_mips-x-requires
 give_mips-x-requires c =
-    let w = rw c.wide-mips.ensures.0 (spread_ready c.requires.set_ready c.if-word-p.false c.requires.merge_ready refl c.if-cur-p-2.false (rw c.wide-mips.ensures.0 at c.fresh_mips.ensures)) in record { half_tiled = w.0; given_texture = w.1 }
+    rw c.wide-mips.ensures.0 (let w = (spread_ready c.requires.set_ready c.if-word-p.false c.requires.merge_ready refl c.if-cur-p-2.false (rw c.wide-mips.ensures.0 at c.fresh_mips.ensures)) in record { half_tiled = w.0; given_texture = w.1 })
 
 pub returns-in-At : goal.returns-in-At
 returns-in-At c =

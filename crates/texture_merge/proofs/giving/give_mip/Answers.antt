@@ -16,7 +16,7 @@ piece_at-q-requires c = let p = c.requires in lap_small p.half_tiled p.given_mip
 
 pub take_piece-x-requires : goal.take_piece-x-requires
 take_piece-x-requires c =
-    let p = c.requires in let w = c.loop-k.invariant in let w = rw (c.piece_at-q.ensures) (lap_many p.half_tiled w.1, range_selects p.half_tiled p.given_mip _ _ w.1 c.loop-k-test.true c.get-r.ensures) in record { half_tiled = w.0; selects = w.1 }
+    let p = c.requires in let w = c.loop-k.invariant in rw (c.piece_at-q.ensures) (record { half_tiled = lap_many p.half_tiled w.1; selects = range_selects p.half_tiled p.given_mip _ _ w.1 c.loop-k-test.true c.get-r.ensures })
 
 pub shape_of-ranges-in-At : goal.shape_of-ranges-in-At
 shape_of-ranges-in-At c = let w = c.loop-k.invariant in let e = c.take_piece-x.ensures.into.frame.ranges.long ∙ w.1.frame.ranges.long in search (rules, e)

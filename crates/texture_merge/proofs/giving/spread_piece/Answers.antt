@@ -10,7 +10,7 @@ returns-in_default c = let e = sym (rw c.in_default.is at c.unite.ensures) in rw
 
 pub update_mips-requires : goal.update_mips-requires
 update_mips-requires c =
-    let w = c.requires in record { half_tiled = w.0; selects = w.1 }
+    record { half_tiled = c.requires.half_tiled; selects = c.requires.selects }
 
 pub returns : goal.returns
 unfolding spread_piece

@@ -5,19 +5,19 @@ use Rattle.texture_merge.proofs.giving.take_piece.Goals as goal
 
 pub paint_mips-requires : goal.paint_mips-requires
 paint_mips-requires c =
-    let w = c.requires in record { half_tiled = w.0; selects = w.1 }
+    record { half_tiled = c.requires.half_tiled; selects = c.requires.selects }
 
 pub merge_mips-requires : goal.merge_mips-requires
 merge_mips-requires c =
-    let w = c.requires in record { half_tiled = w.0; selects = w.1 }
+    record { half_tiled = c.requires.half_tiled; selects = c.requires.selects }
 
 pub spread_piece-requires : goal.spread_piece-requires
 spread_piece-requires c =
-    let w = c.requires in record { half_tiled = w.0; selects = w.1 }
+    record { half_tiled = c.requires.half_tiled; selects = c.requires.selects }
 
 pub update_mips-requires : goal.update_mips-requires
 update_mips-requires c =
-    let w = c.requires in record { half_tiled = w.0; selects = w.1 }
+    record { half_tiled = c.requires.half_tiled; selects = c.requires.selects }
 
 pub returns-in-Insert : goal.returns-in-Insert
 unfolding taken

@@ -12,11 +12,11 @@ returns-then-table-i-eq0 c = rw (ne_eqb _ _ c.if-given-i-eq0.false, eq-eqb _ _ c
 
 pub both_single-requires : goal.both_single-requires
 both_single-requires c =
-    (c.requires.logs_at.index, (c.requires.logs_at.given (rw (ne_eqb _ _ c.if-given-i-eq0.false))).decreases.half.1)
+    (c.requires.logs_at.index, (c.requires.logs_at.given (rw (ne_eqb _ _ c.if-given-i-eq0.false))).measured.half.1)
 
 pub log_single-requires : goal.log_single-requires
 log_single-requires c =
-    record { i_bound = (c.requires.logs_at.index, (c.requires.logs_at.given (rw (ne_eqb _ _ c.if-given-i-eq0.false))).decreases.half.1); room_for = rw (plain_entries c.args.p c.args.mask c.args.table.now c.args.ends.now
+    record { i_bound = (c.requires.logs_at.index, (c.requires.logs_at.given (rw (ne_eqb _ _ c.if-given-i-eq0.false))).measured.half.1); room_for = rw (plain_entries c.args.p c.args.mask c.args.table.now c.args.ends.now
           c.args.from c.args.given.now c.args.first.now c.args.i c.if-given-i-eq0.false
           c.if-table-i-eq0.false (sym c.both_single.ensures ∙ c.if-both_single.true)) at c.requires.room_for }
 
@@ -29,7 +29,7 @@ returns-then-both_single c =
 
 pub log_owned_at-requires : goal.log_owned_at-requires
 log_owned_at-requires c =
-    let w = c.requires in record { logs_at = w.0; at_le_log_top = w.1; room_for = w.2 }
+    record { logs_at = c.requires.logs_at; at_le_log_top = c.requires.at_le_log_top; room_for = c.requires.room_for }
 
 pub returns : goal.returns
 returns c = c.log_owned_at.ensures

@@ -4,14 +4,14 @@ use Rattle.texture_update.proofs.Turns.{Turning, turn_start, turn_layers, turn_t
 use Rattle.texture_update.proofs.both.update_both_mips.Goals as goal
 
 pub loop-m-init : goal.loop-m-init
-loop-m-init c = let p = c.requires in rw c.wide-m.ensures.0 (turn_start _ _ p.0 p.1)
+loop-m-init c = let p = c.requires in rw c.wide-m.ensures.0 (turn_start _ _ p.both_ready p.selects)
 
 pub update_both_mip-requires : goal.update_both_mip-requires
 update_both_mip-requires c =
-    let p = c.requires in let w = c.loop-m.invariant in record { pair_tiled = turn_tiled _ _ p.0 p.1 w (omega (arith, c.loop-m-test.true, c.wide-top.ensures.0)); start_lt_end = (p.1.layers, rw (turn_layers _ _ p.0 p.1 w) p.1.in_layers) }
+    let p = c.requires in let w = c.loop-m.invariant in record { pair_tiled = turn_tiled _ _ p.both_ready p.selects w (omega (arith, c.loop-m-test.true, c.wide-top.ensures.0)); start_lt_end = (p.selects.layers, rw (turn_layers _ _ p.both_ready p.selects w) p.selects.in_layers) }
 
 pub loop-m-preserved : goal.loop-m-preserved
-loop-m-preserved c = let p = c.requires in turn_on _ _ p.0 p.1 c.loop-m.invariant (omega (arith, c.loop-m-test.true, c.wide-top.ensures.0)) c.update_both_mip.ensures
+loop-m-preserved c = let p = c.requires in turn_on _ _ p.both_ready p.selects c.loop-m.invariant (omega (arith, c.loop-m-test.true, c.wide-top.ensures.0)) c.update_both_mip.ensures
 
 pub returns : goal.returns
-returns c = let p = c.requires in turn_end _ _ p.0 p.1 c.loop-m.invariant (omega (arith, c.loop-m-test.false, c.wide-top.ensures.0))
+returns c = let p = c.requires in turn_end _ _ p.both_ready p.selects c.loop-m.invariant (omega (arith, c.loop-m-test.false, c.wide-top.ensures.0))

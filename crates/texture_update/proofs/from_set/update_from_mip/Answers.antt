@@ -8,17 +8,17 @@ use Rattle.texture_update.proofs.Takes.{Taking, range_start, range_small, range_
 use Rattle.texture_update.proofs.from_set.update_from_mip.Goals as goal
 
 pub loop-k-init : goal.loop-k-init
-loop-k-init c = let p = c.requires in (omega arith, range_start p.0 p.1)
+loop-k-init c = let p = c.requires in (omega arith, range_start p.pair_ready p.given_mip)
 
 pub piece_at-q-requires : goal.piece_at-q-requires
-piece_at-q-requires c = let p = c.requires in range_small p.0 p.1
+piece_at-q-requires c = let p = c.requires in range_small p.pair_ready p.given_mip
 
 pub update_piece-requires : goal.update_piece-requires
 update_piece-requires c =
-    let p = c.requires in let w = c.loop-k.invariant in let w = rw c.piece_at-q.ensures (w.1.ready, range_selects p.0 p.1 w.1 c.loop-k-test.true c.get-r.ensures) in record { pair_ready = w.0; selects = w.1 }
+    let p = c.requires in let w = c.loop-k.invariant in rw c.piece_at-q.ensures (record { pair_ready = w.1.ready; selects = range_selects p.pair_ready p.given_mip w.1 c.loop-k-test.true c.get-r.ensures })
 
 pub loop-k-preserved : goal.loop-k-preserved
-loop-k-preserved c = let p = c.requires in let w = c.loop-k.invariant in (omega arith, range_turn p.0 p.1 w.1 c.loop-k-test.true c.get-r.ensures (rw c.piece_at-q.ensures at c.update_piece.ensures))
+loop-k-preserved c = let p = c.requires in let w = c.loop-k.invariant in (omega arith, range_turn p.pair_ready p.given_mip w.1 c.loop-k-test.true c.get-r.ensures (rw c.piece_at-q.ensures at c.update_piece.ensures))
 
 pub returns : goal.returns
-returns c = let p = c.requires in let w = c.loop-k.invariant in range_done p.0 p.1 w.1 c.loop-k-test.false
+returns c = let p = c.requires in let w = c.loop-k.invariant in range_done p.pair_ready p.given_mip w.1 c.loop-k-test.false

@@ -7,7 +7,7 @@ returns-then-state-p c = piece_passed c.requires.pair_ready _ c.if-state-p.true
 
 pub update_mips-requires : goal.update_mips-requires
 update_mips-requires c =
-    let p = c.requires in record { half_tiled = end_ready p.0; selects = p.1 }
+    let p = c.requires in record { half_tiled = end_ready p.pair_ready; selects = p.selects }
 
 pub returns-then-first-p : goal.returns-then-first-p
 returns-then-first-p c =
@@ -15,7 +15,7 @@ returns-then-first-p c =
 
 pub update_both_mips-requires : goal.update_both_mips-requires
 update_both_mips-requires c =
-    let p = c.requires in record { both_ready = both_ready p.0 c.if-first-p.false; selects = p.1 }
+    let p = c.requires in record { both_ready = both_ready p.pair_ready c.if-first-p.false; selects = p.selects }
 
 pub returns : goal.returns
 returns c =

@@ -6,21 +6,21 @@ use Rattle.texture_update.proofs.{Cases.{part_single, part_kept, part_learnt}}
 use Rattle.texture_update.proofs.using.update_use.Goals as goal
 
 pub break_up-requires : goal.break_up-requires
-break_up-requires c = let p = c.requires in end_use p.0 p.1
+break_up-requires c = let p = c.requires in end_use p.update_ready p.selecting
 
 pub returns-then-cur-p : goal.returns-then-cur-p
-returns-then-cur-p c = let p = c.requires in part_single p.0 p.1 _ refl c.if-cur-p.true c.break_up.ensures
+returns-then-cur-p c = let p = c.requires in part_single p.update_ready p.selecting _ refl c.if-cur-p.true c.break_up.ensures
 
 pub update_mips-requires : goal.update_mips-requires
 update_mips-requires c =
-    let p = c.requires in record { half_tiled = end_many p.0 c.if-cur-p.false; selects = texture_selects p.0.end.ready p.1.selector }
+    let p = c.requires in record { half_tiled = end_many p.update_ready c.if-cur-p.false; selects = texture_selects p.update_ready.end.ready p.selecting.selector }
 
 pub returns-then-first-p : goal.returns-then-first-p
-returns-then-first-p c = let p = c.requires in part_kept p.0 p.1 c.if-cur-p.false c.if-first-p.true c.update_mips.ensures
+returns-then-first-p c = let p = c.requires in part_kept p.update_ready p.selecting c.if-cur-p.false c.if-first-p.true c.update_mips.ensures
 
 pub update_both_mips-requires : goal.update_both_mips-requires
 update_both_mips-requires c =
-    let p = c.requires in record { both_ready = both_many p.0 c.if-first-p.false c.if-cur-p.false; selects = texture_selects p.0.end.ready p.1.selector }
+    let p = c.requires in record { both_ready = both_many p.update_ready c.if-first-p.false c.if-cur-p.false; selects = texture_selects p.update_ready.end.ready p.selecting.selector }
 
 pub returns : goal.returns
-returns c = let p = c.requires in part_learnt p.0 p.1 c.if-cur-p.false c.if-first-p.false c.update_both_mips.ensures
+returns c = let p = c.requires in part_learnt p.update_ready p.selecting c.if-cur-p.false c.if-first-p.false c.update_both_mips.ensures
