@@ -19,4 +19,4 @@ pub walk_learn : {C : Type 0} (part : ℕ → List Range → List Range) (u new 
     ≡ fine (learn_all part u new k (list_from G k n) (list_from H k n))
 unfolding list_from
 walk_learn part u new G H k zero = refl
-walk_learn part u new G H k (suc n) = rw (walk_learn part u new G H (suc k) n)
+walk_learn {C = C} part u new G H k (suc n) = rw (walk_learn {C = C} part u new G H (suc k) n)
