@@ -92,4 +92,4 @@ module _ {A B : Type 0} (f : ℕ → A → B → A) where
   over_end F H G n m q =
       let z : Walked n (λ j x y. fine {C = ℕ} (f j x (G j)) ≡ fine y) F (λ j. m ≤ j) H =
       record { done = λ j h o. ap fine (sym (q.done j h o)); same = q.same } in
-      ap (λ (y : Stop ℕ (List A)). y.value) (sym (walk_end _ F H G n m z) ∙ over_walk 0 (list_from F 0 n) (list_from G 0 m))
+      ap (λ (y : Stop ℕ (List A)). y.value) (sym (walk_end (λ j x y. fine {C = ℕ} (f j x y)) F H G n m z) ∙ over_walk 0 (list_from F 0 n) (list_from G 0 m))
