@@ -17,8 +17,7 @@ pub merge_use_at-x-requires : goal.merge_use_at-x-requires
 merge_use_at-x-requires c =
     let z = (rw c.in-Accepted.is at c.check_single.ensures) in
     let k = scope_tested _ _ c.scope_fits.ensures.long
-    (scope_fit c.scope_fits.ensures (ap not c.if-not-scope_fits.false)) in let w = rw c.wide-i.ensures.0
-    (single_ready z k, single_use z c.use_of-u.ensures c.flags_of-p.ensures) in record { half_ready = w.0; taken_use = w.1 }
+    (scope_fit c.scope_fits.ensures (ap not c.if-not-scope_fits.false)) in rw c.wide-i.ensures.0 (record { half_ready = single_ready z k; taken_use = single_use z c.use_of-u.ensures c.flags_of-p.ensures })
 
 pub returns-in-Accepted : goal.returns-in-Accepted
 returns-in-Accepted c =

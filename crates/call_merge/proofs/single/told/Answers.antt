@@ -2,4 +2,4 @@
 use Rattle.call_merge.proofs.single.told.Goals as goal
 
 pub returns-in-At : goal.returns-in-At
-returns-in-At c = rw (c.x-1.given).1
+returns-in-At c = rw c.in-At.is
