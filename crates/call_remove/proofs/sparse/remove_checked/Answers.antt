@@ -1,44 +1,22 @@
 -- `remove_checked`: 15 where the entries do not fit; otherwise they are written, and both sets change.
-use Rattle.model.specs.Prelude.{ℕ, ◌/◌, arith, ⊎_elim, false≢true, List, length}
+use Rattle.model.specs.Prelude.{ℕ, ◌/◌, arith, false≢true, List, length}
 use Rattle.model.specs.declared.{PendingTransition.PendingTransition}
 use Rattle.log_head.specs.{Log.head_le, Called.{Fitting, counted_fits, all_fit, room_for, Wrote, wrote}}
 use Rattle.call_remove.specs.Logs.{removed_entries, logs_listed}
 use Rattle.call_remove.proofs.{Removal.{none_removed, all_removed}}
 use Rattle.call_remove.proofs.sparse.remove_checked.Goals as goal
-
--- the entry, from where the flags are read
-abbrev entry : tie.After-flags-of → tie.Start
-entry c = c.before.before.before.before.before.before.before
-
--- the entries of all that is listed
-abbrev new : tie.Start → List PendingTransition
-new c = let a = c.args in removed_entries a.table.now a.ends.now a.given.now a.lent.now a.indices.now
-
--- they fit
-fitting : (c : tie.Joined1) → let x = entry c.before.before.before.before in
-    Fitting (new x) x.args.head.free x.args.log.now c.if1.log
-fitting c =
-    let r = c.before.before.before.before in
-    ⊎_elim (λ w. counted_fits (rw r.flags_of.ensures at w.5.ensures) w.8.left w.9)
-    (λ w. all_fit (entry r).requires.1.0 c.before.subresources.ensures w.0.left w.1) c.if1.branch
-
--- the log, once they are written
-abbrev log : tie.After-log-listed2 → List ℕ
-log c = c.log-listed2.new.1.1.1.1.1.1.1.0
-
--- they are written
-logged : (c : tie.After-log-listed2) → let x = entry c.before.before.before.before.before.before.before.before.before in
-    Wrote (new x) x.args.head x.args.log.now c.log-listed2.result (log c)
-logged c =
-    let j = c.before.before.before.before.before in let f = fitting j in let r = j.before.before.before.before in
-    wrote (entry r).requires.1.1.1 f.fits (rw (r.flags_of.ensures, f.same) at c.log-listed2.ensures)
+use Rattle.call_remove.proofs.sparse.remove_checked.Goals.{then-free-subresources+else-free-n, else-free-subresources}
 
 pub subresources-requires : goal.subresources-requires
-subresources-requires c = let m = (entry c).requires.0.tracker.starts in (m.textures, (m.mips, m.layers))
+subresources-requires c = let m = c.requires.listing.tracker.starts in (m.textures, (m.mips, m.layers))
 
 pub log_listed-n-requires : goal.log_listed-n-requires
-log_listed-n-requires c =
-    let pre = (entry c).requires in let q = pre.0 in rw c.flags_of-p.ensures (record { logs_listed = logs_listed q.tracker q.scope q.passed; is_bound = pre.1.1.0; most_entries_bound = omega arith; fact = λ w. absurd (false≢true w) })
+log_listed-n-requires c = let q = c.requires.listing in rw c.flags_of-p.ensures (record {
+  logs_listed = logs_listed q.tracker q.scope q.passed;
+  is_bound = c.requires.indices_len_bound_2;
+  most_entries_bound = omega arith;
+  fact = λ w. absurd (false≢true w);
+})
 
 pub returns-then-free-n : goal.returns-then-free-n
 returns-then-free-n c =
@@ -47,24 +25,48 @@ returns-then-free-n c =
 
 pub log_listed-n-requires-2 : goal.log_listed-n-requires-2
 log_listed-n-requires-2 c =
-    let f = fitting c in
-    let a = (entry c).args in let pre = (entry c).requires in let q = pre.0 in
-    let room = room_for a.head a.log.now (new (entry c)) pre.1.1.1.0 f.fits in
-    let h = head_le (length a.log.now / 7) a.head pre.1.1.1.0 in let w = rw (c.flags_of-p.ensures, f.same)
-    (logs_listed q.tracker q.scope q.passed, (pre.1.1.0, (omega (arith, h, pre.1.1.1.1), λ w. room))) in record { logs_listed = w.0; is_bound = w.1; most_entries_bound = w.2; fact = w.3 }
+    let a = c.args in
+    let new : List PendingTransition = removed_entries a.table.now a.ends.now a.given.now a.lent.now a.indices.now in
+    let f : Fitting new a.head.free a.log.now c.if-free-subresources.log = elim c.if-free-subresources.branch [
+      then-free-subresources+else-free-n w ↦
+          counted_fits (rw c.flags_of-p.ensures at w.log_listed-n.ensures) w.if-free-n.false w.log-is
+      | else-free-subresources w ↦ all_fit c.requires.indices_len_bound c.subresources.ensures w.if-free-subresources.false w.log-is
+    ] in
+    let q = c.requires.listing in
+    let room = room_for a.head a.log.now new c.requires.head_value f.fits in
+    let h = head_le (length a.log.now / 7) a.head c.requires.head_value in
+    rw (c.flags_of-p.ensures, f.same) (record {
+      logs_listed = logs_listed q.tracker q.scope q.passed;
+      is_bound = c.requires.indices_len_bound_2;
+      most_entries_bound = omega (arith, h, c.requires.log_len_bound);
+      fact = λ w. room;
+    })
 
 pub set_listed-requires : goal.set_listed-requires
-set_listed-requires c =
-    record { listing = (entry c).requires.0; p_value = c.flags_of-p.ensures }
+set_listed-requires c = record { listing = c.requires.listing; p_value = c.flags_of-p.ensures }
 
 pub moved_on-requires : goal.moved_on-requires
 moved_on-requires c =
-    let w = (logged c).moves in record { n_le_free = w.0; free_bound = w.1 }
-
-pub shape_of-log : goal.shape_of-log
-shape_of-log c =
-    (logged c).into.long
+    let a = c.args in
+    let new : List PendingTransition = removed_entries a.table.now a.ends.now a.given.now a.lent.now a.indices.now in
+    let f : Fitting new a.head.free a.log.now c.if-free-subresources.log = elim c.if-free-subresources.branch [
+      then-free-subresources+else-free-n w ↦
+          counted_fits (rw c.flags_of-p.ensures at w.log_listed-n.ensures) w.if-free-n.false w.log-is
+      | else-free-subresources w ↦ all_fit c.requires.indices_len_bound c.subresources.ensures w.if-free-subresources.false w.log-is
+    ] in
+    let logged = wrote (c.requires.head_value, c.requires.log_len_bound) f.fits
+        (rw (c.flags_of-p.ensures, f.same) at c.log_listed-n-2.ensures) in
+    record { n_le_free = logged.moves.0; free_bound = logged.moves.1 }
 
 pub returns : goal.returns
 returns c =
-    rw c.moved_on.ensures (all_removed (logged c) c.set_listed.ensures)
+    let a = c.args in
+    let new : List PendingTransition = removed_entries a.table.now a.ends.now a.given.now a.lent.now a.indices.now in
+    let f : Fitting new a.head.free a.log.now c.if-free-subresources.log = elim c.if-free-subresources.branch [
+      then-free-subresources+else-free-n w ↦
+          counted_fits (rw c.flags_of-p.ensures at w.log_listed-n.ensures) w.if-free-n.false w.log-is
+      | else-free-subresources w ↦ all_fit c.requires.indices_len_bound c.subresources.ensures w.if-free-subresources.false w.log-is
+    ] in
+    let logged = wrote (c.requires.head_value, c.requires.log_len_bound) f.fits
+        (rw (c.flags_of-p.ensures, f.same) at c.log_listed-n-2.ensures) in
+    rw c.moved_on.ensures (all_removed logged c.set_listed.ensures)
