@@ -1,11 +1,11 @@
 -- What the passes' definitions say of one turn of their loops.
-use Rattle.model.specs.Prelude.{ℕ, zero, suc, ◌+◌, ◌-◌, ◌≤◌, ◌<◌, min, max, le_refl, le_trans, add-le-add, not-suc-le-zero}
-use Rattle.model.specs.Prelude.{le_of_suc-le-suc, add-one, unary_clauses, arith, ◌≡◌, refl, ap, ◌∙◌, Bool, true, false, ◌&&◌, List, [], ◌∷◌}
-use Rattle.model.specs.Prelude.{leb, ltb, eqb, length, take, get_or, set, length-set}
-use Rattle.model.specs.{declared.Range.Range, Base.if◌then◌else◌, RangedStates.{range, joins}}
+use Rattle.model.specs.Prelude.{ℕ, zero, suc, ◌+◌, ◌-◌, ◌≤◌, ◌<◌, min, max, le_trans, add-le-add, not-suc-le-zero}
+use Rattle.model.specs.Prelude.{le_of_suc-le-suc, add-one, unary_clauses, arith, ◌≡◌, refl, ap, ◌∙◌, Bool, true, false, List, [], ◌∷◌}
+use Rattle.model.specs.Prelude.{leb, ltb, length, take, get_or, set, length-set}
+use Rattle.model.specs.{declared.Range.Range}
 use Rattle.range_states.specs.{View.blank, Filtering.{overlaps, clip}}
-use Rattle.range_records.specs.{declared.decisions.Scan.Scan, declared.decisions.Piece.Piece, declared.decisions.Next.Next}
-use Rattle.range_records.specs.Passes.{count_of, cuts_of, begun, look_of, scanned, Few, end_of, left_of, lower_of, cut_piece, cutting}
+use Rattle.range_records.specs.{declared.decisions.Scan.Scan}
+use Rattle.range_records.specs.Passes.{count_of, cuts_of, begun, look_of, scanned, Few, cut_piece, cutting}
 use Rattle.range_records.specs.Passes.{join_of, joining, clipping}
 
 -- ---- survey
@@ -71,19 +71,6 @@ unfolding cutting
 cutting_less zero i g a e d l p = absurd (not-suc-le-zero p)
 cutting_less (suc w) i g a e d l p = simp unary_clauses refl
 
-left_few : (t : Bool) (i : ℕ) → (if t then i - 1 else i) ≤ i
-left_few true i = omega arith
-left_few false i = omega arith
-
-either_few : (t : Bool) (i k : ℕ) (x y : Range) → k ≤ i → (if◌then◌else◌ {A = Piece} t (record { range = x; left = i }) (record { range = y; left = k })).left ≤ i
-either_few true i k x y l = le_refl i
-either_few false i k x y l = l
-
--- no more records are left to read than were
-pub piece_few : (i : ℕ) (r : Range) (g a e d : ℕ) → (cut_piece i r g a e d).left ≤ i
-unfolding cut_piece
-piece_few i r g a e d = either_few (ltb (max (end_of i r) a) (min g e)) i (left_of i (lower_of r.start (min r.end g) a e) r) _ _ (left_few (eqb (lower_of r.start (min r.end g) a e) r.start) i)
-
 -- ---- join
 pub joining_none : (i len : ℕ) (last : Range) (l : List Range) → record { len = len; records = l } ≡ joining 0 i len last l
 unfolding joining
@@ -99,20 +86,3 @@ pub joining_more : (n i len : ℕ) (last : Range) (l : List Range) → i < n
 joining_more n i len last l p =
     let rest : n - i ≡ suc (n - (i + 1)) = omega arith in
     ap (λ (k : ℕ). joining k i len last l) rest ∙ joining_suc (n - (i + 1)) i len last l
-
--- a record is written after those that are, or onto the last of them
-either_at : (t : Bool) (len : ℕ) (x y : Range) → (if◌then◌else◌ {A = Next} t (record { range = x; at = len - 1; len = len }) (record { range = y; at = len; len = len + 1 })).at ≤ len
-either_at true len x y = omega arith
-either_at false len x y = le_refl len
-
-either_len : (t : Bool) (len : ℕ) (x y : Range) → (if◌then◌else◌ {A = Next} t (record { range = x; at = len - 1; len = len }) (record { range = y; at = len; len = len + 1 })).len ≤ len + 1
-either_len true len x y = omega arith
-either_len false len x y = le_refl (len + 1)
-
-pub join_at : (last : Range) (len : ℕ) (r : Range) → (join_of last len r).at ≤ len
-unfolding join_of
-join_at last len r = either_at (ltb 0 len && joins last r) len (range last.start r.end last.state) r
-
-pub join_len : (last : Range) (len : ℕ) (r : Range) → (join_of last len r).len ≤ len + 1
-unfolding join_of
-join_len last len r = either_len (ltb 0 len && joins last r) len (range last.start r.end last.state) r

@@ -17,7 +17,6 @@ use Rattle.range_records.proofs.{Laws.Pieces.{Ascends, ascending}, Laws.Survey.{
 use Rattle.range_records.proofs.{Laws.Cutting.cuts, Laws.Joining.join_all, Laws.Clipping.{scanned_both, scanned_found, clips}}
 use Rattle.range_isolate.proofs.Covering.{by_order}
 use Rattle.model.specs.declared.Verdict.TheVariants as verdict
-use Rattle.range_calls.specs.declared.IsolateAnswer.TheVariants as isolate
 use Rattle.range_calls.specs.declared.FilterAnswer.TheVariants as filter
 
 -- what the first pass finds among the records in use
@@ -146,14 +145,6 @@ module _ (a e d told : ℕ) (rs : List Range) where
       go (verdict.Refused r) z = refused r (sym (refused_first (run_checks a e told rs) _ (run_is a e told rs) z))
 
 -- ---- `coalesce`
-pub coalesce_fits : (told : ℕ) (rs : List Range)
-    → granted_of (verdict_of (length rs) told (survey 0 0 told rs)) (min told (length rs)) ≤ length rs
-coalesce_fits told rs = go (verdict_of (length rs) told (survey 0 0 told rs))
-  where
-    go : (v : Verdict) → granted_of v (min told (length rs)) ≤ length rs
-    go verdict.Accepted = omega arith
-    go (verdict.Refused r) = omega arith
-
 module _ (told : ℕ) (rs : List Range) where
   abbrev pass : Verdict → Joined
   pass v = joining (granted_of v (min told (length rs))) 0 0 blank rs
