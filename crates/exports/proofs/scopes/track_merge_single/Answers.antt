@@ -1,0 +1,8 @@
+-- `track_merge_single`: the call beneath, told in numbers.
+use Rattle.model.specs.Prelude.{refl}
+use Rattle.exports.specs.AnswerLaws.{outcome_told}
+use Rattle.exports.proofs.scopes.track_merge_single.Goals as goal
+
+pub returns : goal.returns
+returns c =
+    rw (c.flat.ensures, outcome_told _, ← c.selector.ensures, ← c.selection-named.ensures) (record { value = refl; fact = c.merge_single.ensures })

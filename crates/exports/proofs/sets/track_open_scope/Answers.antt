@@ -1,0 +1,8 @@
+-- `track_open_scope`: the call beneath, told in numbers.
+use Rattle.model.specs.Prelude.{refl}
+use Rattle.exports.specs.AnswerLaws.{outcome_told}
+use Rattle.exports.proofs.sets.track_open_scope.Goals as goal
+
+pub returns : goal.returns
+returns c =
+    rw (c.flat.ensures, outcome_told _) (record { value = refl; fact = c.open_scope.ensures })

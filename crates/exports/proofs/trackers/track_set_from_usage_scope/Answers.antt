@@ -1,0 +1,8 @@
+-- `track_set_from_usage_scope`: the call beneath, told in numbers.
+use Rattle.model.specs.Prelude.{refl}
+use Rattle.exports.specs.AnswerLaws.{outcome_told}
+use Rattle.exports.proofs.trackers.track_set_from_usage_scope.Goals as goal
+
+pub returns : goal.returns
+returns c =
+    rw (c.logged.ensures, outcome_told _) (record { value = refl; fact = c.set_from_usage_scope-x.ensures })
