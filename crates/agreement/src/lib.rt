@@ -22,4 +22,3 @@
 //
 // must-fail/ holds wrong rules, one edit each, that the proofs refuse.
 #![tactic(auto)]
-

@@ -29,7 +29,7 @@ log_set-x-requires-2 c =
     let a = c.args in
     let new : List PendingTransition = joined_entries a.table.now a.ends.now a.from a.given.now a.first.now in
     let f : Fitting new a.head.free a.log.now c.if-free-subresources.log = elim c.if-free-subresources.branch [
-      then-free-subresources+else-free-x w ↦
+      | then-free-subresources+else-free-x w ↦
           counted_fits (rw (c.flags_of-p.ensures, c.wide-n.ensures.0) at w.log_set-x.ensures) w.if-free-x.false w.log-is
       | else-free-subresources w ↦ all_fit c.requires.first_len_bound c.subresources.ensures w.if-free-subresources.false w.log-is
     ] in
@@ -48,12 +48,12 @@ moved_on-requires c =
     let a = c.args in
     let new : List PendingTransition = joined_entries a.table.now a.ends.now a.from a.given.now a.first.now in
     let f : Fitting new a.head.free a.log.now c.if-free-subresources.log = elim c.if-free-subresources.branch [
-      then-free-subresources+else-free-x w ↦
+      | then-free-subresources+else-free-x w ↦
           counted_fits (rw (c.flags_of-p.ensures, c.wide-n.ensures.0) at w.log_set-x.ensures) w.if-free-x.false w.log-is
       | else-free-subresources w ↦ all_fit c.requires.first_len_bound c.subresources.ensures w.if-free-subresources.false w.log-is
     ] in
     let logged = wrote (c.requires.head_value, c.requires.log_len_bound) f.fits
-        (rw (c.flags_of-p.ensures, c.wide-n.ensures.0, f.same) at c.log_set-x-2.ensures) in
+    (rw (c.flags_of-p.ensures, c.wide-n.ensures.0, f.same) at c.log_set-x-2.ensures) in
     record { n_le_free = logged.moves.0; free_bound = logged.moves.1 }
 
 pub returns : goal.returns
@@ -61,11 +61,11 @@ returns c =
     let a = c.args in
     let new : List PendingTransition = joined_entries a.table.now a.ends.now a.from a.given.now a.first.now in
     let f : Fitting new a.head.free a.log.now c.if-free-subresources.log = elim c.if-free-subresources.branch [
-      then-free-subresources+else-free-x w ↦
+      | then-free-subresources+else-free-x w ↦
           counted_fits (rw (c.flags_of-p.ensures, c.wide-n.ensures.0) at w.log_set-x.ensures) w.if-free-x.false w.log-is
       | else-free-subresources w ↦ all_fit c.requires.first_len_bound c.subresources.ensures w.if-free-subresources.false w.log-is
     ] in
     let logged = wrote (c.requires.head_value, c.requires.log_len_bound) f.fits
-        (rw (c.flags_of-p.ensures, c.wide-n.ensures.0, f.same) at c.log_set-x-2.ensures) in
+    (rw (c.flags_of-p.ensures, c.wide-n.ensures.0, f.same) at c.log_set-x-2.ensures) in
     let z = c.set_slots.ensures in
     rw c.moved_on.ensures (record { change = written logged z.view; frame = z.frame })

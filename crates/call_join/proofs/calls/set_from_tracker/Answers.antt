@@ -21,8 +21,12 @@ pub set_from-requires : goal.set_from-requires
 set_from-requires c =
     let x = c.args in
     let fit = tracker_fit c.tracker_fits.ensures (ap not c.if-not-tracker_fits.false) in
-    let given = tracker_fit c.tracker_fits-2.ensures (ap not c.if-not-tracker_fits-2.false) in record { tracker_tested = tracker_tested _ _ _ c.tracker_fits.ensures.long fit; given_tested = tracker_given (tracker_tested _ _ _ c.tracker_fits-2.ensures.long given); last_len_bound = tracker_room x.table.now
-            x.starts.now x.ends.now fit x.given.now x.first.now x.last.now given }
+    let given = tracker_fit c.tracker_fits-2.ensures (ap not c.if-not-tracker_fits-2.false) in record {
+      tracker_tested = tracker_tested _ _ _ c.tracker_fits.ensures.long fit;
+      given_tested = tracker_given (tracker_tested _ _ _ c.tracker_fits-2.ensures.long given);
+      last_len_bound = tracker_room x.table.now
+          x.starts.now x.ends.now fit x.given.now x.first.now x.last.now given;
+    }
 
 pub returns : goal.returns
 returns c =

@@ -21,8 +21,12 @@ pub set_from-requires : goal.set_from-requires
 set_from-requires c =
     let x = c.args in
     let fit = tracker_fit c.tracker_fits.ensures (ap not c.if-not-tracker_fits.false) in
-    let given = scope_fit c.scope_fits.ensures (ap not c.if-not-scope_fits.false) in record { tracker_tested = tracker_tested _ _ _ c.tracker_fits.ensures.long fit; given_tested = scope_given (scope_tested _ _ c.scope_fits.ensures.long given); last_len_bound = scope_room x.table.now x.starts.now
-            x.ends.now fit x.given.now x.lent.now given }
+    let given = scope_fit c.scope_fits.ensures (ap not c.if-not-scope_fits.false) in record {
+      tracker_tested = tracker_tested _ _ _ c.tracker_fits.ensures.long fit;
+      given_tested = scope_given (scope_tested _ _ c.scope_fits.ensures.long given);
+      last_len_bound = scope_room x.table.now x.starts.now
+          x.ends.now fit x.given.now x.lent.now given;
+    }
 
 pub returns : goal.returns
 returns c =

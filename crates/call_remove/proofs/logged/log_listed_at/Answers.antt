@@ -13,18 +13,21 @@ pub returns-then-given-i-eq0 : goal.returns-then-given-i-eq0
 returns-then-given-i-eq0 c = rw (c.if-again.false, eq-eqb _ _ c.if-given-i-eq0.true) (adds_none _ _ _ _)
 
 pub returns-then-table-i-eq0 : goal.returns-then-table-i-eq0
-returns-then-table-i-eq0 c = rw (c.if-again.false, ne_eqb _ _ c.if-given-i-eq0.false, eq-eqb _ _ c.if-table-i-eq0.true)     (adds_none _ _ _ _)
+returns-then-table-i-eq0 c = rw (c.if-again.false, ne_eqb _ _ c.if-given-i-eq0.false, eq-eqb _ _ c.if-table-i-eq0.true) (adds_none _ _ _ _)
 
 pub both_single-requires : goal.both_single-requires
 both_single-requires c = (c.requires.logs_at.index, omega arith)
 
 pub log_single-requires : goal.log_single-requires
 log_single-requires c =
-    let a = c.args in record { i_bound = (c.requires.logs_at.index, omega arith); room_for = rw (
+    let a = c.args in record {
+      i_bound = (c.requires.logs_at.index, omega arith);
+      room_for = rw (
         c.if-again.false,
         plain_entries a.p a.mask a.table.now a.ends.now start_half a.given.now a.lent.now a.i c.if-given-i-eq0.false
             c.if-table-i-eq0.false (sym c.both_single.ensures ∙ c.if-both_single.true),
-      ) at c.requires.room_for }
+      ) at c.requires.room_for;
+    }
 
 pub returns-then-both_single : goal.returns-then-both_single
 returns-then-both_single c =
@@ -41,4 +44,4 @@ log_owned_at-requires c =
     record { logs_at = c.requires.logs_at; at_le_log_top = c.requires.at_le_log_top; room_for = rw c.if-again.false at c.requires.room_for }
 
 pub returns : goal.returns
-returns c = rw c.if-again.false     c.log_owned_at.ensures
+returns c = rw c.if-again.false c.log_owned_at.ensures

@@ -28,7 +28,7 @@ log_listed-n-requires-2 c =
     let a = c.args in
     let new : List PendingTransition = removed_entries a.table.now a.ends.now a.given.now a.lent.now a.indices.now in
     let f : Fitting new a.head.free a.log.now c.if-free-subresources.log = elim c.if-free-subresources.branch [
-      then-free-subresources+else-free-n w ↦
+      | then-free-subresources+else-free-n w ↦
           counted_fits (rw c.flags_of-p.ensures at w.log_listed-n.ensures) w.if-free-n.false w.log-is
       | else-free-subresources w ↦ all_fit c.requires.indices_len_bound c.subresources.ensures w.if-free-subresources.false w.log-is
     ] in
@@ -50,12 +50,12 @@ moved_on-requires c =
     let a = c.args in
     let new : List PendingTransition = removed_entries a.table.now a.ends.now a.given.now a.lent.now a.indices.now in
     let f : Fitting new a.head.free a.log.now c.if-free-subresources.log = elim c.if-free-subresources.branch [
-      then-free-subresources+else-free-n w ↦
+      | then-free-subresources+else-free-n w ↦
           counted_fits (rw c.flags_of-p.ensures at w.log_listed-n.ensures) w.if-free-n.false w.log-is
       | else-free-subresources w ↦ all_fit c.requires.indices_len_bound c.subresources.ensures w.if-free-subresources.false w.log-is
     ] in
     let logged = wrote (c.requires.head_value, c.requires.log_len_bound) f.fits
-        (rw (c.flags_of-p.ensures, f.same) at c.log_listed-n-2.ensures) in
+    (rw (c.flags_of-p.ensures, f.same) at c.log_listed-n-2.ensures) in
     record { n_le_free = logged.moves.0; free_bound = logged.moves.1 }
 
 pub returns : goal.returns
@@ -63,10 +63,10 @@ returns c =
     let a = c.args in
     let new : List PendingTransition = removed_entries a.table.now a.ends.now a.given.now a.lent.now a.indices.now in
     let f : Fitting new a.head.free a.log.now c.if-free-subresources.log = elim c.if-free-subresources.branch [
-      then-free-subresources+else-free-n w ↦
+      | then-free-subresources+else-free-n w ↦
           counted_fits (rw c.flags_of-p.ensures at w.log_listed-n.ensures) w.if-free-n.false w.log-is
       | else-free-subresources w ↦ all_fit c.requires.indices_len_bound c.subresources.ensures w.if-free-subresources.false w.log-is
     ] in
     let logged = wrote (c.requires.head_value, c.requires.log_len_bound) f.fits
-        (rw (c.flags_of-p.ensures, f.same) at c.log_listed-n-2.ensures) in
+    (rw (c.flags_of-p.ensures, f.same) at c.log_listed-n-2.ensures) in
     rw c.moved_on.ensures (all_removed logged c.set_listed.ensures)

@@ -31,7 +31,7 @@ log_use_at-n-requires-2 c =
     let a = c.args in
     let new : List PendingTransition = used_entries a.table.now a.starts.now a.ends.now a.i a.extent (use_of a.all a.q a.new) in
     let f : Fitting new a.head.free a.log.now c.if-free-subresources.log = elim c.if-free-subresources.branch [
-      then-free-subresources+else-free-n w ↦
+      | then-free-subresources+else-free-n w ↦
           counted_fits (rw c.flags_of-p.ensures at w.log_use_at-n.ensures) w.if-free-n.false w.log-is
       | else-free-subresources w ↦ all_fit c.requires.len_bound c.subresources.ensures w.if-free-subresources.false w.log-is
     ] in
@@ -53,7 +53,7 @@ moved_on-requires c =
     let a = c.args in
     let new : List PendingTransition = used_entries a.table.now a.starts.now a.ends.now a.i a.extent (use_of a.all a.q a.new) in
     let f : Fitting new a.head.free a.log.now c.if-free-subresources.log = elim c.if-free-subresources.branch [
-      then-free-subresources+else-free-n w ↦
+      | then-free-subresources+else-free-n w ↦
           counted_fits (rw c.flags_of-p.ensures at w.log_use_at-n.ensures) w.if-free-n.false w.log-is
       | else-free-subresources w ↦ all_fit c.requires.len_bound c.subresources.ensures w.if-free-subresources.false w.log-is
     ] in
@@ -65,7 +65,7 @@ returns c =
     let a = c.args in
     let new : List PendingTransition = used_entries a.table.now a.starts.now a.ends.now a.i a.extent (use_of a.all a.q a.new) in
     let f : Fitting new a.head.free a.log.now c.if-free-subresources.log = elim c.if-free-subresources.branch [
-      then-free-subresources+else-free-n w ↦
+      | then-free-subresources+else-free-n w ↦
           counted_fits (rw c.flags_of-p.ensures at w.log_use_at-n.ensures) w.if-free-n.false w.log-is
       | else-free-subresources w ↦ all_fit c.requires.len_bound c.subresources.ensures w.if-free-subresources.false w.log-is
     ] in

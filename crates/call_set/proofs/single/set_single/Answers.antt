@@ -29,8 +29,14 @@ set_checked-requires c =
     c.check_single.ensures) in
     let fit = tracker_fit c.tracker_fits.ensures (ap not c.if-not-tracker_fits.false) in
     let k = (rw c.lent_entries.ensures.0 at (sym c.head_fits.ensures
-    ∙ (c.if-not-head_fits.false))) in rw (c.wide-i.ensures.0, c.state_of-new.ensures.0) (record { both_ready = single_ready z (tracker_tested _ _ _ c.tracker_fits.ensures.long fit); taken_use = single_use z c.is_full-all.ensures; len_bound = single_few a.table.now a.starts.now a.ends.now _ _ fit c.state_of-new.ensures.1 z _
-              (as_use_lem _ _ _ _ c.is_full-all.ensures); head_value = k; log_len_bound = c.lent_entries.ensures.1 })
+    ∙ (c.if-not-head_fits.false))) in rw (c.wide-i.ensures.0, c.state_of-new.ensures.0) (record {
+      both_ready = single_ready z (tracker_tested _ _ _ c.tracker_fits.ensures.long fit);
+      taken_use = single_use z c.is_full-all.ensures;
+      len_bound = single_few a.table.now a.starts.now a.ends.now _ _ fit c.state_of-new.ensures.1 z _
+          (as_use_lem _ _ _ _ c.is_full-all.ensures);
+      head_value = k;
+      log_len_bound = c.lent_entries.ensures.1;
+    })
 
 pub returns-in-Accepted : goal.returns-in-Accepted
 returns-in-Accepted c =

@@ -22,10 +22,13 @@ returns-then-not-held_fits-2 c =
 
 pub ends_agree-requires : goal.ends_agree-requires
 ends_agree-requires c =
-    record { ends_ready = c.requires.ends_ready; halves_fit = record {
+    record {
+      ends_ready = c.requires.ends_ready;
+      halves_fit = record {
         start = sym c.held_fits.ensures ∙ (c.if-not-held_fits.false);
         end = sym c.held_fits-2.ensures ∙ (c.if-not-held_fits-2.false);
-      } }
+      };
+    }
 
 pub returns : goal.returns
 returns c =

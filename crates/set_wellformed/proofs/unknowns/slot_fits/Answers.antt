@@ -17,14 +17,17 @@ ends_fit-requires c =
     rw c.requires.p_value at (sym c.plain_pair.ensures
     ∙ c.if-plain_pair.false) in let x =
     tracker_extent b.table.now b.starts.now b.ends.now b.i
-    c.requires.i_value f in record { counts_ones = c.requires.counts_ones; ends_ready = record {
+    c.requires.i_value f in record {
+      counts_ones = c.requires.counts_ones;
+      ends_ready = record {
         start = c.requires.texture_stored;
         end = c.requires.texture_stored_2;
         flags =
             c.requires.p_value;
         top = x.0.high;
         some = x.1.low;
-      } }
+      };
+    }
 
 pub returns : goal.returns
 returns c = let a = c.args in

@@ -12,8 +12,14 @@ loop-i-init c = testing_start _ _ _
 
 pub slot_fits-requires : goal.slot_fits-requires
 slot_fits-requires c =
-    let q = c.requires in record { counts_ones = c.requires.counts_ones; texture_stored = record { measured = q.measured; texture = omega arith }; texture_stored_2 = record { measured = q.measured_2; texture = omega arith }; p_value = q.n_value.1; i_value = every_at (tracker_word_fits c.args.table.now) itself _ _
-            q.n_value_2 c.loop-i-test.true }
+    let q = c.requires in record {
+      counts_ones = c.requires.counts_ones;
+      texture_stored = record { measured = q.measured; texture = omega arith };
+      texture_stored_2 = record { measured = q.measured_2; texture = omega arith };
+      p_value = q.n_value.1;
+      i_value = every_at (tracker_word_fits c.args.table.now) itself _ _
+          q.n_value_2 c.loop-i-test.true;
+    }
 
 pub returns-then-not-slot_fits : goal.returns-then-not-slot_fits
 returns-then-not-slot_fits c =

@@ -38,8 +38,13 @@ returns-then-not-room_fits c =
 
 pub all_fit-requires : goal.all_fit-requires
 all_fit-requires c =
-    let h = sym c.head_fits.ensures ∙ (c.if-not-head_fits.false) in record { counts_ones = c.ones_table-ones.ensures; measured = head_measured _ _ c.table_len.ensures.1 h; measured_2 = measured end_half _ _ (omega arith, omega arith) c.table_len.ensures.1 (head_numbers _ _ h)
-              (sym c.room_fits.ensures ∙ (c.if-not-room_fits.false)); n_value = (c.wide.ensures.0, c.flags_of.ensures) }
+    let h = sym c.head_fits.ensures ∙ (c.if-not-head_fits.false) in record {
+      counts_ones = c.ones_table-ones.ensures;
+      measured = head_measured _ _ c.table_len.ensures.1 h;
+      measured_2 = measured end_half _ _ (omega arith, omega arith) c.table_len.ensures.1 (head_numbers _ _ h)
+          (sym c.room_fits.ensures ∙ (c.if-not-room_fits.false));
+      n_value = (c.wide.ensures.0, c.flags_of.ensures);
+    }
 
 pub returns : goal.returns
 returns c =

@@ -16,9 +16,12 @@ both_single-requires c =
 
 pub log_single-requires : goal.log_single-requires
 log_single-requires c =
-    record { i_bound = (c.requires.logs_at.index, (c.requires.logs_at.given (rw (ne_eqb _ _ c.if-given-i-eq0.false))).measured.half.1); room_for = rw (plain_entries c.args.p c.args.mask c.args.table.now c.args.ends.now
+    record {
+      i_bound = (c.requires.logs_at.index, (c.requires.logs_at.given (rw (ne_eqb _ _ c.if-given-i-eq0.false))).measured.half.1);
+      room_for = rw (plain_entries c.args.p c.args.mask c.args.table.now c.args.ends.now
           c.args.from c.args.given.now c.args.first.now c.args.i c.if-given-i-eq0.false
-          c.if-table-i-eq0.false (sym c.both_single.ensures ∙ c.if-both_single.true)) at c.requires.room_for }
+          c.if-table-i-eq0.false (sym c.both_single.ensures ∙ c.if-both_single.true)) at c.requires.room_for;
+    }
 
 pub returns-then-both_single : goal.returns-then-both_single
 returns-then-both_single c =
