@@ -1,10 +1,8 @@
 // Log heads: the calls that log, with the head of the log lent by `&mut`, the form that 01 names for it.
 //
 // Place in the picture: the top, over `track` and `log_merge`. 01: "the head of the log, entries written and entries free, is lent and
-// moved on by the call itself". The borrow checker's own plan covers no reference to a struct; so each function is thin, one call with the
-// head by value and one store. proofs/Thin proves every such function by one lemma, over the rules of crate `walk`; a proof of one says
-// only its parameters, what the call answers if that is not `Answered`, and how its code lends the parameters again. `merge_logs`, which
-// also returns a slice, makes two calls, of the thin `merge_at` and of a function that the plan covers: a walk of its own.
+// moved on by the call itself". Each function is thin: one call with the head by value, and one store. `merge_logs`, which also returns a
+// slice, makes two calls, of the thin `merge_at` and of `hand_over`, whose two contracts together are its own.
 //
 // What holds: what holds of the call that each function hands on to. The `ensures` are that call's own definitions, at what is lent here;
 // so nothing is required, a refusal leaves everything as it was, and nothing more is to be believed.

@@ -1,3 +1,5 @@
+pub mod ClosedForm
+pub mod RestClaims
 pub mod Scanning
 pub mod Needing
 pub mod Weaving

@@ -5,7 +5,8 @@ use Rattle.model.specs.{declared.PendingTransition.PendingTransition, Base.if◌
 use Rattle.texture_barrier.specs.Entries.{entries_of, entries_long, blank_entry}
 use Rattle.log_merge.specs.declared.order.Scanned.{Scanned}
 use Rattle.log_merge.specs.Merge.{index_of, Merge, merge_of, rises_from, ascending, below, last_of, first_count, second_count}
-use Rattle.log_merge.specs.{MergeLaws.{merge_no_first, merge_no_second, below_none}, ClosedForm.count_is, Calls.in_order}
+use Rattle.log_merge.specs.{MergeLaws.{merge_no_first, merge_no_second, below_none}, Calls.in_order}
+use Rattle.log_merge.proofs.ClosedForm.{count_is}
 use Rattle.log_merge.specs.Order.{Scans, Needs, out_of_order, both}
 
 -- ---- Of lists of entries

@@ -1,8 +1,8 @@
 -- WHAT HOLDS of a merge: each claim is a statement with its name, of any two logs unless it says that they ascend.
-use Rattle.model.specs.Prelude.{ℕ, ◌+◌, arith, ◌≡◌, refl, true, List, [], ◌∷◌, ◌++◌, append-nil, ◌⊎◌, inl, inr, length, drop}
+use Rattle.model.specs.Prelude.{ℕ, arith, ◌≡◌, refl, true, List, [], ◌∷◌, ◌++◌, append-nil, ◌⊎◌, inl, inr}
 use Rattle.model.specs.declared.{PendingTransition.PendingTransition}
-use Rattle.log_merge.specs.Merge.{index_of, merge, all_of, rises_from, ascending, first_count, second_count}
-use Rattle.log_merge.specs.{MergeLaws.{merge_ind, rises_head, rises_tail, rises_cons}, ClosedForm.{left_is, count_is}}
+use Rattle.log_merge.specs.Merge.{index_of, merge, all_of, rises_from, ascending}
+use Rattle.log_merge.specs.MergeLaws.{merge_ind, rises_head, rises_tail, rises_cons}
 use Rattle.log_merge.specs.Stable.{of_index, stable_is}
 use mathlib.Core.List.Permᴰ
 use mathlib.Core.List.{Permᴰ}
@@ -58,13 +58,3 @@ stays_ascending s t d e =
 pub first_goes_first : (k : ℕ) (s t : List PendingTransition) → ascending s ≡ true
     → of_index k (all_of (merge s t)) ≡ of_index k s ++ of_index k t
 first_goes_first k s t d = stable_is k s t 0 d
-
--- how many are merged, where both ascend: `first_count` and `second_count` are the closed form
-pub closed_count : (s t : List PendingTransition) → ascending s ≡ true → ascending t ≡ true
-    → length (merge s t).merged ≡ first_count s t + second_count s t
-closed_count = count_is
-
--- and what is left of each
-pub closed_rest : (s t : List PendingTransition) → ascending s ≡ true → ascending t ≡ true
-    → ((merge s t).first ≡ drop (first_count s t) s) × ((merge s t).second ≡ drop (second_count s t) t)
-closed_rest s t d e = left_is s t 0 0 d e

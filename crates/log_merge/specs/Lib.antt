@@ -1,6 +1,5 @@
 pub mod Merge
 pub mod MergeLaws
-pub mod ClosedForm
 pub mod Stable
 pub mod Claims
 pub mod Calls

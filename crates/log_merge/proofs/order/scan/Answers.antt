@@ -1,6 +1,6 @@
 -- `scan` looks at every entry in turn, and ends at the first descent.
-use Rattle.model.specs.Prelude.{◌-◌, arith}
-use Rattle.log_merge.proofs.{Scanning.{Scanning, scan_start, scan_turn, scan_away, scan_end}}
+use Rattle.model.specs.Prelude.{arith}
+use Rattle.log_merge.proofs.{Scanning.{scan_start, scan_turn, scan_away, scan_end}}
 use Rattle.std.proofs.Common.{rules}
 use Rattle.log_merge.proofs.order.scan.Goals as goal
 

@@ -1,7 +1,6 @@
 -- `weave_both` moves the entry that goes next, until a log is used up.
-use Rattle.model.specs.Prelude.{arith, ◌+◌, ◌-◌, ◌∙◌, length}
-use Rattle.log_merge.proofs.Weaving.{Weaving, weaving_start, first_whole, second_whole, third_room, first_turn, first_end}
-use Rattle.log_merge.proofs.{Weaving.{second_turn, second_end}}
+use Rattle.model.specs.Prelude.{◌+◌, ◌-◌, length}
+use Rattle.log_merge.proofs.Weaving.{Weaving}
 use Rattle.log_merge.proofs.weave.weave_both.Given as goal
 
 abbrev pub invariant-loop-y : goal.invariant-loop-y

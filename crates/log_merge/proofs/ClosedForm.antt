@@ -87,3 +87,14 @@ count_is s t d e =
     let f = ap length l.0 ∙ length-drop (first_count s t) s in
     let g = ap length l.1 ∙ length-drop (second_count s t) t in
     omega (arith, all_there s t, first_few s t, second_few s t, f, g)
+
+-- ---- The claims
+-- how many are merged, where both ascend: `first_count` and `second_count` are the closed form
+pub closed_count : (s t : List PendingTransition) → ascending s ≡ true → ascending t ≡ true
+    → length (merge s t).merged ≡ first_count s t + second_count s t
+closed_count = count_is
+
+-- and what is left of each
+pub closed_rest : (s t : List PendingTransition) → ascending s ≡ true → ascending t ≡ true
+    → ((merge s t).first ≡ drop (first_count s t) s) × ((merge s t).second ≡ drop (second_count s t) t)
+closed_rest s t d e = left_is s t 0 0 d e
