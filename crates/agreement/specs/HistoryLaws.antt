@@ -1,6 +1,6 @@
 -- Scopes with their histories: their states are the grid's, and each subresource's state less UNKNOWN is the union of the uses that it has
 -- taken.
-use Rattle.model.specs.Prelude.{ℕ, zero, suc, ◌-◌, ◌+◌, ◌*◌, ◌/◌, ◌%◌, arith, ◌≡◌, refl, sym, ap, ap₂, ◌∙◌, Bool, true, false, false≢true}
+use Rattle.model.specs.Prelude.{ℕ, suc, ◌-◌, ◌+◌, ◌*◌, ◌/◌, ◌%◌, arith, ◌≡◌, refl, sym, ap, ap₂, ◌∙◌, Bool, true, false, false≢true}
 use Rattle.model.specs.Prelude.{Option, none, some, Option_map, List, [], ◌∷◌, ◌++◌, map, eqb, and_step, or_step, and_le_r, bit_and, bit_or}
 use Rattle.model.specs.Prelude.{and_comm, and_self, or_zero_r, get_or, eqb-true, not-false}
 use Rattle.model.specs.declared.{Extent.Extent, Selector.Selector, UsageFlags.UsageFlags}

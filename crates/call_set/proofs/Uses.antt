@@ -15,7 +15,6 @@ use Rattle.set_ready.specs.{Tested.TrackerTested, Half.{BothReady, tracker_textu
 use Rattle.texture_track.specs.{Tracked.{Same, Tracked, Changes, away_own, changes_tracked}, Slot.{SlotSet, tracker_view, slot_pending}}
 use Rattle.call_set.specs.Used.{used_entries, used_tracker}
 use Rattle.log_head.specs.{Log.{head_within, refused_with}, Called.Changed}
-use Rattle.model.specs.Calls as calls
 use Rattle.model.specs.declared.Verdict.TheVariants as verdict
 
 -- ---- `set_checked`

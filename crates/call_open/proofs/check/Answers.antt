@@ -1,5 +1,5 @@
 -- `check` is 01's table, top to bottom.
-use Rattle.model.specs.Prelude.{arith, sym, ◌∙◌, not-true, not-false, lt-ltb, le-ltb}
+use Rattle.model.specs.Prelude.{arith, sym, ◌∙◌, lt-ltb, le-ltb}
 use Rattle.model.specs.Refusals.{opening_refusal, first_failing}
 use Rattle.set_wellformed.proofs.Numbers.{numbers_in_lem, small}
 use Rattle.call_open.proofs.check.Goals as goal

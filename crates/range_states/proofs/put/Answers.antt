@@ -1,5 +1,5 @@
 -- Three stores are a `Put`.
-use Rattle.model.specs.Prelude.{arith, length-set}
+use Rattle.model.specs.Prelude.{arith}
 use Rattle.range_states.specs.View.{puts}
 use Rattle.range_states.proofs.put.Goals as goal
 

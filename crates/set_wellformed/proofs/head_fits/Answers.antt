@@ -1,5 +1,5 @@
 -- `head_fits` is the three tests, in order; the numbers' limits come before their product.
-use Rattle.model.specs.Prelude.{sym, ◌∙◌, not-true, not-false}
+use Rattle.model.specs.Prelude.{sym, ◌∙◌}
 use Rattle.set_wellformed.specs.Parts.{head_fits}
 use Rattle.set_wellformed.proofs.{Numbers.numbers_in_lem}
 use Rattle.set_wellformed.proofs.head_fits.Goals as goal

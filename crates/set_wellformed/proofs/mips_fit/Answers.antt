@@ -1,8 +1,5 @@
 -- `mips_fit` tests mip by mip; the first that does not fit decides.
-use Rattle.model.specs.Prelude.{◌-◌}
-use Rattle.model.specs.WellFormed.{ranges_fit}
-use Rattle.set_storage.specs.Storage.{numbers_of, mip_of}
-use Rattle.set_wellformed.specs.Parts.{Testing, testing_start, testing_stop, testing_turn, testing_end}
+use Rattle.set_wellformed.specs.Parts.{testing_start, testing_stop, testing_turn, testing_end}
 use Rattle.set_wellformed.proofs.{Mips.{mips_told, mip_ready}}
 use Rattle.model.specs.Prelude.{ap, not}
 use Rattle.set_wellformed.proofs.mips_fit.Goals as goal

@@ -2,8 +2,7 @@
 use Rattle.model.specs.Prelude.{◌-◌}
 use Rattle.model.specs.WellFormed.{ranges_fit}
 use Rattle.set_storage.specs.Storage.{numbers_of, mip_of}
-use Rattle.set_wellformed.specs.Parts.{Testing, testing_start, testing_stop, testing_turn, testing_end}
-use Rattle.set_wellformed.proofs.{Mips.{mips_told, mip_ready}}
+use Rattle.set_wellformed.specs.Parts.{Testing}
 use Rattle.set_wellformed.proofs.mips_fit.Given as goal
 
 abbrev pub invariant-loop-m : goal.invariant-loop-m

@@ -1,6 +1,6 @@
 -- `ranges_fit` tests range by range; the first that does not fit decides.
-use Rattle.model.specs.Prelude.{◌-◌, sym, ◌∙◌, not-true, not-false}
-use Rattle.set_wellformed.proofs.Tiling.{Tiling, tiling_start, tiling_turn, tiling_end, bad_start, bad_end, bad_state}
+use Rattle.model.specs.Prelude.{◌-◌}
+use Rattle.set_wellformed.proofs.Tiling.{Tiling}
 use Rattle.set_wellformed.proofs.ranges_fit.Given as goal
 
 abbrev pub invariant-loop-k : goal.invariant-loop-k

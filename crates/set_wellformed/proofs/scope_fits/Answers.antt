@@ -1,5 +1,5 @@
 -- `scope_fits` tests the head, which makes storage safe to index, and then every index.
-use Rattle.model.specs.Prelude.{sym, ◌∙◌, not-true, not-false}
+use Rattle.model.specs.Prelude.{sym, ◌∙◌}
 use Rattle.set_wellformed.proofs.{Numbers.head_measured, Holding.scope_is}
 use Rattle.set_wellformed.proofs.scope_fits.Goals as goal
 

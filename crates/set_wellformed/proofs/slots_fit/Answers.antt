@@ -1,8 +1,6 @@
 -- `slots_fit` tests index by index; the first that does not fit decides.
-use Rattle.model.specs.Prelude.{◌-◌, arith}
-use Rattle.model.specs.WellFormed.{held_fits, slot_fits}
-use Rattle.set_storage.specs.Storage.{numbers_of, flags_of, scope_slot}
-use Rattle.set_wellformed.specs.{Parts.{every_at, Testing, testing_start, testing_stop, testing_turn, testing_end}, Unknowns.itself}
+use Rattle.model.specs.Prelude.{arith}
+use Rattle.set_wellformed.specs.{Parts.{every_at, testing_start, testing_stop, testing_turn, testing_end}, Unknowns.itself}
 use Rattle.set_wellformed.specs.Words.{scope_word_fits}
 use Rattle.model.specs.Prelude.{ap, not}
 use Rattle.set_wellformed.proofs.slots_fit.Goals as goal

@@ -1,5 +1,5 @@
 -- `incompatible_by` is the definition's two tests, the second only where the first holds.
-use Rattle.model.specs.Prelude.{sym, ◌∙◌, not-true, not-false}
+use Rattle.model.specs.Prelude.{sym, ◌∙◌}
 use Rattle.model.specs.Flags.{incompatible}
 use Rattle.usage.proofs.incompatible_by.Goals as goal
 

@@ -1,8 +1,8 @@
 -- `set_checked`: 15 where the entries do not fit; otherwise they are written, and the textures change.
-use Rattle.model.specs.Prelude.{ℕ, ◌/◌, arith, refl, false≢true, List, length}
+use Rattle.model.specs.Prelude.{◌/◌, arith, refl, false≢true, List, length}
 use Rattle.model.specs.declared.{PendingTransition.PendingTransition}
 use Rattle.set_storage.specs.Stays.{both_refl}
-use Rattle.log_head.specs.{Log.head_le, Called.{Fitting, counted_fits, all_fit, room_for, Wrote, wrote, not_enough, written}}
+use Rattle.log_head.specs.{Log.head_le, Called.{Fitting, counted_fits, all_fit, room_for, wrote, not_enough, written}}
 use Rattle.call_join.specs.Join.{joined_entries}
 use Rattle.call_join.proofs.{Logs.logs_set}
 use Rattle.call_join.proofs.calls.set_checked.Goals as goal

@@ -1,5 +1,5 @@
 -- `set_from`: 5, then 6 to 9 in the table's order, and then the change.
-use Rattle.model.specs.Prelude.{refl, sym, ◌∙◌, not-true, not-false}
+use Rattle.model.specs.Prelude.{refl, sym, ◌∙◌}
 use Rattle.texture_track.specs.Tracked.{away_short}
 use Rattle.call_join.proofs.{Joined.{joins, joined_few, from_done, from_away}}
 use Rattle.call_join.proofs.calls.set_from.Goals as goal

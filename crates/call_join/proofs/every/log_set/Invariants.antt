@@ -1,8 +1,8 @@
 -- `log_set`: the entries of the indices below `k` are added, in their order.
-use Rattle.model.specs.Prelude.{ℕ, ◌*◌, ◌-◌, arith}
+use Rattle.model.specs.Prelude.{ℕ, ◌*◌, ◌-◌}
 use Rattle.texture_track.specs.GivenSlot.{given_entries}
-use Rattle.texture_barrier.specs.Adds.{entries_at, Adding, adding_start, adding_room, adding_turn, adding_end}
-use Rattle.log_head.specs.UpTo.{up_left, up_all, up_next, up_done}
+use Rattle.texture_barrier.specs.Adds.{entries_at, Adding}
+use Rattle.log_head.specs.UpTo.{up_left}
 use Rattle.call_join.specs.Join.{entries_to}
 use Rattle.call_join.proofs.every.log_set.Given as goal
 

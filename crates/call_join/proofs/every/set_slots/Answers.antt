@@ -1,9 +1,6 @@
 -- `set_slots`: the slots below `k` are the model's, the others as they were.
-use Rattle.model.specs.Prelude.{◌≤◌, ◌-◌, arith}
-use Rattle.set_storage.specs.Stays.{OwnedBy}
-use Rattle.set_ready.specs.Named.{Within}
-use Rattle.call_join.proofs.Setting.{Setting, setting_start, setting_ready, setting_next, setting_end}
-use Rattle.texture_track.specs.GivenSlot.{slot_after}
+use Rattle.model.specs.Prelude.{arith}
+use Rattle.call_join.proofs.Setting.{setting_start, setting_ready, setting_next, setting_end}
 use Rattle.call_join.proofs.every.set_slots.Goals as goal
 
 pub loop-k-init : goal.loop-k-init

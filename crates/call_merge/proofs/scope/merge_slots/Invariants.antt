@@ -1,6 +1,6 @@
 -- `merge_slots`: each lap merges one texture, and those to come read as at entry.
-use Rattle.model.specs.Prelude.{◌-◌, ◌∙◌}
-use Rattle.call_merge.proofs.{Slots.{Merging, start, lap_ready, turn, stop, finish}}
+use Rattle.model.specs.Prelude.{◌-◌}
+use Rattle.call_merge.proofs.{Slots.{Merging}}
 use Rattle.call_merge.proofs.scope.merge_slots.Given as goal
 
 abbrev pub invariant-loop-k : goal.invariant-loop-k

@@ -1,9 +1,8 @@
 -- `log_listed`: the entries of one position after those of the positions before it; each index is marked as listed.
-use Rattle.model.specs.Prelude.{ℕ, ◌-◌, arith, length, get_or}
-use Rattle.texture_barrier.specs.Adds.{entries_at, Adding, adding_start, adding_room, adding_few, adding_end}
-use Rattle.log_head.specs.UpTo.{up_left, up_all, up_next, up_done}
-use Rattle.call_remove.specs.Logs.{most_entries, listed_entries, entries_to}
-use Rattle.call_remove.proofs.{Seen.{Seen, seen_none, seen_next, once_is}}
+use Rattle.model.specs.Prelude.{arith}
+use Rattle.texture_barrier.specs.Adds.{adding_start, adding_room, adding_few, adding_end}
+use Rattle.log_head.specs.UpTo.{up_all, up_next, up_done}
+use Rattle.call_remove.proofs.{Seen.{seen_none, seen_next, once_is}}
 use Rattle.call_remove.proofs.logged.log_listed.Goals as goal
 
 pub loop-k-init : goal.loop-k-init

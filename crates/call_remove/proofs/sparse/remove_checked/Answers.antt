@@ -1,7 +1,7 @@
 -- `remove_checked`: 15 where the entries do not fit; otherwise they are written, and both sets change.
-use Rattle.model.specs.Prelude.{ℕ, ◌/◌, arith, false≢true, List, length}
+use Rattle.model.specs.Prelude.{◌/◌, arith, false≢true, List, length}
 use Rattle.model.specs.declared.{PendingTransition.PendingTransition}
-use Rattle.log_head.specs.{Log.head_le, Called.{Fitting, counted_fits, all_fit, room_for, Wrote, wrote}}
+use Rattle.log_head.specs.{Log.head_le, Called.{Fitting, counted_fits, all_fit, room_for, wrote}}
 use Rattle.call_remove.specs.Logs.{removed_entries, logs_listed}
 use Rattle.call_remove.proofs.{Removal.{none_removed, all_removed}}
 use Rattle.call_remove.proofs.sparse.remove_checked.Goals as goal

@@ -1,6 +1,6 @@
 -- `set_and_remove_from_usage_scope_sparse`: each check turns the call away with everything lent as it was, and what passes them all is
 -- `remove_checked`.
-use Rattle.model.specs.Prelude.{sym, ◌∙◌, not-true, not-false}
+use Rattle.model.specs.Prelude.{sym, ◌∙◌}
 use Rattle.set_ready.specs.Tested.{tracker_tested, scope_tested}
 use Rattle.set_wellformed.specs.Whole.{scope_unfit, scope_fit, tracker_unfit, tracker_fit, first_unfit, second_unfit, both_fit}
 use Rattle.call_remove.specs.Removed.{away_unfit, away_short}

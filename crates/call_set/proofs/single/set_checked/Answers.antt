@@ -1,9 +1,9 @@
 -- `set_checked`: 15 where the entries do not fit; otherwise they are written, and the texture changes.
-use Rattle.model.specs.Prelude.{ℕ, ◌/◌, arith, refl, false≢true, List, length}
+use Rattle.model.specs.Prelude.{◌/◌, arith, refl, false≢true, List, length}
 use Rattle.model.specs.declared.{PendingTransition.PendingTransition}
 use Rattle.set_storage.specs.Stays.{both_refl}
 use Rattle.texture_merge.specs.Uses.{use_of}
-use Rattle.log_head.specs.{Log.head_le, Called.{room_for, Fitting, counted_fits, all_fit, Wrote, wrote, not_enough, written}}
+use Rattle.log_head.specs.{Log.head_le, Called.{room_for, Fitting, counted_fits, all_fit, wrote, not_enough, written}}
 use Rattle.call_set.specs.Used.{used_entries}
 use Rattle.call_set.proofs.{Uses.used}
 use Rattle.call_set.proofs.single.set_checked.Goals as goal

@@ -1,5 +1,5 @@
 -- `set_single_lem`: the test, the log's head, the checks, and then the use.
-use Rattle.model.specs.Prelude.{sym, ◌∙◌, not-true, not-false}
+use Rattle.model.specs.Prelude.{sym, ◌∙◌}
 use Rattle.set_wellformed.specs.Whole.{tracker_unfit, tracker_fit}
 use Rattle.set_ready.specs.Tested.{tracker_tested}
 use Rattle.texture_track.specs.Tracked.{away_unfit, away_short}

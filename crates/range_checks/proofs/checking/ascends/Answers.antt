@@ -1,6 +1,5 @@
 -- `ascends` is the definition's tests, range by range.
-use Rattle.model.specs.Prelude.{◌-◌}
-use Rattle.range_checks.proofs.{Ascending.{Testing, start_of, early, empty, turn, finish}}
+use Rattle.range_checks.proofs.{Ascending.{start_of, early, empty, turn, finish}}
 use Rattle.range_checks.proofs.checking.ascends.Goals as goal
 
 pub loop-k-init : goal.loop-k-init

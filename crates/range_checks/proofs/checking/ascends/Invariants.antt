@@ -1,6 +1,6 @@
 -- `ascends` is the definition's tests, range by range.
 use Rattle.model.specs.Prelude.{◌-◌}
-use Rattle.range_checks.proofs.{Ascending.{Testing, start_of, early, empty, turn, finish}}
+use Rattle.range_checks.proofs.{Ascending.{Testing}}
 use Rattle.range_checks.proofs.checking.ascends.Given as goal
 
 abbrev pub invariant-loop-k : goal.invariant-loop-k

@@ -1,6 +1,6 @@
 -- `added` counts what the loop of `cover` would add, record by record.
-use Rattle.model.specs.Prelude.{◌-◌, arith}
-use Rattle.range_isolate.proofs.Counting.{Counting, start_of, stop, last, turn, finish, gap_few}
+use Rattle.model.specs.Prelude.{◌-◌}
+use Rattle.range_isolate.proofs.Counting.{Counting}
 use Rattle.range_isolate.proofs.isolation.added.Given as goal
 
 abbrev pub invariant-loop-k : goal.invariant-loop-k

@@ -1,9 +1,8 @@
 -- `cover` goes on until one of its ways out: what is left to do, from here, is what was to do from the start.
-use Rattle.model.specs.Prelude.{ℕ, ◌+◌, ◌-◌, ◌*◌, ◌≤◌, ◌<◌, arith, ◌≡◌, refl, ◌∙◌, ⊎_elim, List, length, get_or}
+use Rattle.model.specs.Prelude.{ℕ, ◌+◌, ◌-◌, ◌≤◌, ◌<◌, arith, ◌≡◌, refl, ◌∙◌, List, length, get_or}
 use Rattle.model.specs.declared.{Range.Range}
 use Rattle.range_states.specs.View.{view, blank}
-use Rattle.range_isolate.proofs.Covering.{cover_end, cover_before, cover_cut, cover_more, cover_room, cut_fits, room_gap}
-use Rattle.range_isolate.proofs.{Covering.{room_before, room_end}}
+use Rattle.range_isolate.proofs.Covering.{cover_more, cover_room, room_gap}
 use Rattle.range_isolate.specs.{declared.isolation.Placed.Placed, Isolation.{Covered, Gapped, CoverRoom}}
 use Rattle.range_isolate.proofs.isolation.cover.Given as goal
 

@@ -1,6 +1,5 @@
 -- `first_past` looks at one record after another.
-use Rattle.model.specs.Prelude.{◌-◌}
-use Rattle.range_isolate.proofs.Isolating.{Looking, look_from, look_on, look_here, look_end}
+use Rattle.range_isolate.proofs.Isolating.{look_from, look_on, look_here, look_end}
 use Rattle.range_isolate.proofs.isolation.first_past.Goals as goal
 
 pub loop-k-init : goal.loop-k-init

@@ -1,6 +1,6 @@
 -- `first_past` looks at one record after another.
 use Rattle.model.specs.Prelude.{◌-◌}
-use Rattle.range_isolate.proofs.Isolating.{Looking, look_from, look_on, look_here, look_end}
+use Rattle.range_isolate.proofs.Isolating.{Looking}
 use Rattle.range_isolate.proofs.isolation.first_past.Given as goal
 
 abbrev pub invariant-loop-k : goal.invariant-loop-k

@@ -1,6 +1,6 @@
 -- `coalesce` reads up to the first record that joins, and from there on is the pass of `Joining`.
-use Rattle.model.specs.Prelude.{◌-◌, refl}
-use Rattle.range_states.proofs.Joining.{Joining, all_apart, joining_from, turn_yes, turn_no, finish, none}
+use Rattle.model.specs.Prelude.{refl}
+use Rattle.range_states.proofs.Joining.{all_apart, joining_from, turn_yes, turn_no, finish, none}
 use Rattle.range_states.proofs.coalescing.coalesce.Goals as goal
 
 pub returns-then-len-eq0 : goal.returns-then-len-eq0

@@ -1,6 +1,6 @@
 -- `coalesce` reads up to the first record that joins, and from there on is the pass of `Joining`.
-use Rattle.model.specs.Prelude.{◌-◌, refl}
-use Rattle.range_states.proofs.Joining.{Joining, all_apart, joining_from, turn_yes, turn_no, finish, none}
+use Rattle.model.specs.Prelude.{◌-◌}
+use Rattle.range_states.proofs.Joining.{Joining}
 use Rattle.range_states.proofs.coalescing.coalesce.Given as goal
 
 abbrev pub invariant-loop-i : goal.invariant-loop-i

@@ -1,6 +1,5 @@
 -- `first_join` reads on while no record joins the one before it.
-use Rattle.model.specs.Prelude.{◌-◌}
-use Rattle.range_states.proofs.Joining.{Reading, reading_start, reading_on, reading_ends}
+use Rattle.range_states.proofs.Joining.{reading_start, reading_on, reading_ends}
 use Rattle.range_states.proofs.coalescing.first_join.Goals as goal
 
 pub loop-i-init : goal.loop-i-init

@@ -1,6 +1,6 @@
 -- `first_join` reads on while no record joins the one before it.
 use Rattle.model.specs.Prelude.{◌-◌}
-use Rattle.range_states.proofs.Joining.{Reading, reading_start, reading_on, reading_ends}
+use Rattle.range_states.proofs.Joining.{Reading}
 use Rattle.range_states.proofs.coalescing.first_join.Given as goal
 
 abbrev pub invariant-loop-i : goal.invariant-loop-i

@@ -1,6 +1,6 @@
 -- `filtered_count` counts what is left to look at, record by record.
 use Rattle.model.specs.Prelude.{◌-◌}
-use Rattle.range_states.proofs.Overlaps.{Counting, count_from, count_yes, count_no, count_end}
+use Rattle.range_states.proofs.Overlaps.{Counting}
 use Rattle.range_states.proofs.filtering.filtered_count.Given as goal
 
 abbrev pub invariant-loop-k : goal.invariant-loop-k

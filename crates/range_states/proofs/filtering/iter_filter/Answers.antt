@@ -1,6 +1,5 @@
 -- `iter_filter` writes each overlap at the next record of the second run.
-use Rattle.model.specs.Prelude.{◌-◌}
-use Rattle.range_states.proofs.Overlaps.{Writing, write_from, write_fits, write_yes, write_no, write_end}
+use Rattle.range_states.proofs.Overlaps.{write_from, write_fits, write_yes, write_no, write_end}
 use Rattle.range_states.proofs.filtering.iter_filter.Goals as goal
 
 pub loop-k-init : goal.loop-k-init

@@ -1,6 +1,5 @@
 -- One index more is one test more.
-use Rattle.model.specs.Prelude.{◌≤◌, ◌-◌, arith, ◌≡◌, true}
-use Rattle.set_checks.specs.Sets.{AllPass}
+use Rattle.model.specs.Prelude.{arith, ◌≡◌}
 use Rattle.set_checks.proofs.{Passing.{passes_more, passes_nothing}}
 use Rattle.set_checks.proofs.sets.all_pass.Goals as goal
 

@@ -1,7 +1,6 @@
 -- One index more is one test more.
-use Rattle.model.specs.Prelude.{◌≤◌, ◌-◌, arith, ◌≡◌, true}
+use Rattle.model.specs.Prelude.{◌≤◌, ◌-◌, ◌≡◌, true}
 use Rattle.set_checks.specs.Sets.{AllPass}
-use Rattle.set_checks.proofs.{Passing.{passes_more, passes_nothing}}
 use Rattle.set_checks.proofs.sets.all_pass.Given as goal
 
 abbrev pub invariant-loop-i : goal.invariant-loop-i

@@ -1,8 +1,5 @@
 -- `check_each`: index by index; the first check that fails is told.
-use Rattle.model.specs.Prelude.{◌-◌}
-use Rattle.model.specs.Refusals.{set_refusal}
-use Rattle.set_checks.specs.{Head.head_in, Sets.owned_refusal}
-use Rattle.set_checks.proofs.{Turns.{Left, turn, stop, end, set_begins}}
+use Rattle.set_checks.proofs.{Turns.{turn, stop, end, set_begins}}
 use Rattle.set_checks.proofs.sets.check_each.Goals as goal
 
 pub loop-i-init : goal.loop-i-init

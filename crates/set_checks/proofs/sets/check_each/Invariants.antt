@@ -2,7 +2,7 @@
 use Rattle.model.specs.Prelude.{◌-◌}
 use Rattle.model.specs.Refusals.{set_refusal}
 use Rattle.set_checks.specs.{Head.head_in, Sets.owned_refusal}
-use Rattle.set_checks.proofs.{Turns.{Left, turn, stop, end, set_begins}}
+use Rattle.set_checks.proofs.{Turns.{Left}}
 use Rattle.set_checks.proofs.sets.check_each.Given as goal
 
 abbrev pub invariant-loop-i : goal.invariant-loop-i

@@ -1,5 +1,5 @@
 -- `check_set`: the flags, then whether every index passes; where one may not, index by index.
-use Rattle.model.specs.Prelude.{sym, ◌∙◌, not-true, not-false}
+use Rattle.model.specs.Prelude.{sym, ◌∙◌}
 use Rattle.set_checks.proofs.{Turns.set_differs, Passing.set_passes}
 use Rattle.set_checks.proofs.sets.check_set.Goals as goal
 

@@ -1,8 +1,6 @@
 -- `check_sparse`: the flags, then the list in its order; the first check that fails is told.
-use Rattle.model.specs.Prelude.{◌-◌, sym, ◌∙◌, length, not-true, not-false}
-use Rattle.model.specs.Refusals.{sparse_refusal}
-use Rattle.set_checks.specs.{Head.head_in, Sets.listed_at}
-use Rattle.set_checks.proofs.{Turns.{Left, turn, stop, end, sparse_begins, sparse_differs}}
+use Rattle.model.specs.Prelude.{sym, ◌∙◌}
+use Rattle.set_checks.proofs.{Turns.{turn, stop, end, sparse_begins, sparse_differs}}
 use Rattle.set_checks.proofs.sets.check_sparse.Goals as goal
 
 pub returns-then-not-same_flags : goal.returns-then-not-same_flags

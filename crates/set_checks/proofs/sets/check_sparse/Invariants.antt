@@ -1,8 +1,8 @@
 -- `check_sparse`: the flags, then the list in its order; the first check that fails is told.
-use Rattle.model.specs.Prelude.{◌-◌, sym, ◌∙◌, length, not-true, not-false}
+use Rattle.model.specs.Prelude.{◌-◌, length}
 use Rattle.model.specs.Refusals.{sparse_refusal}
 use Rattle.set_checks.specs.{Head.head_in, Sets.listed_at}
-use Rattle.set_checks.proofs.{Turns.{Left, turn, stop, end, sparse_begins, sparse_differs}}
+use Rattle.set_checks.proofs.{Turns.{Left}}
 use Rattle.set_checks.proofs.sets.check_sparse.Given as goal
 
 abbrev pub invariant-loop-k : goal.invariant-loop-k

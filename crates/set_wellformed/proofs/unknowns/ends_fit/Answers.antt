@@ -1,5 +1,5 @@
 -- `ends_fit` tests the start, the end, and then that they agree.
-use Rattle.model.specs.Prelude.{sym, ◌∙◌, not-true, not-false}
+use Rattle.model.specs.Prelude.{sym, ◌∙◌}
 use Rattle.set_wellformed.proofs.unknowns.ends_fit.Goals as goal
 
 pub held_fits-requires : goal.held_fits-requires

@@ -1,7 +1,5 @@
 -- `mips_agree` walks mip by mip; the first where the halves differ decides.
-use Rattle.model.specs.Prelude.{◌-◌}
-use Rattle.set_wellformed.specs.Parts.{Testing, testing_start, testing_stop, testing_turn, testing_end}
-use Rattle.set_wellformed.specs.Unknowns.{mip_agrees, itself}
+use Rattle.set_wellformed.specs.Parts.{testing_start, testing_stop, testing_turn, testing_end}
 use Rattle.set_wellformed.proofs.{Ends.mip_of_lem}
 use Rattle.model.specs.Prelude.{ap, not}
 use Rattle.set_wellformed.proofs.unknowns.mips_agree.Goals as goal

@@ -1,8 +1,7 @@
 -- `mips_agree` walks mip by mip; the first where the halves differ decides.
 use Rattle.model.specs.Prelude.{◌-◌}
-use Rattle.set_wellformed.specs.Parts.{Testing, testing_start, testing_stop, testing_turn, testing_end}
+use Rattle.set_wellformed.specs.Parts.{Testing}
 use Rattle.set_wellformed.specs.Unknowns.{mip_agrees, itself}
-use Rattle.set_wellformed.proofs.{Ends.mip_of_lem}
 use Rattle.set_wellformed.proofs.unknowns.mips_agree.Given as goal
 
 abbrev pub invariant-loop-m : goal.invariant-loop-m

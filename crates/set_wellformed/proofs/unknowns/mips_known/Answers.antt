@@ -1,8 +1,5 @@
 -- `mips_known` tests mip by mip; the first with an UNKNOWN range decides.
-use Rattle.model.specs.Prelude.{◌-◌}
-use Rattle.model.specs.Base.{every}
-use Rattle.set_storage.specs.Storage.{numbers_of, mip_of}
-use Rattle.set_wellformed.specs.{Parts.{Testing, testing_start, testing_stop, testing_turn, testing_end}, Unknowns.is_known}
+use Rattle.set_wellformed.specs.{Parts.{testing_start, testing_stop, testing_turn, testing_end}}
 use Rattle.set_wellformed.proofs.{Mips.mips_told, Ends.mip_of_lem}
 use Rattle.model.specs.Prelude.{ap, not}
 use Rattle.set_wellformed.proofs.unknowns.mips_known.Goals as goal

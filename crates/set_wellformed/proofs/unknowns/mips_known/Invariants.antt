@@ -2,8 +2,7 @@
 use Rattle.model.specs.Prelude.{◌-◌}
 use Rattle.model.specs.Base.{every}
 use Rattle.set_storage.specs.Storage.{numbers_of, mip_of}
-use Rattle.set_wellformed.specs.{Parts.{Testing, testing_start, testing_stop, testing_turn, testing_end}, Unknowns.is_known}
-use Rattle.set_wellformed.proofs.{Mips.mips_told, Ends.mip_of_lem}
+use Rattle.set_wellformed.specs.{Parts.{Testing}, Unknowns.is_known}
 use Rattle.set_wellformed.proofs.unknowns.mips_known.Given as goal
 
 abbrev pub invariant-loop-m : goal.invariant-loop-m

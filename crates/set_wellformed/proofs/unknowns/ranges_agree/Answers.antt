@@ -1,7 +1,6 @@
 -- `ranges_agree` goes through both lists at once; the first two states that differ decide.
-use Rattle.model.specs.Prelude.{◌+◌, ◌-◌, ◌≤◌, arith, sym, ◌∙◌, not-true, not-false}
-use Rattle.range_states.specs.View.{decode}
-use Rattle.set_wellformed.proofs.Agreeing.{Walk, walk_start, still, walk_differ, walk_turn, walk_end, passed_some}
+use Rattle.model.specs.Prelude.{arith, sym, ◌∙◌}
+use Rattle.set_wellformed.proofs.Agreeing.{walk_start, still, walk_differ, walk_turn, walk_end, passed_some}
 use Rattle.set_wellformed.proofs.unknowns.ranges_agree.Goals as goal
 
 pub loop-i-init : goal.loop-i-init

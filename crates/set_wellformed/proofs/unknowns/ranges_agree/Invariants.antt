@@ -1,7 +1,7 @@
 -- `ranges_agree` goes through both lists at once; the first two states that differ decide.
-use Rattle.model.specs.Prelude.{◌+◌, ◌-◌, ◌≤◌, arith, sym, ◌∙◌, not-true, not-false}
+use Rattle.model.specs.Prelude.{◌+◌, ◌-◌, ◌≤◌}
 use Rattle.range_states.specs.View.{decode}
-use Rattle.set_wellformed.proofs.Agreeing.{Walk, walk_start, still, walk_differ, walk_turn, walk_end, passed_some}
+use Rattle.set_wellformed.proofs.Agreeing.{Walk}
 use Rattle.set_wellformed.proofs.unknowns.ranges_agree.Given as goal
 
 abbrev pub invariant-loop-i : goal.invariant-loop-i

@@ -1,6 +1,5 @@
 -- `ranges_known` tests range by range; the first that is UNKNOWN decides.
-use Rattle.model.specs.Prelude.{◌-◌}
-use Rattle.set_wellformed.proofs.Known.{Knowing, knowing_start, knowing_stop, knowing_turn, knowing_end}
+use Rattle.set_wellformed.proofs.Known.{knowing_start, knowing_stop, knowing_turn, knowing_end}
 use Rattle.set_wellformed.proofs.unknowns.ranges_known.Goals as goal
 
 pub loop-k-init : goal.loop-k-init

@@ -1,6 +1,6 @@
 -- `ranges_known` tests range by range; the first that is UNKNOWN decides.
 use Rattle.model.specs.Prelude.{◌-◌}
-use Rattle.set_wellformed.proofs.Known.{Knowing, knowing_start, knowing_stop, knowing_turn, knowing_end}
+use Rattle.set_wellformed.proofs.Known.{Knowing}
 use Rattle.set_wellformed.proofs.unknowns.ranges_known.Given as goal
 
 abbrev pub invariant-loop-k : goal.invariant-loop-k

@@ -1,8 +1,6 @@
 -- `slots_fit` tests index by index; the first that does not fit decides.
-use Rattle.model.specs.Prelude.{◌-◌, arith}
-use Rattle.model.specs.WellFormed.{ends_fit, slot_fits}
-use Rattle.set_storage.specs.Storage.{numbers_of, flags_of, tracker_slot}
-use Rattle.set_wellformed.specs.{Parts.{every_at, Testing, testing_start, testing_stop, testing_turn, testing_end}, Unknowns.itself}
+use Rattle.model.specs.Prelude.{arith}
+use Rattle.set_wellformed.specs.{Parts.{every_at, testing_start, testing_stop, testing_turn, testing_end}, Unknowns.itself}
 use Rattle.set_wellformed.specs.Words.{tracker_word_fits}
 use Rattle.model.specs.Prelude.{ap, not}
 use Rattle.set_wellformed.proofs.unknowns.slots_fit.Goals as goal

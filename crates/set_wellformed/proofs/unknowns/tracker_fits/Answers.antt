@@ -1,5 +1,5 @@
 -- `tracker_fits` tests the head and the room of both halves, which makes storage safe to index, and then every index.
-use Rattle.model.specs.Prelude.{arith, sym, ◌∙◌, not-true, not-false}
+use Rattle.model.specs.Prelude.{arith, sym, ◌∙◌}
 use Rattle.set_wellformed.proofs.{Numbers.{numbers_in_lem, head_numbers, head_measured}, Holding.tracker_is}
 use Rattle.set_storage.specs.{Storage.end_half, Frames.measured_of as measured}
 use Rattle.set_wellformed.proofs.unknowns.tracker_fits.Goals as goal

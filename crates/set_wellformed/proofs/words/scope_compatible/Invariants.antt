@@ -1,9 +1,7 @@
 -- A union of no bit or one decides; otherwise index by index, the first that is not compatible.
-use Rattle.model.specs.Prelude.{◌-◌, sym, ◌∙◌}
-use Rattle.usage.specs.Gathered.{none_few, one_few}
-use Rattle.set_wellformed.specs.{Parts.{Testing, testing_start, testing_stop, testing_turn, testing_end}, Unknowns.itself}
+use Rattle.model.specs.Prelude.{◌-◌}
+use Rattle.set_wellformed.specs.{Parts.{Testing}, Unknowns.itself}
 use Rattle.set_wellformed.specs.Words.{scope_word_fits}
-use Rattle.set_wellformed.proofs.{Parting.{scope_left, scope_few}}
 use Rattle.set_wellformed.proofs.words.scope_compatible.Given as goal
 
 abbrev pub invariant-loop-i : goal.invariant-loop-i

@@ -1,9 +1,7 @@
 -- One index more is one test more of each kind and its part of the union; what the union leaves is tested last.
 use Rattle.model.specs.Prelude.{ap, not}
-use Rattle.model.specs.Prelude.{◌≤◌, ◌-◌, arith, ◌≡◌, sym, ◌∙◌, not-false}
-use Rattle.usage.specs.Gathered.{Gathered, gathered_none, gathered_more}
-use Rattle.set_storage.specs.Storage.{start_half}
-use Rattle.set_wellformed.specs.Words.{half_word, WordsAre, scope_word_proper, scope_word_plain}
+use Rattle.model.specs.Prelude.{arith, ◌≡◌, sym, ◌∙◌}
+use Rattle.usage.specs.Gathered.{gathered_none, gathered_more}
 use Rattle.set_wellformed.proofs.{Parting.scope_unfit, Telling.{words_none, words_more}}
 use Rattle.set_wellformed.proofs.words.scope_words.Goals as goal
 

@@ -1,9 +1,8 @@
 -- One index more is one test more of each kind and its part of the union; what the union leaves is tested last.
-use Rattle.model.specs.Prelude.{◌≤◌, ◌-◌, arith, ◌≡◌, sym, ◌∙◌, not-false}
-use Rattle.usage.specs.Gathered.{Gathered, gathered_none, gathered_more, gathered_wider}
+use Rattle.model.specs.Prelude.{◌≤◌, ◌-◌}
+use Rattle.usage.specs.Gathered.{Gathered}
 use Rattle.set_storage.specs.Storage.{start_half, end_half}
 use Rattle.set_wellformed.specs.Words.{half_word, WordsAre, tracker_word_proper, tracker_word_plain}
-use Rattle.set_wellformed.proofs.{Parting.tracker_unfit, Telling.{words_none, words_more}}
 use Rattle.set_wellformed.proofs.words.tracker_words.Given as goal
 
 abbrev pub invariant-loop-i : goal.invariant-loop-i

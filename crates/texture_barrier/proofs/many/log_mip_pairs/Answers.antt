@@ -1,9 +1,9 @@
 -- `log_mip_pairs` takes the mips one by one, each with its given ranges.
-use Rattle.model.specs.Prelude.{◌*◌, ◌-◌, arith, refl}
-use Rattle.texture_barrier.specs.Adds.{Adding, adding_start, adding_room, adding_turn, adding_end}
-use Rattle.texture_barrier.specs.{Ready.{mip_ready, run_is, run_ready, pair_ready}, Steps.to_ranges}
-use Rattle.texture_barrier.proofs.{Remaining.{mips_left, mips_left_lem, mips_done}}
-use Rattle.set_storage.specs.{Locate.locates, Storage.{numbers_of, mip_of}}
+use Rattle.model.specs.Prelude.{arith, refl}
+use Rattle.texture_barrier.specs.Adds.{adding_start, adding_room, adding_turn, adding_end}
+use Rattle.texture_barrier.specs.{Ready.{mip_ready, run_is, run_ready, pair_ready}}
+use Rattle.texture_barrier.proofs.{Remaining.{mips_left_lem, mips_done}}
+use Rattle.set_storage.specs.{Locate.locates}
 use Rattle.texture_barrier.proofs.many.log_mip_pairs.Goals as goal
 
 pub loop-m-init : goal.loop-m-init

@@ -1,9 +1,9 @@
 -- `log_mips` takes the mips one by one, each with the same step.
-use Rattle.model.specs.Prelude.{◌*◌, ◌-◌, arith, refl}
-use Rattle.texture_barrier.specs.Adds.{Adding, adding_start, adding_room, adding_turn, adding_end}
-use Rattle.texture_barrier.specs.{Ready.{mip_ready, run_is, run_ready}, Steps.step_entries}
-use Rattle.texture_barrier.proofs.{Remaining.{mips_left, mips_left_lem, mips_done}}
-use Rattle.set_storage.specs.{Locate.locates, Storage.{numbers_of, mip_of}}
+use Rattle.model.specs.Prelude.{◌*◌, ◌-◌}
+use Rattle.texture_barrier.specs.Adds.{Adding}
+use Rattle.texture_barrier.specs.{Steps.step_entries}
+use Rattle.texture_barrier.proofs.{Remaining.{mips_left}}
+use Rattle.set_storage.specs.{Storage.{numbers_of, mip_of}}
 use Rattle.texture_barrier.proofs.many.log_mips.Given as goal
 
 abbrev pub invariant-loop-m : goal.invariant-loop-m

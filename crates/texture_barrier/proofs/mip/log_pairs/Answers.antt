@@ -1,10 +1,7 @@
 -- `log_pairs` takes the given ranges one by one, each against all of the run.
-use Rattle.model.specs.Prelude.{◌*◌, ◌-◌, arith, refl}
-use Rattle.model.specs.declared.{Range.Range}
-use Rattle.texture_barrier.specs.declared.mip.Step.TheVariants.{Within}
-use Rattle.texture_barrier.specs.{Adds.{Adding, adding_start, adding_room, adding_turn, adding_end}, Steps.step_entries}
-use Rattle.range_states.specs.View.{decode}
-use Rattle.texture_barrier.proofs.{Remaining.{run_left, run_next, run_done}}
+use Rattle.model.specs.Prelude.{arith, refl}
+use Rattle.texture_barrier.specs.{Adds.{adding_start, adding_room, adding_turn, adding_end}}
+use Rattle.texture_barrier.proofs.{Remaining.{run_next, run_done}}
 use Rattle.texture_barrier.proofs.mip.log_pairs.Goals as goal
 
 pub loop-k-init : goal.loop-k-init

@@ -1,10 +1,10 @@
 -- `log_pairs` takes the given ranges one by one, each against all of the run.
-use Rattle.model.specs.Prelude.{◌*◌, ◌-◌, arith, refl}
+use Rattle.model.specs.Prelude.{◌*◌, ◌-◌}
 use Rattle.model.specs.declared.{Range.Range}
 use Rattle.texture_barrier.specs.declared.mip.Step.TheVariants.{Within}
-use Rattle.texture_barrier.specs.{Adds.{Adding, adding_start, adding_room, adding_turn, adding_end}, Steps.step_entries}
+use Rattle.texture_barrier.specs.{Adds.{Adding}, Steps.step_entries}
 use Rattle.range_states.specs.View.{decode}
-use Rattle.texture_barrier.proofs.{Remaining.{run_left, run_next, run_done}}
+use Rattle.texture_barrier.proofs.{Remaining.{run_left}}
 use Rattle.texture_barrier.proofs.mip.log_pairs.Given as goal
 
 abbrev pub invariant-loop-k : goal.invariant-loop-k

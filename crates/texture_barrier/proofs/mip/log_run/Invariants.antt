@@ -1,7 +1,7 @@
 -- `log_run` takes the run's ranges one by one.
-use Rattle.model.specs.Prelude.{◌-◌, arith, refl}
-use Rattle.texture_barrier.specs.{Adds.{Adding, adding_start, adding_room, adding_turn, adding_end}, Steps.range_entries}
-use Rattle.texture_barrier.proofs.{Remaining.{run_left, run_next, run_done}}
+use Rattle.model.specs.Prelude.{◌-◌}
+use Rattle.texture_barrier.specs.{Adds.{Adding}, Steps.range_entries}
+use Rattle.texture_barrier.proofs.{Remaining.{run_left}}
 use Rattle.texture_barrier.proofs.mip.log_run.Given as goal
 
 abbrev pub invariant-loop-k : goal.invariant-loop-k

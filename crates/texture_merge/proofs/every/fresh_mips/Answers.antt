@@ -1,8 +1,7 @@
 -- `fresh_mips`: each lap makes the next mip anew, and after the last lap all are.
-use Rattle.model.specs.Prelude.{◌-◌, ◌≤◌, arith, refl, [], ◌∷◌}
-use Rattle.model.specs.{Base.fine, RangedStates.range}
-use Rattle.set_storage.specs.Storage.{numbers_of}
-use Rattle.texture_merge.specs.Walks.{MipWalk, walk_from}
+use Rattle.model.specs.Prelude.{arith, refl}
+use Rattle.model.specs.{Base.fine}
+use Rattle.texture_merge.specs.Walks.{walk_from}
 use Rattle.texture_merge.proofs.{Laps.{lap_ready, lap_on, fresh_end}}
 use Rattle.texture_merge.proofs.every.fresh_mips.Goals as goal
 

@@ -1,9 +1,8 @@
 -- `fresh_mips`: each lap makes the next mip anew, and after the last lap all are.
-use Rattle.model.specs.Prelude.{◌-◌, ◌≤◌, arith, refl, [], ◌∷◌}
+use Rattle.model.specs.Prelude.{◌-◌, ◌≤◌, [], ◌∷◌}
 use Rattle.model.specs.{Base.fine, RangedStates.range}
 use Rattle.set_storage.specs.Storage.{numbers_of}
-use Rattle.texture_merge.specs.Walks.{MipWalk, walk_from}
-use Rattle.texture_merge.proofs.{Laps.{lap_ready, lap_on, fresh_end}}
+use Rattle.texture_merge.specs.Walks.{MipWalk}
 use Rattle.texture_merge.proofs.every.fresh_mips.Given as goal
 
 abbrev pub invariant-loop-m : goal.invariant-loop-m

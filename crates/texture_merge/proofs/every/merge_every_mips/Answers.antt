@@ -1,8 +1,6 @@
 -- `merge_every_mips`: each lap is a step of the model's walk over the mips, up to the first conflict.
-use Rattle.model.specs.Prelude.{◌-◌, ◌≤◌, arith, refl, ◌∙◌}
-use Rattle.model.specs.Texture.{merge_every}
-use Rattle.set_storage.specs.Storage.{numbers_of}
-use Rattle.texture_merge.specs.Walks.{MipWalk, walk_from}
+use Rattle.model.specs.Prelude.{arith, refl, ◌∙◌}
+use Rattle.texture_merge.specs.Walks.{walk_from}
 use Rattle.texture_merge.proofs.{Laps.{lap_tiled, lap_small, lap_on, lap_stop, lap_end}}
 use Rattle.std.proofs.Common.{rules}
 use Rattle.texture_merge.proofs.every.merge_every_mips.Goals as goal

@@ -1,8 +1,8 @@
 -- `merge_mips`: each lap is a step of the model's walk over the mips of the selector, up to the first conflict.
-use Rattle.model.specs.Prelude.{◌-◌, arith, ◌∙◌}
-use Rattle.model.specs.{Representation.{layer_start, layer_end}, Texture.merge_mip}
+use Rattle.model.specs.Prelude.{arith, ◌∙◌}
+use Rattle.model.specs.{Texture.merge_mip}
 use Rattle.texture_mips.specs.Merge.{merge_run}
-use Rattle.texture_merge.proofs.Laps.{SelectorLap, selector_start, selector_piece, selector_small, selector_turn, selector_stop}
+use Rattle.texture_merge.proofs.Laps.{selector_start, selector_piece, selector_small, selector_turn, selector_stop}
 use Rattle.texture_merge.proofs.{Laps.selector_end}
 use Rattle.std.proofs.Common.{rules}
 use Rattle.texture_merge.proofs.every.merge_mips.Goals as goal

@@ -1,7 +1,7 @@
 -- `paint_mips`: each mip of the selector takes its state.
-use Rattle.model.specs.Prelude.{◌-◌, arith}
+use Rattle.model.specs.Prelude.{◌-◌}
 use Rattle.model.specs.{Base.fine, Representation.{layer_start, layer_end}, RangedStates.paint}
-use Rattle.texture_merge.proofs.Laps.{SelectorLap, selector_start, selector_piece, edit_turn, edit_end}
+use Rattle.texture_merge.proofs.Laps.{SelectorLap}
 use Rattle.texture_merge.proofs.every.paint_mips.Given as goal
 
 abbrev pub invariant-loop-m : goal.invariant-loop-m

@@ -1,10 +1,6 @@
 -- `give_mip`: each lap gives one range, and what is left decides.
-use Rattle.model.specs.Prelude.{◌-◌, ◌≤◌, arith, ◌∙◌, map, get_or, drop}
-use Rattle.model.specs.Base.{passes}
+use Rattle.model.specs.Prelude.{arith, ◌∙◌}
 use Rattle.texture_merge.proofs.{Laps.lap_small, Pieces.{lap_many, range_start, range_selects, range_turn, range_stop, range_done}}
-use Rattle.set_storage.specs.Storage.{numbers_of, mips_of, layers_at}
-use Rattle.range_states.specs.View.{decode}
-use Rattle.texture_merge.specs.Giving.{Giving, taken, piece_on}
 use Rattle.std.proofs.Common.{rules}
 use Rattle.texture_merge.proofs.giving.give_mip.Goals as goal
 

@@ -1,9 +1,8 @@
 -- `give_mips`: each lap gives one mip, and what is left decides.
-use Rattle.model.specs.Prelude.{◌-◌, ◌≤◌, arith, ◌∙◌, get_or, drop}
+use Rattle.model.specs.Prelude.{◌-◌, ◌≤◌, get_or, drop}
 use Rattle.model.specs.{Texture.pieces_of, Base.passes}
-use Rattle.set_storage.specs.{Locate.locates, Storage.{numbers_of, mips_of, layers_at}}
+use Rattle.set_storage.specs.{Storage.{numbers_of, mips_of, layers_at}}
 use Rattle.texture_merge.specs.Giving.{Giving, taken, pieces_from}
-use Rattle.texture_merge.proofs.{Given.given_mip, Pieces.{lap_many, mip_start_lem, mip_given, mip_turn, mip_stop, mip_done}}
 use Rattle.texture_merge.proofs.giving.give_mips.Given as goal
 
 abbrev pub invariant-loop-m : goal.invariant-loop-m

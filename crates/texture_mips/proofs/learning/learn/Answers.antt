@@ -1,6 +1,5 @@
 -- `learn` updates the mip range by range of the end.
-use Rattle.model.specs.Prelude.{◌-◌}
-use Rattle.texture_mips.proofs.Learnt.{Learning, start_of, room_here, turn_yes, turn_no, finish}
+use Rattle.texture_mips.proofs.Learnt.{start_of, room_here, turn_yes, turn_no, finish}
 use Rattle.texture_mips.proofs.learning.learn.Goals as goal
 
 pub loop-k-init : goal.loop-k-init

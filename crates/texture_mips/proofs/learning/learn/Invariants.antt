@@ -1,6 +1,6 @@
 -- `learn` updates the mip range by range of the end.
 use Rattle.model.specs.Prelude.{◌-◌}
-use Rattle.texture_mips.proofs.Learnt.{Learning, start_of, room_here, turn_yes, turn_no, finish}
+use Rattle.texture_mips.proofs.Learnt.{Learning}
 use Rattle.texture_mips.proofs.learning.learn.Given as goal
 
 abbrev pub invariant-loop-k : goal.invariant-loop-k

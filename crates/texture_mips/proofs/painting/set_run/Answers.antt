@@ -1,7 +1,5 @@
 -- `set_run` is a pass that nothing stops.
-use Rattle.model.specs.Prelude.{◌-◌}
-use Rattle.model.specs.RangedStates.{in_state}
-use Rattle.texture_mips.proofs.{Passing.{Passing, start_of, turn}, Painted.{never, set_all}}
+use Rattle.texture_mips.proofs.{Passing.{start_of, turn}, Painted.{set_all}}
 use Rattle.texture_mips.proofs.painting.set_run.Goals as goal
 
 pub loop-k-init : goal.loop-k-init

@@ -1,7 +1,7 @@
 -- `set_run` is a pass that nothing stops.
 use Rattle.model.specs.Prelude.{◌-◌}
 use Rattle.model.specs.RangedStates.{in_state}
-use Rattle.texture_mips.proofs.{Passing.{Passing, start_of, turn}, Painted.{never, set_all}}
+use Rattle.texture_mips.proofs.{Passing.{Passing}, Painted.{never}}
 use Rattle.texture_mips.proofs.painting.set_run.Given as goal
 
 abbrev pub invariant-loop-k : goal.invariant-loop-k

@@ -1,8 +1,7 @@
 -- `merge_run` is a pass that a conflict stops.
-use Rattle.model.specs.Prelude.{◌-◌, sym, ap, ◌∙◌}
-use Rattle.usage.specs.United.{state_of}
+use Rattle.model.specs.Prelude.{◌-◌}
 use Rattle.texture_mips.specs.Merge.{run_stops, run_takes}
-use Rattle.texture_mips.proofs.{Passing.{Passing, start_of, turn, halt, finish}, Walking.{stops_at, goes_on, takes}}
+use Rattle.texture_mips.proofs.{Passing.{Passing}}
 use Rattle.texture_mips.proofs.uniting.merge_run.Given as goal
 
 abbrev pub invariant-loop-k : goal.invariant-loop-k

@@ -1,8 +1,8 @@
 -- `learn_mips`: each lap lets the next mip of the start learn.
-use Rattle.model.specs.Prelude.{◌-◌, ◌≤◌, arith}
+use Rattle.model.specs.Prelude.{◌-◌, ◌≤◌}
 use Rattle.set_storage.specs.Storage.{numbers_of, start_half}
-use Rattle.texture_merge.specs.Walks.{MipWalk, walk_from}
-use Rattle.texture_update.proofs.{Lessons.{lesson, lesson_tiled, lesson_turn, lesson_end}}
+use Rattle.texture_merge.specs.Walks.{MipWalk}
+use Rattle.texture_update.proofs.{Lessons.{lesson}}
 use Rattle.texture_update.proofs.both.learn_mips.Given as goal
 
 abbrev pub invariant-loop-m : goal.invariant-loop-m

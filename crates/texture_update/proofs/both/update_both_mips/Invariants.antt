@@ -1,6 +1,6 @@
 -- `update_both_mips`: each lap changes the next mip of the selector in both halves.
-use Rattle.model.specs.Prelude.{◌-◌, arith}
-use Rattle.texture_update.proofs.Turns.{Turning, turn_start, turn_layers, turn_tiled, turn_on, turn_end}
+use Rattle.model.specs.Prelude.{◌-◌}
+use Rattle.texture_update.proofs.Turns.{Turning}
 use Rattle.texture_update.proofs.both.update_both_mips.Given as goal
 
 abbrev pub invariant-loop-m : goal.invariant-loop-m

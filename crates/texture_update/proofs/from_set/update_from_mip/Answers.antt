@@ -1,10 +1,6 @@
 -- `update_from_mip`: each lap gives one range, and what is left decides.
-use Rattle.model.specs.Prelude.{◌-◌, ◌≤◌, arith, map, drop}
-use Rattle.range_states.specs.View.{decode}
-use Rattle.set_storage.specs.Storage.{numbers_of, ends_of}
-use Rattle.texture_merge.specs.Giving.{piece_on}
-use Rattle.texture_update.specs.Pieces.{updates}
-use Rattle.texture_update.proofs.Takes.{Taking, range_start, range_small, range_selects, range_turn, range_done}
+use Rattle.model.specs.Prelude.{arith}
+use Rattle.texture_update.proofs.Takes.{range_start, range_small, range_selects, range_turn, range_done}
 use Rattle.texture_update.proofs.from_set.update_from_mip.Goals as goal
 
 pub loop-k-init : goal.loop-k-init

@@ -1,11 +1,10 @@
 -- `update_from_mips`: each lap gives one mip, and what is left decides.
-use Rattle.model.specs.Prelude.{◌-◌, ◌≤◌, arith, drop}
+use Rattle.model.specs.Prelude.{◌-◌, ◌≤◌, drop}
 use Rattle.model.specs.Texture.{pieces_of}
-use Rattle.set_storage.specs.{Storage.{numbers_of, mips_of, ends_of}, Locate.locates}
+use Rattle.set_storage.specs.{Storage.{numbers_of, mips_of, ends_of}}
 use Rattle.texture_merge.specs.Giving.{pieces_from}
 use Rattle.texture_update.specs.Pieces.{updates}
-use Rattle.texture_update.proofs.Takes.{Taking, mip_start_lem, mip_given, mip_turn, mip_done}
-use Rattle.texture_merge.proofs.Given.{given_mip}
+use Rattle.texture_update.proofs.Takes.{Taking}
 use Rattle.texture_update.proofs.from_set.update_from_mips.Given as goal
 
 abbrev pub invariant-loop-m : goal.invariant-loop-m
