@@ -9,25 +9,30 @@
 
 mod call;
 
-ghost use Rattle.std.specs.Prelude.{◌≤◌};
+ghost use Rattle.std.specs.Prelude.{◌≤◌, length, IfOk};
 
-use libc::STDIN_FILENO;
 use replay_lines::numbers::{at, smaller};
 use replay_lines::out::Out;
 use replay_lines::scan::Scan;
 use replay_lines::sets::Book;
 use replay_lines::{logs, out, plans, ranged, scan, sets, silent, tell};
 use set_storage::{TABLE_LENGTH, Table};
+use std::io;
+use std::io::Stdin;
 
-// Room for sets of 4,096 ranges a half, and for a log of as many entries.
-fn main() {
+// Room for sets of 4,096 ranges a half, and for a log of as many entries. What was answered is written too where a read fails.
+fn main(rt: HostRuntime) -> io::Result<()> {
+    let mut input = rt.stdin();
+    let mut out = out::empty(rt.stdout());
     let mut store = [0u32; 107808];
     let mut starts = [0u32; 12288];
     let mut ends = [0u32; 12288];
     let mut first = [0u32; 12288];
     let mut last = [0u32; 12288];
     let mut log = [0u32; 28672];
-    replay(
+    let read = replay(
+        &mut input,
+        &mut out,
         &mut store,
         &mut starts,
         &mut ends,
@@ -35,6 +40,8 @@ fn main() {
         &mut last,
         &mut log,
     );
+    out::flush(&mut out)?;
+    read
 }
 
 // Room for what is read at once, and for the words and numbers of the longest line.
@@ -51,14 +58,15 @@ struct Read {
 
 // The calls that are read, piece by piece, up to 2^16 pieces.
 fn replay(
+    input: &mut Stdin,
+    out: &mut Out,
     store: &mut [u32],
     starts: &mut [u32],
     ends: &mut [u32],
     first: &mut [u32],
     last: &mut [u32],
     log: &mut [u32],
-) {
-    let mut out = out::empty();
+) -> io::Result<()> {
     let mut book = sets::nothing();
     let mut piece = [0u8; 65536];
     let mut words = [0u32; 65536];
@@ -69,17 +77,33 @@ fn replay(
     while 0 < left {
         left -= 1;
         let read = read_piece(
-            left, line, &mut piece, &mut words, &mut out, &mut book, store, &mut table, starts,
+            input, left, line, &mut piece, &mut words, out, &mut book, store, &mut table, starts,
             ends, &mut given, first, last, log,
-        );
+        )?;
         line = read.line;
         left = read.left;
     }
-    out::flush(&mut out);
+    Ok(())
+}
+
+// Reads until the piece is full or the input ends, and tells how many bytes were read.
+fn read_full(input: &mut Stdin, piece: &mut [u8]) -> io::Result<usize>
+    ensures { IfOk result (λ n. n ≤ length piece.new) }
+{
+    let mut done = 0;
+    while done < piece.len() {
+        let n = io::Read::read(input, &mut piece[done..])?;
+        if n == 0 {
+            return Ok(done);
+        }
+        done += n;
+    }
+    Ok(done)
 }
 
 // The next piece, of which `left` may follow; none does where nothing was read.
 fn read_piece(
+    input: &mut Stdin,
     left: usize,
     line: Scan,
     piece: &mut Piece,
@@ -94,17 +118,17 @@ fn read_piece(
     first: &mut [u32],
     last: &mut [u32],
     log: &mut [u32],
-) -> Read
-    ensures { result.left ≤ left }
+) -> io::Result<Read>
+    ensures { IfOk result (λ read. read.left ≤ left) }
 {
-    let n = io::read_full(STDIN_FILENO, piece);
+    let n = read_full(input, piece)?;
     if n == 0 {
-        return Read { line, left: 0 };
+        return Ok(Read { line, left: 0 });
     }
     let next = take(
         piece, n, line, words, out, book, store, table, starts, ends, given, first, last, log,
     );
-    Read { line: next, left }
+    Ok(Read { line: next, left })
 }
 
 // Every byte in turn.
