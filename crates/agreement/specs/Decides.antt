@@ -1,7 +1,7 @@
 -- The test of a well-formed set (model, WellFormed) decides the records that the proofs go by (Fits): both directions, for scopes and for
 -- trackers.
 use Rattle.model.specs.Prelude.{ℕ, ◌≤◌, ◌<◌, arith, ◌≡◌, refl, sym, Bool, true, false, not, and-eq-true_iff, List, [], ◌∷◌, map, eqb}
-use Rattle.model.specs.Prelude.{bit_and, eqb-true, eqb-false, ltb-true, not-true, eq-eqb, ne_eqb, lt-ltb, le-ltb}
+use Rattle.model.specs.Prelude.{bit_and, eqb-true, eqb-false, ltb-true, not-true, not-false, eq-eqb, ne_eqb, lt-ltb, le-ltb}
 use Rattle.model.specs.{declared.{Extent.Extent, Range.Range, UsageFlags.UsageFlags}, Flags.meets, Representation.Ends}
 use Rattle.model.specs.{Sets.{Numbers, Slot, Set, Tracker, outside}, Refusals.extent_outside, RangedStates.Tiles}
 use Rattle.model.specs.{Texture.{Held, single, many}, Subresources.subresources}
@@ -10,9 +10,12 @@ use Rattle.model.specs.{WellFormed.{scope_fits, tracker_fits}, ListLaws.{every_a
 use Rattle.model.specs.{BoolLaws.{by_test, neither, both, and_left, and_right, false_not}, CheckLaws.inside, Base.All}
 use Rattle.agreement.specs.Shared.{grid_of}
 use Rattle.agreement.specs.Fits.{StateFits, SingleFits, MipFits, HeldFits, unknowns, EndsFit, ExtentFits, SlotFits, SetFits}
-use Rattle.agreement.specs.WellStates.{no_meet}
 
 -- ---- a state
+-- two states that do not meet share no bit
+pub no_meet : (a b : ℕ) → not (meets a b) ≡ true → bit_and a b ≡ 0
+no_meet a b e = eqb-true (bit_and a b) 0 (not-false _ (not-true (meets a b) e))
+
 meets_apart : (a b : ℕ) → bit_and a b ≡ 0 → not (meets a b) ≡ true
 meets_apart a b e = rw (eq-eqb _ _ e)
 

@@ -5,7 +5,7 @@ use Rattle.model.specs.{Representation.Ends, Log.pending, Sets.{Head, Tracker, c
 use Rattle.model.specs.Calls.{CallResult, Indexed, done, unless, set_from, set_given, log_given, set_from_usage_scope, set_from_tracker}
 use Rattle.model.specs.{Texture.{Held, Entry, from_held, ranged}, WellFormed.{scope_fits, tracker_fits, well_formed_scope, well_formed_tracker}}
 use Rattle.model.specs.BoolLaws.{and_left}
-use Rattle.agreement.specs.{LogRoom.entries_written, EachCall.{set_from_usage_scope_room, set_from_tracker_room}}
+use Rattle.agreement.proofs.{LogRoom.entries_written, EachCall.{set_from_usage_scope_room, set_from_tracker_room}}
 use Rattle.set_storage.specs.Storage.{numbers_of, flags_of, start_half, end_half, held_of, slot_with, scope_of, tracker_of, list_from, mask_at}
 use Rattle.set_storage.specs.{Storage.textures_at, Stays.OwnedBy}
 use Rattle.set_checks.specs.{Head.{head_in, tracker_head, head_is}, Sets.SetTold, Passed.set_passed}

@@ -10,7 +10,7 @@ use Rattle.set_storage.specs.Storage.{numbers_of, flags_of, start_half, end_half
 use Rattle.set_storage.specs.Storage.{textures_at, mip_limit_at, layer_limit_at, exclusive_at, uninitialized_at, complex_at, unknown_at, mask_at}
 use Rattle.set_storage.specs.{Storage.{owned_at, mips_at, layers_at, state_at, table_length}, Lists.{list_long, list_at}, Slots.held_single}
 use Rattle.call_open.specs.Open.{asked, headed, cleared_at, cleared, TableOpened}
-use Rattle.agreement.specs.OpeningLaws.{opened_numbers, opened_fits}
+use Rattle.agreement.proofs.OpeningLaws.{opened_numbers, opened_fits}
 use Rattle.set_wellformed.proofs.Numbers.{numbers_in_lem}
 
 -- ---- one index

@@ -7,7 +7,8 @@ use Rattle.model.specs.{Sets.{capacity, Head, Set, Tracker, head_of}, Refusals.s
 use Rattle.model.specs.{Calls.{CallResult, unless, sparse_all, set_and_remove_sparse}, Log.pending, Texture.{Held, Entry, ranged}}
 use Rattle.model.specs.WellFormed.{scope_fits, tracker_fits, well_formed_scope, well_formed_tracker}
 use Rattle.set_storage.specs.{Storage.{numbers_of, scope_of, tracker_of}, Stays.both_refl}
-use Rattle.agreement.specs.{LogBound.entries, LogRoom.entries_written, EachCall.sparse_room}
+use Rattle.agreement.specs.LogBound.{entries}
+use Rattle.agreement.proofs.{LogRoom.entries_written, EachCall.sparse_room}
 use Rattle.set_checks.specs.{Head.{head_in, tracker_head, scope_head}, Sets.SparseTold, Passed.sparse_passed}
 use Rattle.set_ready.specs.Tested.{ScopeTested, TrackerTested}
 use Rattle.log_head.specs.{Log.{head_within, refused_with, moved_on}, Called.{Wrote, not_enough, written}}

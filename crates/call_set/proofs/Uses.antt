@@ -6,7 +6,7 @@ use Rattle.model.specs.{declared.{Refusal.Refusal, Answered.Answered}, Represent
 use Rattle.model.specs.{WellFormed.{tracker_fits, well_formed_tracker}, Sets.{capacity, Head, Slot, Tracker, slot_at, empty_slot, with_tracker}}
 use Rattle.model.specs.{Refusals.single_refusal, Calls.{CallResult, done, unless, set_slot, log_slot, set_single, no_ends}, Log.pending}
 use Rattle.model.specs.{Texture.{Held, Given, Entry, from_use, ranged}, BoolLaws.and_left}
-use Rattle.agreement.specs.{LogRoom.entries_written, EachCall.set_single_room}
+use Rattle.agreement.proofs.{LogRoom.entries_written, EachCall.set_single_room}
 use Rattle.set_storage.specs.{Lists.list_at, Storage.{numbers_of, flags_of, tracker_of, mask_at, textures_at, tracker_slot}}
 use Rattle.set_storage.specs.Stays.{Only, both_more}
 use Rattle.texture_merge.specs.Uses.{use_of}

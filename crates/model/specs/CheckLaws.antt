@@ -177,6 +177,28 @@ refusal_told NoFreeEntry = refl
 
 -- "10 is never given again": it is no refusal's number
 pub never_ten : (r : Refusal) → number_of r ≡ 10 → ⊥
-never_ten r e =
-    let told : refusal_from 10 (place_of r) ≡ r = ap (λ n. refusal_from n (place_of r)) (sym e) ∙ refusal_told r in
-    let other : 4 ≡ number_of r = ap number_of told in omega (arith, e, other)
+never_ten NumbersOutOfLimits e = omega (arith, e)
+never_ten FlagsBreakRule e = omega (arith, e)
+never_ten ShortRoom e = omega (arith, e)
+never_ten NotWellFormed e = omega (arith, e)
+never_ten LogTooShort e = omega (arith, e)
+never_ten FlagsDiffer e = omega (arith, e)
+never_ten (NoSuchIndex i) e = omega (arith, e)
+never_ten (ExtentOutOfLimits i) e = omega (arith, e)
+never_ten (ExtentDiffers i) e = omega (arith, e)
+never_ten MipsEmpty e = omega (arith, e)
+never_ten MipsReversed e = omega (arith, e)
+never_ten LayersEmpty e = omega (arith, e)
+never_ten LayersReversed e = omega (arith, e)
+never_ten SelectorPastExtent e = omega (arith, e)
+never_ten StateReserved e = omega (arith, e)
+never_ten StateIncompatible e = omega (arith, e)
+never_ten RangesOutOfOrder e = omega (arith, e)
+never_ten LogOutOfOrder e = omega (arith, e)
+never_ten FieldCutShort e = omega (arith, e)
+never_ten UnknownTag e = omega (arith, e)
+never_ten UseOfWrongSize e = omega (arith, e)
+never_ten GroupsTooDeep e = omega (arith, e)
+never_ten PlanUnbalanced e = omega (arith, e)
+never_ten GroupTooLong e = omega (arith, e)
+never_ten NoFreeEntry e = omega (arith, e)

@@ -49,34 +49,24 @@ unfolding tri
 tri_is zero = refl
 tri_is (suc k) = let h : tri k ≡ 3 * k = tri_is k in omega arith
 
-view_at_tri : (l : List ℕ) (k : ℕ) → suc (suc (tri k)) < length l
-    → range (get_or l (tri k) 0) (get_or l (suc (tri k)) 0) (get_or l (suc (suc (tri k))) 0) ≡ get_or (view l) k blank
-unfolding tri view
-view_at_tri [] k h = absurd (not-suc-le-zero h)
-view_at_tri (a ∷ []) k h = absurd (not-suc-le-zero (le_of_suc-le-suc h))
-view_at_tri (a ∷ b ∷ []) k h = absurd (not-suc-le-zero (le_of_suc-le-suc (le_of_suc-le-suc h)))
-view_at_tri (a ∷ b ∷ c ∷ l) zero h = refl
-view_at_tri (a ∷ b ∷ c ∷ l) (suc k) h = view_at_tri l k (le_of_suc-le-suc (le_of_suc-le-suc (le_of_suc-le-suc h)))
-
 pub view_at : (l : List ℕ) (k : ℕ) → 3 * k + 3 ≤ length l
     → range (get_or l (3 * k) 0) (get_or l (3 * k + 1) 0) (get_or l (3 * k + 2) 0) ≡ get_or (view l) k blank
+unfolding tri view
 view_at l k h =
     let e : 3 * k ≡ tri k = sym (tri_is k) in let e₁ : 3 * k + 1 ≡ suc (tri k) = omega arith in
     let e₂ : 3 * k + 2 ≡ suc (suc (tri k)) = omega arith in
-    rw (e₁, e₂, e) (view_at_tri l k (omega arith))
+    rw (e₁, e₂, e) (at_tri l k (omega arith))
+  where
+    at_tri : (l : List ℕ) (k : ℕ) → suc (suc (tri k)) < length l
+        → range (get_or l (tri k) 0) (get_or l (suc (tri k)) 0) (get_or l (suc (suc (tri k))) 0) ≡ get_or (view l) k blank
+    at_tri [] k h = absurd (not-suc-le-zero h)
+    at_tri (a ∷ []) k h = absurd (not-suc-le-zero (le_of_suc-le-suc h))
+    at_tri (a ∷ b ∷ []) k h = absurd (not-suc-le-zero (le_of_suc-le-suc (le_of_suc-le-suc h)))
+    at_tri (a ∷ b ∷ c ∷ l) zero h = refl
+    at_tri (a ∷ b ∷ c ∷ l) (suc k) h = at_tri l k (le_of_suc-le-suc (le_of_suc-le-suc (le_of_suc-le-suc h)))
 
 set3 : List ℕ → ℕ → ℕ → ℕ → Range → List ℕ
 set3 l i j k r = set (set (set l i r.start) j r.end) k r.state
-
-view_set_tri : (l : List ℕ) (k : ℕ) (r : Range) → view (set3 l (tri k) (suc (tri k)) (suc (suc (tri k))) r) ≡ set (view l) k r
-unfolding tri view set3
-view_set_tri [] k r = refl
-view_set_tri (a ∷ []) zero r = refl
-view_set_tri (a ∷ []) (suc k) r = refl
-view_set_tri (a ∷ b ∷ []) zero r = refl
-view_set_tri (a ∷ b ∷ []) (suc k) r = refl
-view_set_tri (a ∷ b ∷ c ∷ l) zero r = refl
-view_set_tri (a ∷ b ∷ c ∷ l) (suc k) r = ap (λ (t : List Range). range a b c ∷ t) (view_set_tri l k r)
 
 spare_set_tri : (l : List ℕ) (k : ℕ) (r : Range) → suc (suc (tri k)) < length l
     → spare (set3 l (tri k) (suc (tri k)) (suc (suc (tri k))) r) ≡ spare l
@@ -90,11 +80,20 @@ spare_set_tri (a ∷ b ∷ c ∷ l) (suc k) r h = spare_set_tri l k r (le_of_suc
 -- three stores, at the numbers that the code writes, are a `Put`
 pub puts : (l : List ℕ) (k : ℕ) (r : Range) → 3 * k + 3 ≤ length l
     → Put l k r (set (set (set l (3 * k) r.start) (3 * k + 1) r.end) (3 * k + 2) r.state)
-unfolding set3
+unfolding tri view set3
 puts l k r h =
     let e : 3 * k ≡ tri k = sym (tri_is k) in let e₁ : 3 * k + 1 ≡ suc (tri k) = omega arith in
     let e₂ : 3 * k + 2 ≡ suc (suc (tri k)) = omega arith in
-    rw (e₁, e₂, e) record { seen = view_set_tri l k r; rest = spare_set_tri l k r (omega arith); long = simp length-set }
+    rw (e₁, e₂, e) record { seen = seen_tri l k r; rest = spare_set_tri l k r (omega arith); long = simp length-set }
+  where
+    seen_tri : (l : List ℕ) (k : ℕ) (r : Range) → view (set3 l (tri k) (suc (tri k)) (suc (suc (tri k))) r) ≡ set (view l) k r
+    seen_tri [] k r = refl
+    seen_tri (a ∷ []) zero r = refl
+    seen_tri (a ∷ []) (suc k) r = refl
+    seen_tri (a ∷ b ∷ []) zero r = refl
+    seen_tri (a ∷ b ∷ []) (suc k) r = refl
+    seen_tri (a ∷ b ∷ c ∷ l) zero r = refl
+    seen_tri (a ∷ b ∷ c ∷ l) (suc k) r = ap (λ (t : List Range). range a b c ∷ t) (seen_tri l k r)
 
 view_long_tri : (l : List ℕ) (n : ℕ) → tri n ≤ length l → n ≤ length (view l)
 unfolding tri view

@@ -1,5 +1,5 @@
 -- `set_twice`: its calls are a trace, so its second call shares with the grid's run what demand 3 lists.
-use Rattle.track.specs.ClientLaws.{client_shares}
+use Rattle.track.proofs.ClientLaws.{client_shares}
 use Rattle.track.proofs.client.set_twice.Goals as goal
 
 pub returns : goal.returns
