@@ -1,10 +1,11 @@
 -- Demand 3, from sets that are good: what holds of one texture in a scope and in a tracker is handed to the lifting of LiftCalls, for every
 -- list of calls.
-use Rattle.model.specs.Prelude.{ℕ, zero, suc, ◌-◌, ◌+◌, ◌≤◌, ◌<◌, arith, ◌≡◌, refl, sym, ap, ◌∙◌, Bool, true, false, and-eq-true_iff}
-use Rattle.model.specs.Prelude.{false≢true, Option, none, some, Option_map, [], ◌∷◌, append-nil, List, map, eqb, bit_and, bit_or, replicate}
+use Rattle.std.specs.Prelude.{◌-◌, ◌+◌, ◌≤◌, ◌<◌, ◌≡◌, ◌∷◌, if◌then◌else◌}
+use Rattle.model.specs.Prelude.{ℕ, zero, suc, arith, refl, sym, ap, ◌∙◌, Bool, true, false, and-eq-true_iff}
+use Rattle.model.specs.Prelude.{false≢true, Option, none, some, Option_map, [], append-nil, List, map, eqb, bit_and, bit_or, replicate}
 use Rattle.model.specs.Prelude.{get_or, eqb-true, not-false, le-leb, lt-ltb}
 use Rattle.model.specs.declared.{Extent.Extent, InvalidUse.InvalidUse, Selector.Selector, UsageFlags.UsageFlags}
-use Rattle.model.specs.{Base.{if◌then◌else◌, ruled, or_keep, passes}, Representation.{is_full, Ends, full}}
+use Rattle.model.specs.{Base.{ruled, or_keep, passes}, Representation.{is_full, Ends, full}}
 use Rattle.model.specs.{Sets.{Head, outside, Slot, Set, Tracker, Opening}, Refusals.{texture_checks, selector_checks, single_refusal}}
 use Rattle.model.specs.Texture.{Held, single, many, Given, given_single, given_many, from_use, from_held, ranged, Entry, merge, invalid_use}
 use Rattle.model.specs.{Texture.{spread_piece, fresh_mips}, Subresources.everywhere, BoolLaws.{neither, by_test, and_left}}

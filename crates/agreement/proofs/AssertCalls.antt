@@ -1,8 +1,9 @@
 -- No strict assertion fires in any of the six calls on well-formed sets.
-use Rattle.model.specs.Prelude.{ℕ, suc, ◌+◌, ◌≤◌, arith, ◌≡◌, refl, Bool, true, false, ◌&&◌, not, Option, none, some, List, [], ◌∷◌, map}
+use Rattle.std.specs.Prelude.{◌+◌, ◌≤◌, ◌≡◌, ◌&&◌, ◌∷◌, if◌then◌else◌}
+use Rattle.model.specs.Prelude.{ℕ, suc, arith, refl, Bool, true, false, not, Option, none, some, List, [], map}
 use Rattle.model.specs.Prelude.{eqb, length, get_elem?, List_get_D_map, not-false, lt-ltb, ltb-true}
 use Rattle.model.specs.declared.{Extent.Extent, Refusal.Refusal, Selector.Selector, UsageFlags.UsageFlags}
-use Rattle.model.specs.{Base.{if◌then◌else◌, every, each, each_at, All}, Representation.Ends}
+use Rattle.model.specs.{Base.{every, each, each_at, All}, Representation.Ends}
 use Rattle.model.specs.Sets.{Numbers, Slot, Set, Tracker, head_of, own_extent, empty_slot, slot_at}
 use Rattle.model.specs.Refusals.{owned_checks, sparse_checks, single_refusal, set_refusal, sparse_refusal}
 use Rattle.model.specs.Calls.{no_ends, Call, call_merge_single, call_merge_usage_scope, call_set_single, call_set_from_usage_scope, call_set_from_tracker}

@@ -1,9 +1,10 @@
 -- No strict assertion about pieces, states and UNKNOWN fires where a well-formed texture is inserted, merged or updated.
-use Rattle.model.specs.Prelude.{ℕ, zero, suc, ◌-◌, ◌+◌, ◌≤◌, ◌<◌, ℕ_discrete, arith, ◌≡◌, refl, sym, ap, ◌∙◌, true, not, Bool, false, ◌&&◌}
-use Rattle.model.specs.Prelude.{none, some, List, [], ◌∷◌, ◌++◌, map, append_assoc, append-nil, leb, eqb, length, replicate}
+use Rattle.std.specs.Prelude.{◌-◌, ◌+◌, ◌≤◌, ◌<◌, ◌≡◌, ◌&&◌, ◌∷◌, ◌++◌, if◌then◌else◌}
+use Rattle.model.specs.Prelude.{ℕ, zero, suc, ℕ_discrete, arith, refl, sym, ap, ◌∙◌, true, not, Bool, false}
+use Rattle.model.specs.Prelude.{none, some, List, [], map, append_assoc, append-nil, leb, eqb, length, replicate}
 use Rattle.model.specs.Prelude.{length-replicate, length-append, take, drop, take-append-drop, length-take, length-drop, le-leb, lt-ltb}
 use Rattle.model.specs.Prelude.{eqb-false, ne_eqb}
-use Rattle.model.specs.{declared.{Extent.Extent, Range.Range, UsageFlags.UsageFlags}, Base.{every, each_at, if◌then◌else◌, zip₂, All, AllO}}
+use Rattle.model.specs.{declared.{Extent.Extent, Range.Range, UsageFlags.UsageFlags}, Base.{every, each_at, zip₂, All, AllO}}
 use Rattle.model.specs.{Flags.incompatible, Representation.{select, mip_start, mip_end, layer_start, layer_end, full, in_mips, Ends}}
 use Rattle.model.specs.{StateRules.invalid_state, RangedStates.{layer_states, coalesce, isolate, paint, Tiles}}
 use Rattle.model.specs.Texture.{Held, single, many, Given, given_single, given_many, Piece, on_mips, learn_all, met_by}

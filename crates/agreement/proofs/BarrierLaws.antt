@@ -1,11 +1,12 @@
 -- One texture in a tracker: the log's entries that hold a subresource are the grid's transition of it.
-use Rattle.model.specs.Prelude.{ℕ, zero, suc, ◌-◌, ◌+◌, ◌≤◌, ◌<◌, min, max, add-zero, add-suc, suc-add, zero-add, dec_le, dec_lt, arith, ◌≡◌}
-use Rattle.model.specs.Prelude.{refl, sym, ap, ◌∙◌, Bool, true, false, ◌&&◌, and-false, and-eq-true_iff, Option, none, some, List, [], ◌∷◌}
-use Rattle.model.specs.Prelude.{◌++◌, map, append-nil, leb, ltb, replicate, length, length-replicate, get_or, get_or-replicate}
+use Rattle.std.specs.Prelude.{◌-◌, ◌+◌, ◌≤◌, ◌<◌, ◌≡◌, ◌&&◌, ◌∷◌, ◌++◌, if◌then◌else◌}
+use Rattle.model.specs.Prelude.{ℕ, zero, suc, min, max, add-zero, add-suc, suc-add, zero-add, dec_le, dec_lt, arith}
+use Rattle.model.specs.Prelude.{refl, sym, ap, ◌∙◌, Bool, true, false, and-false, and-eq-true_iff, Option, none, some, List, []}
+use Rattle.model.specs.Prelude.{map, append-nil, leb, ltb, replicate, length, length-replicate, get_or, get_or-replicate}
 use Rattle.model.specs.Prelude.{List_get_D_append, List_get_D_eq_default, get_or-append-add, le-leb, lt-ltb, lt-leb, le-ltb, leb-true, ltb-true}
 use Rattle.model.specs.Prelude.{ltb-false}
 use Rattle.model.specs.declared.{Extent.Extent, Range.Range, Selector.Selector, UsageFlags.UsageFlags}
-use Rattle.model.specs.{Base.{if◌then◌else◌, each, each_at, zip₂}, Representation.{select, full, in_mips, holds}, StateRules.{Move, move_of}}
+use Rattle.model.specs.{Base.{each, each_at, zip₂}, Representation.{select, full, in_mips, holds}, StateRules.{Move, move_of}}
 use Rattle.model.specs.RangedStates.{iter_filter, layer_states, Tiles}
 use Rattle.model.specs.Texture.{Held, single, many, Given, given_single, given_many, Piece, Entry, entry, mip_entries, barrier, pieces_of}
 use Rattle.model.specs.{Subresources.everywhere, ListLaws.{all_at, all_get_d, all_weak, map_replicate, each_append}}

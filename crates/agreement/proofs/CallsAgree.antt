@@ -1,6 +1,7 @@
 -- Texture by texture, and call by call from any well-formed sets: ranged and grid share what demand 3 lists, what is well formed stays so,
 -- and both refuse alike.
-use Rattle.model.specs.Prelude.{◌<◌, ℕ, arith, ◌≡◌, refl, sym, ap, ◌∙◌, ◌↔◌, true, and-eq-true_iff, Option, List, [], ◌∷◌}
+use Rattle.std.specs.Prelude.{◌<◌, ◌≡◌, ◌↔◌, ◌∷◌}
+use Rattle.model.specs.Prelude.{ℕ, arith, refl, sym, ap, ◌∙◌, true, and-eq-true_iff, Option, List, []}
 use Rattle.model.specs.declared.{Extent.Extent, InvalidUse.InvalidUse, Refusal.Refusal, Selector.Selector, UsageFlags.UsageFlags}
 use Rattle.model.specs.{Flags.flags_fit, Representation.Ends, Refusals.selector_checks, Texture.{Held, insert, merge, update, ranged}}
 use Rattle.model.specs.{WellFormed.{single_fits, held_fits, ends_fit, scope_fits, tracker_fits}, CheckLaws.{Passed, passed, accepted_none}}

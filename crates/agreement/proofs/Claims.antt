@@ -1,7 +1,8 @@
 -- What is proved, in one place: each claim is a statement with the name of its proof. To trust it, read crate `model`, and here Grid (01's
 -- grid), Shared (what the two representations share), WellFormedSets, LogBound, Layers, Asserts and WebGpu; the other modules hold proofs
 -- alone.
-use Rattle.model.specs.Prelude.{ℕ, ◌≤◌, ◌<◌, ◌≡◌, ◌↔◌, true, false, ◌||◌, Option, none, some, List, map, [], ◌∷◌, length, get_elem?}
+use Rattle.std.specs.Prelude.{◌≤◌, ◌<◌, ◌≡◌, ◌↔◌, ◌||◌, ◌∷◌}
+use Rattle.model.specs.Prelude.{ℕ, true, false, Option, none, some, List, map, [], length, get_elem?}
 use Rattle.model.specs.declared.Refusal.TheVariants.{NoFreeEntry}
 use Rattle.model.specs.{declared.{Extent.Extent, Range.Range, Refusal.Refusal, Selector.Selector, UsageFlags.UsageFlags}, Base.{every, All}}
 use Rattle.model.specs.{Flags.flags_fit, Representation.Ends, Sets.{Slot, Set, Tracker, head_of, Opening}}

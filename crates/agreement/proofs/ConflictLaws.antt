@@ -1,9 +1,10 @@
 -- A single merge conflicts just where the uses of some named subresource, with the given one, do not fit.
-use Rattle.model.specs.Prelude.{ℕ, zero, suc, ◌≤◌, ◌<◌, arith, ◌≡◌, refl, sym, ap, ◌∙◌, Bool, true, false, ◌&&◌, ◌||◌, not, and-eq-true_iff}
-use Rattle.model.specs.Prelude.{false≢true, Option, none, some, Option_map, List, [], ◌∷◌, ◌++◌, map, leb, ltb, eqb, bit_or, or_zero_r}
+use Rattle.std.specs.Prelude.{◌≤◌, ◌<◌, ◌≡◌, ◌&&◌, ◌||◌, ◌∷◌, ◌++◌, if◌then◌else◌}
+use Rattle.model.specs.Prelude.{ℕ, zero, suc, arith, refl, sym, ap, ◌∙◌, Bool, true, false, not, and-eq-true_iff}
+use Rattle.model.specs.Prelude.{false≢true, Option, none, some, Option_map, List, [], map, leb, ltb, eqb, bit_or, or_zero_r}
 use Rattle.model.specs.Prelude.{replicate, get_or, get_or-replicate, List_get_D_map, leb-true, ltb-true, le-leb, lt-ltb, not-true}
 use Rattle.model.specs.declared.{Extent.Extent, Selector.Selector, UsageFlags.UsageFlags}
-use Rattle.model.specs.{Base.{if◌then◌else◌, Stop, ruled, or_keep, onward, walk₂, All, AllO}, Flags.incompatible}
+use Rattle.model.specs.{Base.{Stop, ruled, or_keep, onward, walk₂, All, AllO}, Flags.incompatible}
 use Rattle.model.specs.{Representation.{in_mips, holds, full}, Sets.{Slot, Set, head_of, slot_at}, Refusals.{selector_checks, single_refusal}}
 use Rattle.model.specs.{Calls.{Indexed, answer, merge_single}, ListLaws.{all_join, all_get_d, all_both}, BoolLaws.by_test}
 use Rattle.model.specs.CheckLaws.{Passed, selector_within, SinglePassed, single_passed}

@@ -1,5 +1,6 @@
 -- The claims of CallsAgree and LogRoom for each of the six calls by itself, on what it is handed.
-use Rattle.model.specs.Prelude.{ℕ, ◌≤◌, ◌≡◌, true, ◌&&◌, Option, List, [], ◌∷◌}
+use Rattle.std.specs.Prelude.{◌≤◌, ◌≡◌, ◌&&◌, ◌∷◌}
+use Rattle.model.specs.Prelude.{ℕ, true, Option, List, []}
 use Rattle.model.specs.{declared.{Extent.Extent, Selector.Selector}, Sets.{Set, Tracker, capacity}, Refusals.tracker_index}
 use Rattle.model.specs.Calls.{call_merge_single, call_merge_usage_scope, call_set_single, call_set_from_usage_scope, call_set_from_tracker}
 use Rattle.model.specs.Calls.{call_set_and_remove_sparse, merge_single, merge_usage_scope, set_single, set_from_usage_scope, set_from_tracker}

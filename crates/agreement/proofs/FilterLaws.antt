@@ -1,8 +1,9 @@
 -- The transitions of a subresource: of the entries over ranges that tile, those that hold it are the one of its range.
-use Rattle.model.specs.Prelude.{ℕ, ◌-◌, ◌+◌, ◌≤◌, ◌<◌, min, max, dec_le, dec_lt, arith, ◌≡◌, refl, sym, ◌∙◌, false, ◌&&◌, and-false, List, []}
-use Rattle.model.specs.Prelude.{◌∷◌, ◌++◌, append-nil, leb, ltb, replicate, length, length-replicate, get_or, get_or-replicate}
+use Rattle.std.specs.Prelude.{◌-◌, ◌+◌, ◌≤◌, ◌<◌, ◌≡◌, ◌&&◌, ◌∷◌, ◌++◌, if◌then◌else◌}
+use Rattle.model.specs.Prelude.{ℕ, min, max, dec_le, dec_lt, arith, refl, sym, ◌∙◌, false, and-false, List, []}
+use Rattle.model.specs.Prelude.{append-nil, leb, ltb, replicate, length, length-replicate, get_or, get_or-replicate}
 use Rattle.model.specs.Prelude.{List_get_D_append, get_or-append-add, le-leb, lt-ltb, lt-leb, le-ltb, ltb-true, ltb-false}
-use Rattle.model.specs.{declared.Range.Range, Base.{if◌then◌else◌, each}, RangedStates.{iter_filter, layer_states, Tiles}, BoolLaws.by_test}
+use Rattle.model.specs.{declared.Range.Range, Base.{each}, RangedStates.{iter_filter, layer_states, Tiles}, BoolLaws.by_test}
 
 -- what f makes of the ranges that hold layer l
 abbrev pub held : {A : Type 0} → (ℕ → List A) → ℕ → List Range → List A

@@ -1,6 +1,7 @@
 -- Uses fit just where their union is compatible; and the usage flags' rule beside WebGPU's own.
-use Rattle.model.specs.Prelude.{ℕ, ◌<◌, arith, ◌≡◌, refl, sym, ap, ◌∙◌, Bool, true, false, ◌&&◌, ◌||◌, not, and-eq-true_iff, List, [], ◌∷◌}
-use Rattle.model.specs.Prelude.{◌++◌, map, eqb, bit_and, bit_or, or_zero_l, or_zero_r, or_comm, or_self, or_lt, eqb-true, eqb-false, eq-eqb}
+use Rattle.std.specs.Prelude.{◌<◌, ◌≡◌, ◌&&◌, ◌||◌, ◌∷◌, ◌++◌}
+use Rattle.model.specs.Prelude.{ℕ, arith, refl, sym, ap, ◌∙◌, Bool, true, false, not, and-eq-true_iff, List, []}
+use Rattle.model.specs.Prelude.{map, eqb, bit_and, bit_or, or_zero_l, or_zero_r, or_comm, or_self, or_lt, eqb-true, eqb-false, eq-eqb}
 use Rattle.model.specs.Prelude.{ne_eqb}
 use Rattle.model.specs.{declared.UsageFlags.UsageFlags, Base.{every, All}, Flags.{meets, one_bit, incompatible}}
 use Rattle.agreement.specs.WebGpu.{Renders, Usage, input, constant, storage, storage_read, attachment, attachment_read, reads}

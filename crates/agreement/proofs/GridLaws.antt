@@ -1,5 +1,6 @@
 -- Lists of rows: what holds of every subresource of a grid, and grids that are made from another.
-use Rattle.model.specs.Prelude.{ℕ, suc, ◌-◌, ◌≤◌, arith, ◌≡◌, refl, ap, ◌∙◌, sym, List, [], ◌∷◌, map, ◌++◌, replicate, length, take, drop}
+use Rattle.std.specs.Prelude.{◌-◌, ◌≤◌, ◌≡◌, ◌∷◌, ◌++◌}
+use Rattle.model.specs.Prelude.{ℕ, suc, arith, refl, ap, ◌∙◌, sym, List, [], map, replicate, length, take, drop}
 use Rattle.model.specs.Prelude.{take-append-drop, length-take, length-drop}
 use Rattle.model.specs.{declared.Extent.Extent, Base.{zip₂, Stop, fine, walk₂, All}, Subresources.everywhere}
 use Rattle.model.specs.ListLaws.{all_map, all_replicate, map_replicate}

@@ -1,10 +1,11 @@
 -- Scopes with their histories: their states are the grid's, and each subresource's state less UNKNOWN is the union of the uses that it has
 -- taken.
-use Rattle.model.specs.Prelude.{ℕ, suc, ◌-◌, ◌+◌, ◌*◌, ◌/◌, ◌%◌, arith, ◌≡◌, refl, sym, ap, ap₂, ◌∙◌, Bool, true, false, false≢true}
-use Rattle.model.specs.Prelude.{Option, none, some, Option_map, List, [], ◌∷◌, ◌++◌, map, eqb, and_step, or_step, and_le_r, bit_and, bit_or}
+use Rattle.std.specs.Prelude.{◌-◌, ◌+◌, ◌*◌, ◌/◌, ◌%◌, ◌≡◌, ◌∷◌, ◌++◌, if◌then◌else◌}
+use Rattle.model.specs.Prelude.{ℕ, suc, arith, refl, sym, ap, ap₂, ◌∙◌, Bool, true, false, false≢true}
+use Rattle.model.specs.Prelude.{Option, none, some, Option_map, List, [], map, eqb, and_step, or_step, and_le_r, bit_and, bit_or}
 use Rattle.model.specs.Prelude.{and_comm, and_self, or_zero_r, get_or, eqb-true, not-false}
 use Rattle.model.specs.declared.{Extent.Extent, Selector.Selector, UsageFlags.UsageFlags}
-use Rattle.model.specs.{Base.{if◌then◌else◌, Stop, ruled, or_keep, onward, walk₂, All, AllO}, Flags.{incompatible, flags_fit}}
+use Rattle.model.specs.{Base.{Stop, ruled, or_keep, onward, walk₂, All, AllO}, Flags.{incompatible, flags_fit}}
 use Rattle.model.specs.{Representation.Ends, Sets.Head, Refusals.single_refusal, StateRules.less, ListLaws.all_join, BoolLaws.by_test₂}
 use Rattle.model.specs.CheckLaws.{single_passed}
 use Rattle.agreement.specs.Grid.{Grid, Named, SubresourceConflict, without, single_union, many_union, unite_state, unite_states, named_or}

@@ -1,7 +1,8 @@
 -- From one texture to any list of calls on any sets, for any two representations.
-use Rattle.model.specs.Prelude.{ℕ, ◌≤◌, arith, ◌≡◌, refl, ap, ◌∙◌, true, Option, none, some, Option_map, List, [], ◌∷◌, ◌++◌, map, eqb}
+use Rattle.std.specs.Prelude.{◌≤◌, ◌≡◌, ◌∷◌, ◌++◌, if◌then◌else◌}
+use Rattle.model.specs.Prelude.{ℕ, arith, refl, ap, ◌∙◌, true, Option, none, some, Option_map, List, [], map, eqb}
 use Rattle.model.specs.Prelude.{length, set, get_elem?}
-use Rattle.model.specs.{declared.{Extent.Extent, Refusal.Refusal, UsageFlags.UsageFlags}, Base.{if◌then◌else◌, each, All, AllO}}
+use Rattle.model.specs.{declared.{Extent.Extent, Refusal.Refusal, UsageFlags.UsageFlags}, Base.{each, All, AllO}}
 use Rattle.model.specs.{Representation.{Representation, Ends}, Sets.{Set, Tracker, Opening, open_set, open_tracker}, Refusals.opens}
 use Rattle.model.specs.Calls.{Answer, CallResult, Call, call_merge_single, call_merge_usage_scope, call_set_single, call_set_from_usage_scope}
 use Rattle.model.specs.Calls.{call_set_from_tracker, call_set_and_remove_sparse, Sets, step, newly, into, with_scopes, with_trackers, nothing, with₁}

@@ -1,5 +1,6 @@
 -- From one texture to the sets of any two representations: where the rules for a texture agree, the two merges do.
-use Rattle.model.specs.Prelude.{ℕ, suc, ◌≡◌, refl, ap, ◌∙◌, true, Option, none, some, Option_map, List, [], ◌∷◌, set}
+use Rattle.std.specs.Prelude.{◌≡◌, ◌∷◌}
+use Rattle.model.specs.Prelude.{ℕ, suc, refl, ap, ◌∙◌, true, Option, none, some, Option_map, List, [], set}
 use Rattle.model.specs.{declared.{Extent.Extent, Selector.Selector, UsageFlags.UsageFlags}, Base.{Stop, walk₂, All}, Flags.flags_fit}
 use Rattle.model.specs.{Representation.Representation, Sets.{Numbers, Slot, Set, Head, head_of, slot_at, with_slots}}
 use Rattle.model.specs.Refusals.{single_refusal, set_refusal}

@@ -1,6 +1,7 @@
 -- From one texture to the trackers of any two representations: the four tracker calls, with the transitions of each subresource.
-use Rattle.model.specs.Prelude.{ℕ, zero, suc, ◌≤◌, arith, ◌≡◌, refl, sym, ap, ◌∙◌, Bool, true, false, false≢true, true≢false, Option, none}
-use Rattle.model.specs.Prelude.{some, List, [], ◌∷◌, ◌++◌, append-nil, eqb, leb, length, get_or, set, List_get_D_map, get_or-set_other, eqb-true}
+use Rattle.std.specs.Prelude.{◌≤◌, ◌≡◌, ◌∷◌, ◌++◌}
+use Rattle.model.specs.Prelude.{ℕ, zero, suc, arith, refl, sym, ap, ◌∙◌, Bool, true, false, false≢true, true≢false, Option, none}
+use Rattle.model.specs.Prelude.{some, List, [], append-nil, eqb, leb, length, get_or, set, List_get_D_map, get_or-set_other, eqb-true}
 use Rattle.model.specs.Prelude.{not-false, ne_eqb, lt-leb, leb-false}
 use Rattle.model.specs.declared.{Extent.Extent, Refusal.Refusal, Selector.Selector, UsageFlags.UsageFlags}
 use Rattle.model.specs.{Base.{each, over₂, each_at₂, All}, Flags.flags_fit, Representation.{Representation, Ends}}

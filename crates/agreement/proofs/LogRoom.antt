@@ -1,12 +1,13 @@
 -- The entries that one call adds are no more than the subresources that it names, nor than those that its tracker owns, so a log with a
 -- free entry for each never refuses it.
-use Rattle.model.specs.Prelude.{ℕ, zero, suc, ◌+◌, ◌*◌, ◌≤◌, ◌<◌, le_trans, zero-add, mul-le-mul, mul_assoc, suc-mul, ℕ_discrete, arith}
-use Rattle.model.specs.Prelude.{◌≡◌, refl, ◌∙◌, sym, ap, Bool, true, false, ◌&&◌, and-eq-true_iff, false≢true, true≢false, Option, none}
-use Rattle.model.specs.Prelude.{some, List, [], ◌∷◌, ◌++◌, map, ltb, eqb, length, get_or, set, get_elem?, length-append, length-map, le-leb}
+use Rattle.std.specs.Prelude.{◌+◌, ◌*◌, ◌≤◌, ◌<◌, ◌≡◌, ◌&&◌, ◌∷◌, ◌++◌, if◌then◌else◌}
+use Rattle.model.specs.Prelude.{ℕ, zero, suc, le_trans, zero-add, mul-le-mul, mul_assoc, suc-mul, ℕ_discrete, arith}
+use Rattle.model.specs.Prelude.{refl, ◌∙◌, sym, ap, Bool, true, false, and-eq-true_iff, false≢true, true≢false, Option, none}
+use Rattle.model.specs.Prelude.{some, List, [], map, ltb, eqb, length, get_or, set, get_elem?, length-append, length-map, le-leb}
 use Rattle.model.specs.Prelude.{lt-ltb, ltb-true, eq-eqb, ne_eqb, le-ltb}
 use Rattle.model.specs.declared.Refusal.TheVariants.{NoFreeEntry}
 use Rattle.model.specs.declared.{Extent.Extent, InvalidUse.InvalidUse, Range.Range, Selector.Selector, UsageFlags.UsageFlags}
-use Rattle.model.specs.{Base.{if◌then◌else◌, each_at₂, zip₂, All}, Representation.{select, full, in_mips, holds, Ends}}
+use Rattle.model.specs.{Base.{each_at₂, zip₂, All}, Representation.{select, full, in_mips, holds, Ends}}
 use Rattle.model.specs.{StateRules.{Move, move_of}, RangedStates.{iter_filter, Tiles}}
 use Rattle.model.specs.Texture.{Held, single, many, Given, given_single, given_many, Piece, Entry, entry, mip_entries, barrier, ranged}
 use Rattle.model.specs.{Texture.{from_use, from_held}, ListLaws.{all_each, all_each_at, elem_of}, BoolLaws.{by_test, by_test₂}}

@@ -1,6 +1,7 @@
 -- An opening that is not refused has numbers and flags that fit.
-use Rattle.model.specs.Prelude.{◌≡◌, refl, Bool, true, false, not, false≢true, Option, some}
-use Rattle.model.specs.{declared.Refusal.Refusal, declared.Refusal.TheVariants.{NumbersOutOfLimits, FlagsBreakRule}, Base.if◌then◌else◌}
+use Rattle.std.specs.Prelude.{◌≡◌, if◌then◌else◌}
+use Rattle.model.specs.Prelude.{refl, Bool, true, false, not, false≢true, Option, some}
+use Rattle.model.specs.{declared.Refusal.Refusal, declared.Refusal.TheVariants.{NumbersOutOfLimits, FlagsBreakRule}}
 use Rattle.model.specs.{Flags.flags_fit, Sets.{Opening, numbers_fit}, Refusals.{first_failing, opening_refusal, accepted, opens}}
 
 first_two : (a b : Bool) (more : Option Refusal)

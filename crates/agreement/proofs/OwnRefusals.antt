@@ -1,6 +1,7 @@
 -- None of the six calls refuses with 1 to 5, 14 or 15: 1 to 3 are of an opening, 4, 5 and 15 of what a call is handed, and 14 is of the
 -- calls on ranges.
-use Rattle.model.specs.Prelude.{ℕ, suc, ◌≡◌, refl, subst, false, Option, none, some, List, [], ◌∷◌, ◌++◌, eqb, get_elem?, get_or}
+use Rattle.std.specs.Prelude.{◌≡◌, ◌∷◌, ◌++◌}
+use Rattle.model.specs.Prelude.{ℕ, suc, refl, subst, false, Option, none, some, List, [], eqb, get_elem?, get_or}
 use Rattle.model.specs.declared.{Extent.Extent, Refusal.Refusal, Selector.Selector, UsageFlags.UsageFlags}
 use Rattle.model.specs.{Base.{each, each_at, walk₂, All}, Representation.{Representation, Ends}, Sets.{Set, Tracker, Head, head_of, slot_at}}
 use Rattle.model.specs.Refusals.{Check, first_failing, number_of, texture_checks, selector_checks, state_checks, owned_checks, sparse_checks}

@@ -1,10 +1,11 @@
 -- `paint`: the layers a .. e of ranges that tile take one state; and what the start's ranges of a mip learn where the end's are UNKNOWN.
-use Rattle.model.specs.Prelude.{ℕ, ◌-◌, ◌+◌, ◌≤◌, ◌<◌, zero, suc, arith, ◌≡◌, refl, sym, ap, ◌∙◌, true, false, List, [], ◌∷◌, ◌++◌, map}
+use Rattle.std.specs.Prelude.{◌-◌, ◌+◌, ◌≤◌, ◌<◌, ◌≡◌, ◌∷◌, ◌++◌, if◌then◌else◌}
+use Rattle.model.specs.Prelude.{ℕ, zero, suc, arith, refl, sym, ap, ◌∙◌, true, false, List, [], map}
 use Rattle.model.specs.Prelude.{append_assoc, eqb, replicate, replicate-append-replicate, length, take, drop, length-replicate}
 use Rattle.model.specs.Prelude.{length-append, take-append-drop, length-take, length-drop, take_at, drop_at}
 use Rattle.model.specs.{declared.Range.Range, RangedStates.{coalesce, isolate, in_state, paint, layer_states, Tiles}}
 use Rattle.model.specs.RangeLaws.{isolate_cuts, coalesce_same, tiles_le, states_append, tiles_append, tiles_length}
-use Rattle.model.specs.{Base.{if◌then◌else◌, zip₂}, Texture.learn, BoolLaws.by_test, ListLaws.zip_append}
+use Rattle.model.specs.{Base.{zip₂}, Texture.learn, BoolLaws.by_test, ListLaws.zip_append}
 
 -- one list cut at one place in two ways
 pub split_left : (x y x' y' : List ℕ) → length x ≡ length x' → x ++ y ≡ x' ++ y' → x ≡ x'

@@ -1,11 +1,12 @@
 -- Passes over a texture's mips, one for each piece that is handed in, are one walk over its subresources: for any S that holds a mip, seen
 -- as a list by `view`, with Ok for what holds of it.
-use Rattle.model.specs.Prelude.{ℕ, zero, suc, ◌-◌, ◌+◌, ◌≤◌, ◌<◌, arith, ◌≡◌, refl, sym, ap, ◌∙◌, Bool, true, false, ◌&&◌, Option, none}
-use Rattle.model.specs.Prelude.{some, Option_map, List, [], ◌∷◌, ◌++◌, map, append_assoc, append-nil, map-append, leb, ltb, replicate}
+use Rattle.std.specs.Prelude.{◌-◌, ◌+◌, ◌≤◌, ◌<◌, ◌≡◌, ◌&&◌, ◌∷◌, ◌++◌, if◌then◌else◌}
+use Rattle.model.specs.Prelude.{ℕ, zero, suc, arith, refl, sym, ap, ◌∙◌, Bool, true, false, Option, none}
+use Rattle.model.specs.Prelude.{some, Option_map, List, [], map, append_assoc, append-nil, map-append, leb, ltb, replicate}
 use Rattle.model.specs.Prelude.{length, length-replicate, length-append, take, drop, take-append-drop, length-take, le-leb, lt-ltb, le-ltb}
 use Rattle.model.specs.Prelude.{leb-true}
 use Rattle.model.specs.declared.{Extent.Extent, Range.Range}
-use Rattle.model.specs.Base.{if◌then◌else◌, each_at, Stop, fine, and_then, passes, onward, walk, walk₂, All}
+use Rattle.model.specs.Base.{each_at, Stop, fine, and_then, passes, onward, walk, walk₂, All}
 use Rattle.model.specs.{Representation.{select, in_mips}, RangedStates.{layer_states, Tiles}, Texture.{Piece, pieces_of}}
 use Rattle.model.specs.{ListLaws.{all_left, all_right, all_join, all_both}, RangeLaws.tiles_le}
 use Rattle.agreement.specs.Grid.{band, tab, named_row}

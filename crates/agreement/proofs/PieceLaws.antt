@@ -1,5 +1,6 @@
 -- Passes over the mips of ranged states: the general laws (Passes) where a mip is seen by its states and its ranges tile all layers.
-use Rattle.model.specs.Prelude.{ℕ, ◌≤◌, ◌<◌, arith, ◌≡◌, refl, Option, some, List, [], ◌∷◌, map, length}
+use Rattle.std.specs.Prelude.{◌≤◌, ◌<◌, ◌≡◌, ◌∷◌}
+use Rattle.model.specs.Prelude.{ℕ, arith, refl, Option, some, List, [], map, length}
 use Rattle.model.specs.{declared.{Extent.Extent, InvalidUse.InvalidUse, Range.Range}, Base.{Stop, passes, walk, All}}
 use Rattle.model.specs.{RangedStates.{layer_states, Tiles}, Texture.{Piece, pieces_of}, RangeLaws.tiles_length}
 use Rattle.agreement.specs.{Grid.{SubresourceConflict, unite_state, unite_states, tab, named_row}, Shared.first_of}

@@ -1,5 +1,6 @@
 -- "A strip's ranges never outnumber the layers it covers", also between `isolate` and `coalesce`.
-use Rattle.model.specs.Prelude.{ℕ, zero, suc, ◌+◌, ◌-◌, ◌≤◌, ◌<◌, arith, ◌≡◌, refl, ◌∙◌, true, false, ◌&&◌, List, [], ◌∷◌, leb, ltb, length}
+use Rattle.std.specs.Prelude.{◌+◌, ◌-◌, ◌≤◌, ◌<◌, ◌≡◌, ◌&&◌, ◌∷◌}
+use Rattle.model.specs.Prelude.{ℕ, zero, suc, arith, refl, ◌∙◌, true, false, List, [], leb, ltb, length}
 use Rattle.model.specs.Prelude.{leb-true, ltb-true, lt-leb, le-leb, lt-ltb, le-ltb}
 use Rattle.model.specs.{declared.{Extent.Extent, Range.Range, UsageFlags.UsageFlags}, Representation.Ends, Sets.{Slot, Set, Tracker}}
 use Rattle.model.specs.{RangedStates.Tiles, RangeCalls.ascends, Texture.{Held, single, many}, WellFormed.{scope_fits, tracker_fits}}

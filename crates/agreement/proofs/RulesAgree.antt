@@ -1,7 +1,8 @@
 -- The grid's rules are the ranged model's. Below here the proofs go by the ranged model's rules, on both sides.
-use Rattle.model.specs.Prelude.{ℕ, arith, ◌≡◌, refl, ap, ◌∙◌, fun_ext, Bool, true, false, ◌&&◌, ◌||◌, not, Option, none, some, List, eqb}
+use Rattle.std.specs.Prelude.{◌≡◌, ◌&&◌, ◌||◌, if◌then◌else◌}
+use Rattle.model.specs.Prelude.{ℕ, arith, refl, ap, ◌∙◌, fun_ext, Bool, true, false, not, Option, none, some, List, eqb}
 use Rattle.model.specs.Prelude.{bit_and, bit_or, and_comm, and_le_l, xor_add_and, eqb-true}
-use Rattle.model.specs.{declared.{Extent.Extent, UsageFlags.UsageFlags}, Base.{if◌then◌else◌, Stop, or_keep, zip₂, zip₃}, Flags.incompatible}
+use Rattle.model.specs.{declared.{Extent.Extent, UsageFlags.UsageFlags}, Base.{Stop, or_keep, zip₂, zip₃}, Flags.incompatible}
 use Rattle.model.specs.{Representation.Ends, StateRules.{Move, invalid_state, skip_barrier, less, unite, unite_known, move_of, end_after}}
 use Rattle.agreement.specs.Grid.{Grid, Named, SubresourceConflict, unite_states, without, single_union, many_union, skipped, transition}
 use Rattle.agreement.specs.Grid.{end_state, start_state, named_transition, named_end, named_start, grid_merge, grid_barrier, grid_update}

@@ -1,6 +1,7 @@
 -- A set slot by slot: what the checks tell of an index, what holds of every slot, and the set seen through a view of what its slots hold.
-use Rattle.model.specs.Prelude.{ℕ, suc, ◌+◌, zero-add, add-suc, suc-add, add-zero, ◌≡◌, refl, sym, ap, ◌∙◌, true, false, false≢true, Option}
-use Rattle.model.specs.Prelude.{none, some, List, [], ◌∷◌, map, length, length-set, length-replicate, replicate, get_or, set, List_get_D_map}
+use Rattle.std.specs.Prelude.{◌+◌, ◌≡◌, ◌∷◌}
+use Rattle.model.specs.Prelude.{ℕ, suc, zero-add, add-suc, suc-add, add-zero, refl, sym, ap, ◌∙◌, true, false, false≢true, Option}
+use Rattle.model.specs.Prelude.{none, some, List, [], map, length, length-set, length-replicate, replicate, get_or, set, List_get_D_map}
 use Rattle.model.specs.Prelude.{not-false}
 use Rattle.model.specs.{declared.{Extent.Extent, Refusal.Refusal, Selector.Selector, UsageFlags.UsageFlags}, Base.{each_at, All}}
 use Rattle.model.specs.Representation.{Ends}

@@ -1,8 +1,9 @@
 -- One texture in a tracker: what holds of it, and that insert and update keep it and are the grid's.
-use Rattle.model.specs.Prelude.{ℕ, zero, suc, ◌-◌, arith, ◌≡◌, refl, sym, ap, ◌∙◌, true, false, Option, none, some, List, [], ◌∷◌, map}
+use Rattle.std.specs.Prelude.{◌-◌, ◌≡◌, ◌∷◌, if◌then◌else◌}
+use Rattle.model.specs.Prelude.{ℕ, zero, suc, arith, refl, sym, ap, ◌∙◌, true, false, Option, none, some, List, [], map}
 use Rattle.model.specs.Prelude.{append-nil, eqb, bit_and, and_self, replicate, length, length-replicate, length-map, ne_eqb, eqb-false}
 use Rattle.model.specs.declared.{Extent.Extent, InvalidUse.InvalidUse, Range.Range, UsageFlags.UsageFlags}
-use Rattle.model.specs.{Base.{if◌then◌else◌, zip₂, zip₃, Stop, fine, passes, walk, All}, Representation.{in_mips, Ends}, StateRules.end_after}
+use Rattle.model.specs.{Base.{zip₂, zip₃, Stop, fine, passes, walk, All}, Representation.{in_mips, Ends}, StateRules.end_after}
 use Rattle.model.specs.RangedStates.{range, coalesce, paint, layer_states, Tiles}
 use Rattle.model.specs.Texture.{Held, single, many, Given, given_single, given_many, Piece, fresh_mips, spread_end, learn_all, update_all, update}
 use Rattle.model.specs.{Texture.insert, Subresources.everywhere, ListLaws.{all_replicate, all_map}, BoolLaws.by_test}

@@ -1,8 +1,9 @@
 -- A Many texture in a tracker, its start and its end side by side: an update of both is the grid's.
-use Rattle.model.specs.Prelude.{ℕ, zero, suc, ◌-◌, ◌≤◌, ◌<◌, arith, ◌≡◌, refl, sym, ap, ◌∙◌, true, false, Bool, Option, none, some, List}
-use Rattle.model.specs.Prelude.{[], ◌∷◌, ◌++◌, map, map-append, eqb, replicate, length, length-replicate, length-map}
+use Rattle.std.specs.Prelude.{◌-◌, ◌≤◌, ◌<◌, ◌≡◌, ◌∷◌, ◌++◌, if◌then◌else◌}
+use Rattle.model.specs.Prelude.{ℕ, zero, suc, arith, refl, sym, ap, ◌∙◌, true, false, Bool, Option, none, some, List}
+use Rattle.model.specs.Prelude.{[], map, map-append, eqb, replicate, length, length-replicate, length-map}
 use Rattle.model.specs.declared.{Extent.Extent, InvalidUse.InvalidUse, Range.Range, UsageFlags.UsageFlags}
-use Rattle.model.specs.{Base.{if◌then◌else◌, zip₂, Stop, fine, walk₂, zip₃, passes, walk, All}, Representation.in_mips, StateRules.end_after}
+use Rattle.model.specs.{Base.{zip₂, Stop, fine, walk₂, zip₃, passes, walk, All}, Representation.in_mips, StateRules.end_after}
 use Rattle.model.specs.RangedStates.{coalesce, isolate, paint, layer_states, Tiles}
 use Rattle.model.specs.Texture.{Piece, learn, single, many, given_many, on_mips, learn_all, met_by, update_all, learn_held, Held}
 use Rattle.model.specs.{BoolLaws.{by_test, by_test₂}, ListLaws.{zip_append, all_map}, RangeLaws.{isolate_cuts, tiles_length}}

@@ -1,7 +1,8 @@
 -- The WebGPU rule after every list of calls: single merges conflict just where the uses of some named subresource do not fit, and the same
 -- in the specification's own usages.
-use Rattle.model.specs.Prelude.{ℕ, zero, suc, arith, ◌≡◌, refl, sym, ap, ◌∙◌, subst, ◌↔◌, true, ◌||◌, false≢true, Option, none, some}
-use Rattle.model.specs.Prelude.{Option_map, List, [], ◌∷◌, ◌++◌, map, bit_and, get_elem?, get_or}
+use Rattle.std.specs.Prelude.{◌≡◌, ◌↔◌, ◌||◌, ◌∷◌, ◌++◌}
+use Rattle.model.specs.Prelude.{ℕ, zero, suc, arith, refl, sym, ap, ◌∙◌, subst, true, false≢true, Option, none, some}
+use Rattle.model.specs.Prelude.{Option_map, List, [], map, bit_and, get_elem?, get_or}
 use Rattle.model.specs.{declared.{Extent.Extent, Selector.Selector, UsageFlags.UsageFlags}, Sets.{Set, Head, head_of, Opening, slot_at}}
 use Rattle.model.specs.Refusals.{tracker_index, single_refusal}
 use Rattle.model.specs.Calls.{Answer, done, refused, in_conflict, Call, call_merge_single, Sets, step, newly, merge_single, call_merge_usage_scope}

@@ -1,6 +1,7 @@
 -- Walks that stop: two of them in step, and one over two lists in parts.
-use Rattle.model.specs.Prelude.{ℕ, zero, suc, ◌+◌, ◌-◌, ◌≤◌, add-suc, suc-add, add-zero, arith, ◌≡◌, refl, Option, none, some, Option_map}
-use Rattle.model.specs.Prelude.{List, [], ◌∷◌, ◌++◌, map, length, replicate, length-replicate}
+use Rattle.std.specs.Prelude.{◌+◌, ◌-◌, ◌≤◌, ◌≡◌, ◌∷◌, ◌++◌}
+use Rattle.model.specs.Prelude.{ℕ, zero, suc, add-suc, suc-add, add-zero, arith, refl, Option, none, some, Option_map}
+use Rattle.model.specs.Prelude.{List, [], map, length, replicate, length-replicate}
 use Rattle.model.specs.{Base.{Stop, fine, onward, walk, walk₂, All}, ListLaws.all_weak}
 use Rattle.agreement.specs.Grid.{tab, band}
 

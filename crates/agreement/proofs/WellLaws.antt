@@ -1,5 +1,6 @@
 -- Every call keeps every set well formed.
-use Rattle.model.specs.Prelude.{ℕ, ◌-◌, arith, ◌≡◌, refl, sym, ap, ◌∙◌, subst, Option, none, List, [], ◌∷◌, map, eqb, bit_and, replicate}
+use Rattle.std.specs.Prelude.{◌-◌, ◌≡◌, ◌∷◌}
+use Rattle.model.specs.Prelude.{ℕ, arith, refl, sym, ap, ◌∙◌, subst, Option, none, List, [], map, eqb, bit_and, replicate}
 use Rattle.model.specs.Prelude.{eqb-true, eqb-false, not-false, ne_eqb}
 use Rattle.model.specs.{declared.{Extent.Extent, Range.Range, Selector.Selector, UsageFlags.UsageFlags}, Representation.Ends}
 use Rattle.model.specs.{Sets.{Set, Tracker, Head, Opening}, Refusals.single_refusal}

@@ -1,9 +1,10 @@
 -- The rules for one subresource keep its state well formed, and so do the grid's merge, insert and update.
-use Rattle.model.specs.Prelude.{ℕ, zero, suc, ◌-◌, ◌<◌, arith, ◌≡◌, refl, sym, ◌∙◌, Bool, true, false, ◌&&◌, not, and-eq-true_iff, Option}
-use Rattle.model.specs.Prelude.{none, some, List, [], ◌∷◌, map, ltb, eqb, bit_and, bit_or, or_lt, replicate, eqb-true, eqb-false, ltb-true}
+use Rattle.std.specs.Prelude.{◌-◌, ◌<◌, ◌≡◌, ◌&&◌, ◌∷◌, if◌then◌else◌}
+use Rattle.model.specs.Prelude.{ℕ, zero, suc, arith, refl, sym, ◌∙◌, Bool, true, false, not, and-eq-true_iff, Option}
+use Rattle.model.specs.Prelude.{none, some, List, [], map, ltb, eqb, bit_and, bit_or, or_lt, replicate, eqb-true, eqb-false, ltb-true}
 use Rattle.model.specs.Prelude.{not-true, not-false}
 use Rattle.model.specs.declared.{Extent.Extent, Selector.Selector, UsageFlags.UsageFlags}
-use Rattle.model.specs.Base.{if◌then◌else◌, Stop, ruled, or_keep, walk₂, zip₂, zip₃, All, AllO}
+use Rattle.model.specs.Base.{Stop, ruled, or_keep, walk₂, zip₂, zip₃, All, AllO}
 use Rattle.model.specs.{Flags.{incompatible, meets, one_bit, is_bit, apart, flags_fit}, Representation.in_mips, StateRules.less}
 use Rattle.model.specs.{ListLaws.{all_join, all_replicate, unlike_lists}, BoolLaws.by_test}
 use Rattle.agreement.specs.Grid.{Grid, Named, SubresourceConflict, without, single_union, many_union, end_state, start_state, unite_state}

@@ -1,6 +1,7 @@
 -- The test of a well-formed set (model, WellFormed) decides the records that the proofs go by (Fits): both directions, for scopes and for
 -- trackers.
-use Rattle.model.specs.Prelude.{ℕ, ◌≤◌, ◌<◌, arith, ◌≡◌, refl, sym, Bool, true, false, not, and-eq-true_iff, List, [], ◌∷◌, map, eqb}
+use Rattle.std.specs.Prelude.{◌≤◌, ◌<◌, ◌≡◌, ◌∷◌}
+use Rattle.model.specs.Prelude.{ℕ, arith, refl, sym, Bool, true, false, not, and-eq-true_iff, List, [], map, eqb}
 use Rattle.model.specs.Prelude.{bit_and, eqb-true, eqb-false, ltb-true, not-true, not-false, eq-eqb, ne_eqb, lt-ltb, le-ltb}
 use Rattle.model.specs.{declared.{Extent.Extent, Range.Range, UsageFlags.UsageFlags}, Flags.meets, Representation.Ends}
 use Rattle.model.specs.{Sets.{Numbers, Slot, Set, Tracker, outside}, Refusals.extent_outside, RangedStates.Tiles}

@@ -1,5 +1,6 @@
 -- Well-formed sets as records, field by field: what the proofs go by. Decides proves that the test of model (WellFormed) decides them.
-use Rattle.model.specs.Prelude.{ℕ, ◌≤◌, ◌<◌, ◌≡◌, Bool, true, false, List, map, eqb, bit_and, length}
+use Rattle.std.specs.Prelude.{◌≤◌, ◌<◌, ◌≡◌}
+use Rattle.model.specs.Prelude.{ℕ, Bool, true, false, List, map, eqb, bit_and, length}
 use Rattle.model.specs.{declared.{Extent.Extent, Range.Range, UsageFlags.UsageFlags}, Flags.{incompatible, flags_fit}, Representation.Ends}
 use Rattle.model.specs.{Sets.{Numbers, Slot, Set, Tracker, numbers_fit}, Calls.Sets, RangedStates.Tiles}
 use Rattle.model.specs.{Texture.{Held, single, many, ranged}, Base.All}

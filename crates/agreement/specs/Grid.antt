@@ -1,10 +1,11 @@
 -- The grid model: 01, "Sheet rules". Each comment quotes the words of 01 that a definition renders; 01's words for it are: sheet for the
 -- grid, cell for a subresource, mark for the flag `single`, whole and parted for Single and Many, clash for a conflict, shape for an
 -- extent.
-use Rattle.model.specs.Prelude.{ℕ, zero, suc, ◌-◌, Bool, true, false, ◌&&◌, not, Option, none, some, List, [], ◌∷◌, ◌++◌, map, eqb, bit_and}
+use Rattle.std.specs.Prelude.{◌-◌, ◌&&◌, ◌∷◌, ◌++◌, if◌then◌else◌}
+use Rattle.model.specs.Prelude.{ℕ, zero, suc, Bool, true, false, not, Option, none, some, List, [], map, eqb, bit_and}
 use Rattle.model.specs.Prelude.{bit_or, bit_xor, replicate}
 use Rattle.model.specs.declared.{Extent.Extent, Selector.Selector, UsageFlags.UsageFlags}
-use Rattle.model.specs.{Base.{if◌then◌else◌, Stop, fine, ruled, or_keep, walk₂, zip₂, zip₃}, Flags.incompatible}
+use Rattle.model.specs.{Base.{Stop, fine, ruled, or_keep, walk₂, zip₂, zip₃}, Flags.incompatible}
 use Rattle.model.specs.{Representation.{layer_start, layer_end, is_full, in_mips, Ends, Representation}, StateRules.Move}
 use Rattle.model.specs.Subresources.{everywhere}
 

@@ -1,6 +1,7 @@
 -- The layers of a list of ranges: how many they are, and those that it covers; and a texture whose ranges add up, mip by mip, to its
 -- layers.
-use Rattle.model.specs.Prelude.{ℕ, ◌+◌, ◌-◌, ◌≡◌, Bool, false, ◌&&◌, ◌||◌, List, [], ◌∷◌, leb, ltb}
+use Rattle.std.specs.Prelude.{◌+◌, ◌-◌, ◌≡◌, ◌&&◌, ◌||◌, ◌∷◌}
+use Rattle.model.specs.Prelude.{ℕ, Bool, false, List, [], leb, ltb}
 use Rattle.model.specs.{declared.{Extent.Extent, Range.Range}, Texture.{Held, single, many}, Base.All}
 use Rattle.agreement.specs.LogBound.{sum_from, one_if}
 

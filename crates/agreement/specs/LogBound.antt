@@ -1,7 +1,8 @@
 -- How many entries a call adds to the log, and how many subresources it names; demand 3: "Before each call the logs are emptied and given a
 -- free entry for every cell.".
-use Rattle.model.specs.Prelude.{ℕ, zero, suc, ◌+◌, ◌*◌, Bool, true, false, Option, none, some, List, [], ◌∷◌, eqb, length, get_elem?}
-use Rattle.model.specs.{declared.Extent.Extent, Base.if◌then◌else◌, Representation.holds, Sets.{Slot, Set, Tracker, capacity}}
+use Rattle.std.specs.Prelude.{◌+◌, ◌*◌, ◌∷◌, if◌then◌else◌}
+use Rattle.model.specs.Prelude.{ℕ, zero, suc, Bool, true, false, Option, none, some, List, [], eqb, length, get_elem?}
+use Rattle.model.specs.{declared.Extent.Extent, Representation.holds, Sets.{Slot, Set, Tracker, capacity}}
 use Rattle.model.specs.Calls.{Indexed, Sets, Call, call_merge_single, call_merge_usage_scope, call_set_single, call_set_from_usage_scope}
 use Rattle.model.specs.{Calls.{call_set_from_tracker, call_set_and_remove_sparse}, Texture.{Held, Entry, ranged}}
 

@@ -1,8 +1,9 @@
 -- What the ranged and the grid representation share: of one texture, after one call, and demand 3, after each call of a list on sets newly
 -- opened alike.
-use Rattle.model.specs.Prelude.{ℕ, ◌≤◌, ◌≡◌, Bool, true, false, ◌&&◌, Option, none, some, Option_map, List, [], ◌∷◌, map, eqb, get_or, length}
+use Rattle.std.specs.Prelude.{◌≤◌, ◌≡◌, ◌&&◌, ◌∷◌, if◌then◌else◌}
+use Rattle.model.specs.Prelude.{ℕ, Bool, true, false, Option, none, some, Option_map, List, [], map, eqb, get_or, length}
 use Rattle.model.specs.declared.{Extent.Extent, InvalidUse.InvalidUse, Selector.Selector, UsageFlags.UsageFlags}
-use Rattle.model.specs.{Base.{if◌then◌else◌, each}, Representation.{mip_start, layer_start, holds, Ends, Representation}}
+use Rattle.model.specs.{Base.{each}, Representation.{mip_start, layer_start, holds, Ends, Representation}}
 use Rattle.model.specs.{Sets.{Slot, Set, Tracker, Opening}, Refusals.{first_failing, accepted, selector_checks}}
 use Rattle.model.specs.{Calls.{Indexed, Answer, done, refused, in_conflict, CallResult, Call, Sets, step, newly}, StateRules.Move}
 use Rattle.model.specs.RangedStates.{layer_states}

@@ -1,10 +1,11 @@
 -- The rule of the WebGPU specification (W3C) for the uses of one subresource within a usage scope, and the uses that each subresource of a
 -- scope has taken and keeps. The specification's words below are of its text of 2025, section 3.4, "Resource Usages" and "Synchronization"
 -- (usage scopes), written down without the document at hand, and held against an implementation: tests/webgpu, docs/DIFFERENCES.md.
-use Rattle.model.specs.Prelude.{ℕ, ◌+◌, ◌≤◌, ◌<◌, ◌≡◌, Bool, true, false, ◌&&◌, ◌||◌, not, Option, none, some, Option_map, List, [], ◌∷◌}
-use Rattle.model.specs.Prelude.{◌++◌, map, eqb, bit_and, get_or}
+use Rattle.std.specs.Prelude.{◌+◌, ◌≤◌, ◌<◌, ◌≡◌, ◌&&◌, ◌||◌, ◌∷◌, ◌++◌, if◌then◌else◌}
+use Rattle.model.specs.Prelude.{ℕ, Bool, true, false, not, Option, none, some, Option_map, List, []}
+use Rattle.model.specs.Prelude.{map, eqb, bit_and, get_or}
 use Rattle.model.specs.declared.{Extent.Extent, Selector.Selector, UsageFlags.UsageFlags}
-use Rattle.model.specs.{Base.{if◌then◌else◌, every, Stop, fine, ruled, or_keep, walk₂}, Flags.{meets, one_bit}}
+use Rattle.model.specs.{Base.{every, Stop, fine, ruled, or_keep, walk₂}, Flags.{meets, one_bit}}
 use Rattle.model.specs.{Representation.{Ends, Representation}, Sets.{Set, slot_at}}
 use Rattle.model.specs.Calls.{Answer, done, refused, in_conflict, Call, call_merge_single, call_merge_usage_scope, call_set_single}
 use Rattle.model.specs.{Calls.{call_set_from_usage_scope, call_set_from_tracker, call_set_and_remove_sparse}, StateRules.Move}

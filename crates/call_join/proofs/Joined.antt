@@ -1,5 +1,6 @@
 -- `set_from` and the calls: from what the code found and changed to the contract.
-use Rattle.model.specs.Prelude.{ℕ, ◌/◌, ◌≤◌, ◌≡◌, refl, sym, ap, subst, ◌∙◌, Bool, true, Option, none, some, List, length, get_or}
+use Rattle.std.specs.Prelude.{◌/◌, ◌≤◌, ◌≡◌}
+use Rattle.model.specs.Prelude.{ℕ, refl, sym, ap, subst, ◌∙◌, Bool, true, Option, none, some, List, length, get_or}
 use Rattle.model.specs.{declared.{InvalidUse.InvalidUse, LogHead.LogHead, Refusal.Refusal, Answered.Answered}, Base.{each_at₂, over₂}}
 use Rattle.model.specs.{Representation.Ends, Log.pending, Sets.{Head, Tracker, capacity, Slot, with_tracker, head_of}, Refusals.set_refusal}
 use Rattle.model.specs.Calls.{CallResult, Indexed, done, unless, set_from, set_given, log_given, set_from_usage_scope, set_from_tracker}

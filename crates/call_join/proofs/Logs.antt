@@ -1,6 +1,7 @@
 -- `log_set`: what the loop asks for, and that the entries of every index are the model's.
-use Rattle.model.specs.Prelude.{ℕ, ◌≤◌, ◌<◌, arith, ◌≡◌, refl, Bool, true, false, List, get_or, []}
-use Rattle.model.specs.{Base.{if◌then◌else◌, each_at₂}, Calls.{log_given, log_slot}, Log.{pending, pending_of}, Texture.ranged}
+use Rattle.std.specs.Prelude.{◌≤◌, ◌<◌, ◌≡◌, if◌then◌else◌}
+use Rattle.model.specs.Prelude.{ℕ, arith, refl, Bool, true, false, List, get_or, []}
+use Rattle.model.specs.{Base.{each_at₂}, Calls.{log_given, log_slot}, Log.{pending, pending_of}, Texture.ranged}
 use Rattle.set_storage.specs.Storage.{flags_of, extent_of, owned_of, slot_with, tracker_of, mask_at, textures_at, tracker_slot}
 use Rattle.texture_barrier.specs.Adds.{entries_at}
 use Rattle.set_ready.specs.{Half.tracker_texture, Given.given_at}

@@ -1,5 +1,6 @@
 -- `set_slots`: turn by turn the next slot becomes the model's, and at the end the view is.
-use Rattle.model.specs.Prelude.{ℕ, ◌+◌, ◌≤◌, ◌<◌, arith, ◌≡◌, sym, ap, subst, ◌∙◌, List, get_or}
+use Rattle.std.specs.Prelude.{◌+◌, ◌≤◌, ◌<◌, ◌≡◌}
+use Rattle.model.specs.Prelude.{ℕ, arith, sym, ap, subst, ◌∙◌, List, get_or}
 use Rattle.model.specs.{declared.UsageFlags.UsageFlags, Representation.Ends, Sets.{Numbers, Slot, with_tracker}, Calls.set_given}
 use Rattle.model.specs.Texture.{Held, ranged}
 use Rattle.set_storage.specs.{Storage.{flags_of, ends_of, slot_with, tracker_of, textures_at, tracker_slot}, Stays.{OnlyOwned, OwnedBy}}

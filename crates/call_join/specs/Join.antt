@@ -1,5 +1,6 @@
 -- A whole given set and a tracker: what the test and the checks have shown, and the contracts of the loops over every index.
-use Rattle.model.specs.Prelude.{ℕ, ◌≤◌, ◌<◌, ◌≡◌, refl, sym, ◌∙◌, true, List, get_or}
+use Rattle.std.specs.Prelude.{◌≤◌, ◌<◌, ◌≡◌}
+use Rattle.model.specs.Prelude.{ℕ, refl, sym, ◌∙◌, true, List, get_or}
 use Rattle.model.specs.{declared.{InvalidUse.InvalidUse, UsageFlags.UsageFlags, PendingTransition.PendingTransition}, Base.over₂}
 use Rattle.model.specs.{Representation.Ends, Sets.{Slot, Set, Tracker, with_tracker}, Calls.{CallResult, set_given, set_from}}
 use Rattle.model.specs.Texture.{Held, Entry, ranged}

@@ -1,5 +1,6 @@
 -- Two lists side by side, made position by position: what the model's walks over them give.
-use Rattle.model.specs.Prelude.{ℕ, zero, suc, ◌+◌, ◌≤◌, ◌<◌, arith, ◌≡◌, refl, sym, ◌∙◌, List, ◌∷◌, []}
+use Rattle.std.specs.Prelude.{◌+◌, ◌≤◌, ◌<◌, ◌≡◌, ◌∷◌}
+use Rattle.model.specs.Prelude.{ℕ, zero, suc, arith, refl, sym, ◌∙◌, List, []}
 use Rattle.model.specs.{Base.{each, each_at₂, over₂}, ListLaws.each_append}
 use Rattle.set_storage.specs.Storage.{list_from}
 use Rattle.log_head.specs.UpTo.{up_to, up_from, up_split}

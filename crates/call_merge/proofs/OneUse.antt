@@ -1,5 +1,6 @@
 -- `merge_single`, and any merge that is turned away: from what the code found to the contract.
-use Rattle.model.specs.Prelude.{ℕ, ◌<◌, ◌≡◌, refl, sym, ap, subst, ◌∙◌, Bool, true, false, false≢true, Option, none, some, List, get_or, set}
+use Rattle.std.specs.Prelude.{◌<◌, ◌≡◌}
+use Rattle.model.specs.Prelude.{ℕ, refl, sym, ap, subst, ◌∙◌, Bool, true, false, false≢true, Option, none, some, List, get_or, set}
 use Rattle.model.specs.declared.Refusal.TheVariants.{NotWellFormed}
 use Rattle.model.specs.declared.{UsageFlags.UsageFlags, Extent.Extent, Selection.Selection, InvalidUse.InvalidUse, Refusal.Refusal}
 use Rattle.model.specs.{declared.Outcome.Outcome, Base.Stop, Sets.{Slot, Set, Head, slot_at, with_slots, empty_slot}}

@@ -1,5 +1,6 @@
 -- `merge_usage_scope`: from what the code found to the contract.
-use Rattle.model.specs.Prelude.{ℕ, ◌≡◌, ap, ◌∙◌, Bool, true, Option, none, some, List}
+use Rattle.std.specs.Prelude.{◌≡◌}
+use Rattle.model.specs.Prelude.{ℕ, ap, ◌∙◌, Bool, true, Option, none, some, List}
 use Rattle.model.specs.{declared.{UsageFlags.UsageFlags, Refusal.Refusal, Outcome.Outcome}, Sets.{Head, head_of}, Refusals.set_refusal}
 use Rattle.model.specs.{Calls.{unless, merge_usage_scope}, Texture.ranged}
 use Rattle.set_storage.specs.{Storage.{flags_of, scope_of}, Stays.{OwnedBy, keeps_more}}

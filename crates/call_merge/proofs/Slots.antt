@@ -1,5 +1,6 @@
 -- The walk of `merge_slots` over the textures of a given scope: the scope on the way, what a lap asks for, and what it leaves.
-use Rattle.model.specs.Prelude.{ℕ, ◌+◌, ◌≤◌, ◌<◌, arith, ◌≡◌, refl, sym, ap, subst, ◌∙◌, Bool, true, false, Option, none, some, List, get_or}
+use Rattle.std.specs.Prelude.{◌+◌, ◌≤◌, ◌<◌, ◌≡◌}
+use Rattle.model.specs.Prelude.{ℕ, arith, refl, sym, ap, subst, ◌∙◌, Bool, true, false, Option, none, some, List, get_or}
 use Rattle.model.specs.{declared.{UsageFlags.UsageFlags, InvalidUse.InvalidUse}, Base.{Stop, fine}, Refusals.tracker_index}
 use Rattle.model.specs.{Sets.{Numbers, Slot}, Calls.{Indexed, answer, merge_given}, Log.outcome_of, Texture.{Held, ranged}}
 use Rattle.set_storage.specs.Storage.{numbers_of, flags_of, extent_of, owned_of, start_half, held_of, slot_with, scope_of, list_from, textures_at}

@@ -1,5 +1,6 @@
 -- THE CONTRACTS of the calls that merge into a scope, of what is lent, and a primed name for what they leave.
-use Rattle.model.specs.Prelude.{ℕ, ◌&&◌}
+use Rattle.std.specs.Prelude.{◌&&◌}
+use Rattle.model.specs.Prelude.{ℕ}
 use Rattle.model.specs.declared.{Extent.Extent, Outcome.Outcome, Selection.Selection, TrackerIndex.TrackerIndex}
 use Rattle.model.specs.{Calls.{merge_single, merge_usage_scope}, Texture.ranged}
 use Rattle.set_storage.specs.{Lent.{LentScope, scope_in, scope_test}, Stays.{Only, OwnedBy}}

@@ -1,5 +1,6 @@
 -- Every texture of a given scope, merged into a scope: what is asked for, and the contract of the walk.
-use Rattle.model.specs.Prelude.{ℕ, ◌≡◌, List}
+use Rattle.std.specs.Prelude.{◌≡◌}
+use Rattle.model.specs.Prelude.{ℕ, List}
 use Rattle.model.specs.{declared.{UsageFlags.UsageFlags, InvalidUse.InvalidUse, Outcome.Outcome}, Base.{Stop, walk₂}}
 use Rattle.model.specs.{Sets.{Slot, with_slots}, Calls.{Indexed, answer, merge_given}, Log.outcome_of, Texture.{Held, ranged}}
 use Rattle.set_storage.specs.{Storage.{numbers_of, flags_of, scope_of}, Stays.ScopeFrame}

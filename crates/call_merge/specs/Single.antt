@@ -1,5 +1,6 @@
 -- What a selection names of a texture.
-use Rattle.model.specs.Prelude.{ℕ, ◌<◌, arith, ◌≡◌, refl, sym, ◌∙◌, Bool, true, none}
+use Rattle.std.specs.Prelude.{◌<◌, ◌≡◌}
+use Rattle.model.specs.Prelude.{ℕ, arith, refl, sym, ◌∙◌, Bool, true, none}
 use Rattle.model.specs.{declared.Selection.TheVariants.{Full, Part}, declared.{Extent.Extent, Selector.Selector, Selection.Selection}}
 use Rattle.model.specs.{Representation.{is_full, full}, Texture.from_use, CheckLaws.SelectorWithin}
 use Rattle.texture_merge.specs.Uses.{use_of}

@@ -1,5 +1,6 @@
 -- One texture of a scope: what is asked for, and the contract of a merge into it.
-use Rattle.model.specs.Prelude.{ℕ, ◌<◌, ◌≡◌, refl, ap, subst, Option_map, List, get_or, set, ne_eqb, eq-eqb}
+use Rattle.std.specs.Prelude.{◌<◌, ◌≡◌}
+use Rattle.model.specs.Prelude.{ℕ, refl, ap, subst, Option_map, List, get_or, set, ne_eqb, eq-eqb}
 use Rattle.model.specs.{declared.{UsageFlags.UsageFlags, Extent.Extent, InvalidUse.InvalidUse}, Base.{Stop, fine}}
 use Rattle.model.specs.{Sets.{Numbers, Slot, with_slots}, Calls.{Indexed, merge_slot}, Texture.{Held, Given, insert, merge, ranged}}
 use Rattle.set_storage.specs.Storage.{numbers_of, extent_of, start_half, held_of, slot_with, scope_of, owned_at, textures_at, scope_slot}

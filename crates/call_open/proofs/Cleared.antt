@@ -1,8 +1,9 @@
 -- The view of a table that was written by opening: no index is owned, and each state is UNINITIALIZED.
-use Rattle.model.specs.Prelude.{ℕ, zero, suc, ◌≤◌, ◌<◌, arith, ◌≡◌, refl, sym, ap, ◌∙◌, Bool, true, not, ◌&&◌, false≢true, Option, none}
-use Rattle.model.specs.Prelude.{List, [], ◌∷◌, eqb, ltb, length, get_or, set, replicate, drop, length-set, length-drop, length-replicate}
+use Rattle.std.specs.Prelude.{◌≤◌, ◌<◌, ◌≡◌, ◌&&◌, ◌∷◌, if◌then◌else◌}
+use Rattle.model.specs.Prelude.{ℕ, zero, suc, arith, refl, sym, ap, ◌∙◌, Bool, true, not, false≢true, Option, none}
+use Rattle.model.specs.Prelude.{List, [], eqb, ltb, length, get_or, set, replicate, drop, length-set, length-drop, length-replicate}
 use Rattle.model.specs.Prelude.{get_or-replicate, get_or-set_same, get_or-set_other, ext_get_or, sets-eq, eq-eqb}
-use Rattle.model.specs.{declared.{UsageFlags.UsageFlags, Refusal.Refusal, Outcome.Outcome}, Base.if◌then◌else◌}
+use Rattle.model.specs.{declared.{UsageFlags.UsageFlags, Refusal.Refusal, Outcome.Outcome}}
 use Rattle.model.specs.{Flags.{is_bit, meets, apart, flags_fit}, Sets.{Numbers, Opening, empty_slot, open_set, open_tracker}}
 use Rattle.model.specs.{Refusals.{first_failing, opening_refusal, accepted, opens}, Log.verdict, Texture.single}
 use Rattle.model.specs.BoolLaws.{and_left, and_right, by_eq, by_lt}

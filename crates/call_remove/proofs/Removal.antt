@@ -1,6 +1,7 @@
 -- The sparse call: from what the code found and changed to the contract.
-use Rattle.model.specs.Prelude.{ℕ, ◌*◌, ◌/◌, ◌≤◌, ◌<◌, mul-le-mul, arith, ◌≡◌, refl, sym, ap, subst, ◌∙◌, Bool, true, and-eq-true_iff, []}
-use Rattle.model.specs.Prelude.{Option, none, some, List, ◌∷◌, length}
+use Rattle.std.specs.Prelude.{◌*◌, ◌/◌, ◌≤◌, ◌<◌, ◌≡◌, ◌∷◌}
+use Rattle.model.specs.Prelude.{ℕ, mul-le-mul, arith, refl, sym, ap, subst, ◌∙◌, Bool, true, and-eq-true_iff, []}
+use Rattle.model.specs.Prelude.{Option, none, some, List, length}
 use Rattle.model.specs.declared.Refusal.TheVariants.{NoFreeEntry}
 use Rattle.model.specs.declared.{InvalidUse.InvalidUse, LogHead.LogHead, Refusal.Refusal, Answered.Answered}
 use Rattle.model.specs.{Sets.{capacity, Head, Set, Tracker, head_of}, Refusals.sparse_refusal}

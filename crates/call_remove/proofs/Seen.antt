@@ -1,7 +1,8 @@
 -- `log_listed`: which indices were listed before, and the entries of one by that.
-use Rattle.model.specs.Prelude.{ℕ, ◌+◌, ◌<◌, add-one, ℕ_discrete, arith, ◌≡◌, refl, sym, ◌∙◌, true, not, List, eqb, length, get_or, set, take}
+use Rattle.std.specs.Prelude.{◌+◌, ◌<◌, ◌≡◌, if◌then◌else◌}
+use Rattle.model.specs.Prelude.{ℕ, add-one, ℕ_discrete, arith, refl, sym, ◌∙◌, true, not, List, eqb, length, get_or, set, take}
 use Rattle.model.specs.Prelude.{replicate, length-set, get_or-replicate, take-suc, get_or-set_same, get_or-set_other, eq-eqb, ne_eqb}
-use Rattle.model.specs.{declared.UsageFlags.UsageFlags, Base.if◌then◌else◌}
+use Rattle.model.specs.{declared.UsageFlags.UsageFlags}
 use Rattle.texture_barrier.specs.Adds.{entries_at}
 use Rattle.agreement.specs.LogBound.{listed}
 use Rattle.call_remove.specs.{Logs.{once_entries, listed_entries}, Once.listed_last}

@@ -1,6 +1,7 @@
 -- A scope that owns less than it did: of its table some words of ownership became 0, so all else reads as it did.
-use Rattle.model.specs.Prelude.{ℕ, zero, suc, ◌<◌, ℕ_discrete, arith, ◌≡◌, refl, sym, ap, subst, ◌∙◌, true, false, false≢true, List, []}
-use Rattle.model.specs.Prelude.{◌∷◌, length, get_or, set, take, length-set, get_or-set_same, get_or-set_other, eq-eqb}
+use Rattle.std.specs.Prelude.{◌<◌, ◌≡◌, ◌∷◌}
+use Rattle.model.specs.Prelude.{ℕ, zero, suc, ℕ_discrete, arith, refl, sym, ap, subst, ◌∙◌, true, false, false≢true, List, []}
+use Rattle.model.specs.Prelude.{length, get_or, set, take, length-set, get_or-set_same, get_or-set_other, eq-eqb}
 use Rattle.model.specs.Sets.{Numbers, with_slots}
 use Rattle.set_storage.specs.Storage.{numbers_of, extent_of, owned_of, held_of, slot_with, set_with, scope_of, start_half, table_indices}
 use Rattle.set_storage.specs.Storage.{table_length, textures_at, complex_at, owned_at, mips_at, layers_at, state_at, count_at}

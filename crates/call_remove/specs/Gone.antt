@@ -1,5 +1,6 @@
 -- What the sparse call names, and the scope's table once it no longer owns it.
-use Rattle.model.specs.Prelude.{ℕ, zero, suc, ◌<◌, ◌≡◌, refl, ap, true, List, ◌∷◌, ◌++◌, length, get_or, set, []}
+use Rattle.std.specs.Prelude.{◌<◌, ◌≡◌, ◌∷◌, ◌++◌}
+use Rattle.model.specs.Prelude.{ℕ, zero, suc, refl, ap, true, List, length, get_or, set, []}
 use Rattle.set_storage.specs.Storage.{owned_at, owned_of}
 
 -- index j stands in the list, and the scope with the table g owns it

@@ -1,6 +1,7 @@
 -- The transitions of the listed textures that a scope owns: what is asked for, and that they are the model's.
-use Rattle.model.specs.Prelude.{ℕ, ◌<◌, arith, ◌≡◌, refl, ap, ◌∙◌, Bool, true, false, List, length, get_or, take, []}
-use Rattle.model.specs.{declared.{UsageFlags.UsageFlags, PendingTransition.PendingTransition}, Base.if◌then◌else◌, Representation.Ends}
+use Rattle.std.specs.Prelude.{◌<◌, ◌≡◌, if◌then◌else◌}
+use Rattle.model.specs.Prelude.{ℕ, arith, refl, ap, ◌∙◌, Bool, true, false, List, length, get_or, take, []}
+use Rattle.model.specs.{declared.{UsageFlags.UsageFlags, PendingTransition.PendingTransition}, Representation.Ends}
 use Rattle.model.specs.{Sets.{Slot, empty_slot}, Calls.{no_ends, log_slot, sparse_all}, Log.{pending, pending_of}, Texture.{Held, Entry, ranged}}
 use Rattle.set_storage.specs.Storage.{flags_of, extent_of, owned_of, start_half, scope_of, tracker_of, mask_at, textures_at, tracker_slot, scope_slot}
 use Rattle.set_storage.specs.Lists.{list_at}

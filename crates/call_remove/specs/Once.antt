@@ -1,8 +1,9 @@
 -- Lists of indices, each of which counts once: whether one was listed before, and what a list makes.
-use Rattle.model.specs.Prelude.{ℕ, zero, suc, ◌≤◌, ◌<◌, arith, ◌≡◌, refl, sym, ap, ◌∙◌, ◌⊎◌, inl, inr, Bool, true, false, false≢true, List}
-use Rattle.model.specs.Prelude.{[], ◌∷◌, ◌++◌, append_assoc, append-nil, eqb, length, get_or, take, drop, take-suc, drop-cons, drop-length}
+use Rattle.std.specs.Prelude.{◌≤◌, ◌<◌, ◌≡◌, ◌⊎◌, ◌∷◌, ◌++◌, if◌then◌else◌}
+use Rattle.model.specs.Prelude.{ℕ, zero, suc, arith, refl, sym, ap, ◌∙◌, inl, inr, Bool, true, false, false≢true, List}
+use Rattle.model.specs.Prelude.{[], append_assoc, append-nil, eqb, length, get_or, take, drop, take-suc, drop-cons, drop-length}
 use Rattle.model.specs.Prelude.{eqb-true, eqb-false}
-use Rattle.model.specs.{Base.{if◌then◌else◌, each}, ListLaws.each_append}
+use Rattle.model.specs.{Base.{each}, ListLaws.each_append}
 use Rattle.agreement.specs.LogBound.{listed}
 use Rattle.log_head.specs.UpTo.{up_to}
 

@@ -1,5 +1,6 @@
 -- THE CONTRACT of the sparse call: the answer, and the content of what was lent; and what it is check by check.
-use Rattle.model.specs.Prelude.{ℕ, ◌/◌, ◌≤◌, ◌≡◌, refl, sym, ap, ◌∙◌, Bool, true, false, ◌&&◌, false≢true, List, length}
+use Rattle.std.specs.Prelude.{◌/◌, ◌≤◌, ◌≡◌, ◌&&◌}
+use Rattle.model.specs.Prelude.{ℕ, refl, sym, ap, ◌∙◌, Bool, true, false, false≢true, List, length}
 use Rattle.model.specs.declared.Refusal.TheVariants.{NotWellFormed, LogTooShort}
 use Rattle.model.specs.declared.{Answered.Answered, InvalidUse.InvalidUse, LogHead.LogHead, PendingTransition.PendingTransition}
 use Rattle.model.specs.{declared.Refusal.Refusal, Sets.{Set, Tracker}, Calls.{CallResult, done, set_and_remove_sparse}}

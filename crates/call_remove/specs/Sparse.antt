@@ -1,7 +1,8 @@
 -- The model's sparse call: what one listed index leaves of the sets, and its log from the sets at entry.
-use Rattle.model.specs.Prelude.{ℕ, zero, suc, ℕ_discrete, ◌≡◌, refl, ap, ◌∙◌, ◌⊎◌, inl, inr, Bool, true, false, false≢true, List, ◌∷◌, []}
-use Rattle.model.specs.Prelude.{◌++◌, get_or, set, get_or-set_other}
-use Rattle.model.specs.{declared.InvalidUse.InvalidUse, Base.if◌then◌else◌, Representation.Ends, Sets.{Slot, empty_slot, slot_at}}
+use Rattle.std.specs.Prelude.{◌≡◌, ◌⊎◌, ◌∷◌, ◌++◌, if◌then◌else◌}
+use Rattle.model.specs.Prelude.{ℕ, zero, suc, ℕ_discrete, refl, ap, ◌∙◌, inl, inr, Bool, true, false, false≢true, List, []}
+use Rattle.model.specs.Prelude.{get_or, set, get_or-set_other}
+use Rattle.model.specs.{declared.InvalidUse.InvalidUse, Representation.Ends, Sets.{Slot, empty_slot, slot_at}}
 use Rattle.model.specs.{Calls.{Indexed, CallResult, log_slot, no_ends, sparse_one, sparse_all}, Texture.{Held, Entry, from_held, ranged}}
 use Rattle.model.specs.BoolLaws.{by_test, by_test₂}
 use Rattle.agreement.specs.LogBound.{listed}

@@ -1,5 +1,6 @@
 -- A listed texture that a scope owns goes into a tracker, and the scope no longer owns it: one, and all of a list.
-use Rattle.model.specs.Prelude.{ℕ, ◌+◌, ◌≤◌, ◌<◌, add-one, arith, ◌≡◌, refl, sym, ap, subst, ◌∙◌, true, false, false≢true, List, [], ◌∷◌}
+use Rattle.std.specs.Prelude.{◌+◌, ◌≤◌, ◌<◌, ◌≡◌, ◌∷◌}
+use Rattle.model.specs.Prelude.{ℕ, add-one, arith, refl, sym, ap, subst, ◌∙◌, true, false, false≢true, List, []}
 use Rattle.model.specs.Prelude.{length, get_or, set, take, drop, take-suc, take_all, drop-cons, drop-length, eq-eqb, ne_eqb, eqb-true}
 use Rattle.model.specs.Prelude.{not-false}
 use Rattle.model.specs.{declared.{UsageFlags.UsageFlags, InvalidUse.InvalidUse}, Sets.Slot}

@@ -1,5 +1,6 @@
 -- `set_checked` and `set_single_lem`: from what the code found, wrote and changed to the contract.
-use Rattle.model.specs.Prelude.{ℕ, ◌/◌, ◌≤◌, ◌<◌, ◌≡◌, refl, sym, ap, subst, ◌∙◌, Bool, true, Option, none, some, List, length, get_or, set}
+use Rattle.std.specs.Prelude.{◌/◌, ◌≤◌, ◌<◌, ◌≡◌}
+use Rattle.model.specs.Prelude.{ℕ, refl, sym, ap, subst, ◌∙◌, Bool, true, Option, none, some, List, length, get_or, set}
 use Rattle.model.specs.declared.Selection.TheVariants.{Part}
 use Rattle.model.specs.declared.{Extent.Extent, InvalidUse.InvalidUse, LogHead.LogHead, Selector.Selector, UsageFlags.UsageFlags}
 use Rattle.model.specs.{declared.{Refusal.Refusal, Answered.Answered}, Representation.{Ends, is_full}}

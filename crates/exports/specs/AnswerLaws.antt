@@ -1,5 +1,6 @@
 -- Nothing is lost in the numbers: each outcome is told by numbers that tell it alone, and none by 10.
-use Rattle.model.specs.Prelude.{arith, ◌≡◌, refl, ap}
+use Rattle.std.specs.Prelude.{◌≡◌}
+use Rattle.model.specs.Prelude.{arith, refl, ap}
 use Rattle.model.specs.declared.Outcome.TheVariants.{Done, Refused, Conflict}
 use Rattle.model.specs.{declared.{Outcome.Outcome, Refusal.Refusal, Answered.Answered}, CheckLaws.{refusal_told, never_ten}}
 use Rattle.exports.specs.SetAnswers.{answer_of, outcome_of, logged_of, answered_of}

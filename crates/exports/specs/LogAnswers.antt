@@ -1,5 +1,6 @@
 -- The answer of a merge of two logs in plain numbers: which numbers tell it, and which answer the numbers tell; nothing is lost in them.
-use Rattle.model.specs.Prelude.{ℕ, ◌-◌, ◌≤◌, ◌≡◌, refl, sym, ap, subst, ◌∙◌, Bool, true, false, List, eqb, length}
+use Rattle.std.specs.Prelude.{◌-◌, ◌≤◌, ◌≡◌}
+use Rattle.model.specs.Prelude.{ℕ, refl, sym, ap, subst, ◌∙◌, Bool, true, false, List, eqb, length}
 use Rattle.model.specs.declared.LogHead.{LogHead}
 use Rattle.log_head.specs.Log.{log_of}
 use Rattle.log_merge.specs.{declared.MergedAt.MergedAt, Calls.{which_of, MergesLogs}, Rest.rest_within}

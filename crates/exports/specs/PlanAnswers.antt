@@ -1,6 +1,7 @@
 -- The answer of a call on plan files in plain numbers: which numbers tell it, and which answer the numbers tell; nothing is lost in them.
-use Rattle.model.specs.Prelude.{◌≡◌, refl, ap, eqb}
-use Rattle.model.specs.{declared.{Refusal.Refusal, Outcome.Outcome}, Base.if◌then◌else◌, Refusals.refusal_from, CheckLaws.refusal_told}
+use Rattle.std.specs.Prelude.{◌≡◌, if◌then◌else◌}
+use Rattle.model.specs.Prelude.{refl, ap, eqb}
+use Rattle.model.specs.{declared.{Refusal.Refusal, Outcome.Outcome}, Refusals.refusal_from, CheckLaws.refusal_told}
 use Rattle.plan_file.specs.{declared.PlanAnswer.PlanAnswer, declared.PlanAnswer.TheVariants.{Done, Refused}}
 use Rattle.exports.specs.{declared.CountedAnswer.CountedAnswer, SetAnswers.answer_of}
 

@@ -1,5 +1,6 @@
 -- Nothing is lost in the numbers of the calls on ranges either.
-use Rattle.model.specs.Prelude.{◌≡◌, refl, ap}
+use Rattle.std.specs.Prelude.{◌≡◌}
+use Rattle.model.specs.Prelude.{refl, ap}
 use Rattle.model.specs.{declared.Refusal.Refusal, CheckLaws.refusal_told}
 use Rattle.range_calls.specs.declared.{IsolateAnswer.IsolateAnswer, CoalesceAnswer.CoalesceAnswer, FilterAnswer.FilterAnswer}
 use Rattle.exports.specs.RangesAnswers.{isolate_as, coalesce_as, filter_as, isolate_in, coalesce_in, filter_in}

@@ -1,6 +1,7 @@
 -- An answer of the calls on ranges in plain numbers: which numbers tell each answer, and which answer the numbers tell.
 use Rattle.model.specs.Prelude.{ℕ, eqb}
-use Rattle.model.specs.{declared.Outcome.Outcome, declared.Outcome.TheVariants.{Done, Refused}, Base.if◌then◌else◌, Refusals.refusal_from}
+use Rattle.std.specs.Prelude.{if◌then◌else◌}
+use Rattle.model.specs.{declared.Outcome.Outcome, declared.Outcome.TheVariants.{Done, Refused}, Refusals.refusal_from}
 use Rattle.range_calls.specs.declared.{IsolateAnswer.IsolateAnswer, CoalesceAnswer.CoalesceAnswer, FilterAnswer.FilterAnswer}
 use Rattle.exports.specs.{declared.RangesAnswer.RangesAnswer, SetAnswers.answer_of}
 use Rattle.range_calls.specs.declared.IsolateAnswer.TheVariants as isolate

@@ -3,7 +3,8 @@ use Rattle.model.specs.Prelude.{ℕ, eqb}
 use Rattle.model.specs.{declared.Conflict.Conflict as Conflicting, declared.Outcome.TheVariants.{Done, Refused, Conflict}}
 use Rattle.model.specs.declared.Selection.TheVariants.{Full, Part}
 use Rattle.model.specs.declared.{LogHead.LogHead, Outcome.Outcome, Selection.Selection, Selector.Selector, UsageFlags.UsageFlags}
-use Rattle.model.specs.{declared.Answered.Answered, Base.if◌then◌else◌, Refusals.{number_of, place_of, tracker_index, refusal_from}}
+use Rattle.std.specs.Prelude.{if◌then◌else◌}
+use Rattle.model.specs.{declared.Answered.Answered, Refusals.{number_of, place_of, tracker_index, refusal_from}}
 use Rattle.model.specs.Representation.{select, mip_start, mip_end, layer_start, layer_end}
 use Rattle.exports.specs.declared.{Answer.Answer, LoggedAnswer.LoggedAnswer}
 

@@ -1,6 +1,6 @@
 // A set: opening it, and the test that every call makes of it first (4 of 01's table), by itself: 1 if it is well formed, otherwise 0.
 ghost use Rattle.std.specs.Prelude.{◌≡◌};
-ghost use Rattle.model.specs.Base.{if◌then◌else◌};
+ghost use Rattle.std.specs.Prelude.{if◌then◌else◌};
 ghost use Rattle.call_open.specs.Open.{OpenedScope, OpenedTracker};
 ghost use Rattle.set_storage.specs.Lent.{LentTracker, scope_test, tracker_test};
 ghost use Rattle.exports.specs.SetAnswers.{answer_of, outcome_of, flags_of};

@@ -1,5 +1,6 @@
 -- The head of a log against what was lent, as `head_fits` compares them.
-use Rattle.model.specs.Prelude.{ℕ, ◌+◌, ◌-◌, ◌≤◌, ◌<◌, arith, ◌≡◌, true, false, lt-ltb, le-ltb}
+use Rattle.std.specs.Prelude.{◌+◌, ◌-◌, ◌≤◌, ◌<◌, ◌≡◌}
+use Rattle.model.specs.Prelude.{ℕ, arith, true, false, lt-ltb, le-ltb}
 use Rattle.model.specs.declared.{LogHead.LogHead}
 use Rattle.log_head.specs.Log.{head_within}
 

@@ -1,6 +1,7 @@
 -- The log that a call is lent, what the call answers, and what the model's `logging` gives check by check: refused by the test, by the
 -- log's head, by its own checks or for want of entries; or done.
-use Rattle.model.specs.Prelude.{ℕ, ◌+◌, ◌-◌, ◌/◌, ◌≤◌, ◌<◌, ◌≡◌, refl, sym, ap, ◌∙◌, Bool, true, false, not, List, ltb, length, lt-ltb}
+use Rattle.std.specs.Prelude.{◌+◌, ◌-◌, ◌/◌, ◌≤◌, ◌<◌, ◌≡◌}
+use Rattle.model.specs.Prelude.{ℕ, refl, sym, ap, ◌∙◌, Bool, true, false, not, List, ltb, length, lt-ltb}
 use Rattle.model.specs.Prelude.{le-ltb, ltb-false, not-true, not-false}
 use Rattle.model.specs.declared.Refusal.TheVariants.{NotWellFormed, LogTooShort, NoFreeEntry}
 use Rattle.model.specs.declared.Outcome.TheVariants.{Done, Refused}

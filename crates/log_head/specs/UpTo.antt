@@ -1,5 +1,6 @@
 -- What a loop over the textures of a call adds to the log: the entries of one index, or of one position of a list, after those before it.
-use Rattle.model.specs.Prelude.{ℕ, zero, suc, ◌+◌, ◌-◌, ◌<◌, add-one, arith, ◌≡◌, sym, ◌∙◌, List, [], ◌++◌, append_assoc, append-nil}
+use Rattle.std.specs.Prelude.{◌+◌, ◌-◌, ◌<◌, ◌≡◌, ◌++◌}
+use Rattle.model.specs.Prelude.{ℕ, zero, suc, add-one, arith, sym, ◌∙◌, List, [], append_assoc, append-nil}
 use Rattle.model.specs.declared.{PendingTransition.PendingTransition}
 use Rattle.texture_barrier.specs.Adds.{NextLeft, NoneLeft}
 

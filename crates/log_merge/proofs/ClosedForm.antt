@@ -1,7 +1,8 @@
 -- The closed form of a merge of two logs that ascend: how many entries of each are merged, and so what is left of each.
-use Rattle.model.specs.Prelude.{ℕ, suc, ◌+◌, ◌≤◌, ◌<◌, arith, ◌≡◌, refl, ap, ◌∙◌, Bool, true, false, List, [], ◌∷◌, ltb, length, drop}
+use Rattle.std.specs.Prelude.{◌+◌, ◌≤◌, ◌<◌, ◌≡◌, ◌∷◌, if◌then◌else◌}
+use Rattle.model.specs.Prelude.{ℕ, suc, arith, refl, ap, ◌∙◌, Bool, true, false, List, [], ltb, length, drop}
 use Rattle.model.specs.Prelude.{length-drop, lt-ltb, le-ltb}
-use Rattle.model.specs.{declared.PendingTransition.PendingTransition, Base.if◌then◌else◌}
+use Rattle.model.specs.{declared.PendingTransition.PendingTransition}
 use Rattle.log_merge.specs.Merge.{index_of, Merge, put, merge, rises_from, ascending, below, last_of, first_count, second_count}
 use Rattle.log_merge.specs.MergeLaws.{merge_ind, rises_tail, rises_own, last_from, below_none, below_more, below_few}
 

@@ -1,5 +1,6 @@
 -- The call, way by way: turned away, or done; and what is handed over of the rest.
-use Rattle.model.specs.Prelude.{ℕ, ◌+◌, ◌/◌, ◌≤◌, ◌<◌, arith, ◌≡◌, refl, sym, ap, subst, ◌∙◌, Bool, true, false, ◌&&◌, false≢true, min}
+use Rattle.std.specs.Prelude.{◌+◌, ◌/◌, ◌≤◌, ◌<◌, ◌≡◌, ◌&&◌}
+use Rattle.model.specs.Prelude.{ℕ, arith, refl, sym, ap, subst, ◌∙◌, Bool, true, false, false≢true, min}
 use Rattle.model.specs.Prelude.{none, some, List, ltb, length, lt-ltb, le-ltb, not-true, not-false}
 use Rattle.model.specs.declared.Refusal.TheVariants.{LogTooShort, LogOutOfOrder, NoFreeEntry}
 use Rattle.model.specs.declared.Outcome.TheVariants.{Done, Refused, Conflict}

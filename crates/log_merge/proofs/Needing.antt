@@ -1,7 +1,8 @@
 -- How many entries a merge writes, before it writes: `need_of`, way by way.
-use Rattle.model.specs.Prelude.{ℕ, ◌+◌, ◌-◌, ◌/◌, ◌%◌, ◌≤◌, ◌<◌, arith, ◌≡◌, refl, sym, ap, ◌∙◌, Bool, true, false, ◌&&◌, and-false}
-use Rattle.model.specs.Prelude.{and-true, false≢true, List, [], ◌∷◌, ltb, length, get_or, lt-ltb, le-ltb, eq-eqb, ne_eqb}
-use Rattle.model.specs.{declared.PendingTransition.PendingTransition, Base.if◌then◌else◌}
+use Rattle.std.specs.Prelude.{◌+◌, ◌-◌, ◌/◌, ◌%◌, ◌≤◌, ◌<◌, ◌≡◌, ◌&&◌, ◌∷◌, if◌then◌else◌}
+use Rattle.model.specs.Prelude.{ℕ, arith, refl, sym, ap, ◌∙◌, Bool, true, false, and-false}
+use Rattle.model.specs.Prelude.{and-true, false≢true, List, [], ltb, length, get_or, lt-ltb, le-ltb, eq-eqb, ne_eqb}
+use Rattle.model.specs.{declared.PendingTransition.PendingTransition}
 use Rattle.texture_barrier.specs.Entries.{entries_of, entries_long, blank_entry}
 use Rattle.log_merge.specs.declared.order.Scanned.{Scanned}
 use Rattle.log_merge.specs.Merge.{index_of, Merge, merge_of, rises_from, ascending, below, last_of, first_count, second_count}

@@ -1,10 +1,11 @@
 -- WHAT HOLDS of the rest that a merge tells: where the call is done both logs are in order, and the rest, read as entries, is what the
 -- definition leaves.
-use Rattle.model.specs.Prelude.{ℕ, suc, ◌-◌, ◌*◌, ◌≤◌, arith, ◌≡◌, refl, sym, ap, ◌∙◌, Bool, true, false, true≢false, false≢true, not}
-use Rattle.model.specs.Prelude.{◌&&◌, Option, none, some, List, [], ◌∷◌, ◌++◌, append-nil, ◌⊎◌, inl, inr, length, drop}
+use Rattle.std.specs.Prelude.{◌-◌, ◌*◌, ◌≤◌, ◌≡◌, ◌&&◌, ◌∷◌, ◌++◌, ◌⊎◌, if◌then◌else◌}
+use Rattle.model.specs.Prelude.{ℕ, suc, arith, refl, sym, ap, ◌∙◌, Bool, true, false, true≢false, false≢true, not}
+use Rattle.model.specs.Prelude.{Option, none, some, List, [], append-nil, inl, inr, length, drop}
 use Rattle.model.specs.Prelude.{length-drop}
 use Rattle.model.specs.declared.Refusal.TheVariants.{LogOutOfOrder}
-use Rattle.model.specs.{declared.{InvalidUse.InvalidUse, PendingTransition.PendingTransition, Refusal.Refusal}, Base.if◌then◌else◌}
+use Rattle.model.specs.{declared.{InvalidUse.InvalidUse, PendingTransition.PendingTransition, Refusal.Refusal}}
 use Rattle.model.specs.{BoolLaws.and_both, Refusals.{Check, check, first_failing, accepted}, Calls.{Answer, done}}
 use Rattle.model.specs.Log.{Log, Logged, head_check, free_check, unless_logged, is_refused, outcome_of}
 use Rattle.texture_barrier.specs.Entries.{entries_of, entries_drop}

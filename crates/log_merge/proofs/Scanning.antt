@@ -1,5 +1,6 @@
 -- The pass that looks for a descent: its invariant, its turn and its two ends.
-use Rattle.model.specs.Prelude.{ℕ, ◌+◌, ◌/◌, ◌≤◌, ◌<◌, add-one, arith, ◌≡◌, refl, sym, ap, ◌∙◌, true, false, true≢false, List, [], ◌∷◌, ltb}
+use Rattle.std.specs.Prelude.{◌+◌, ◌/◌, ◌≤◌, ◌<◌, ◌≡◌, ◌∷◌}
+use Rattle.model.specs.Prelude.{ℕ, add-one, arith, refl, sym, ap, ◌∙◌, true, false, true≢false, List, [], ltb}
 use Rattle.model.specs.Prelude.{length, drop, get_or, drop-cons, drop-length, lt-ltb, le-ltb}
 use Rattle.model.specs.declared.{PendingTransition.PendingTransition}
 use Rattle.texture_barrier.specs.Entries.{entries_of, entries_long, blank_entry}

@@ -1,5 +1,6 @@
 -- The merge itself: an entry that moves, what is merged so far, and the loop's invariant with its turns and its ends.
-use Rattle.model.specs.Prelude.{ℕ, ◌+◌, ◌-◌, ◌*◌, ◌/◌, ◌≤◌, ◌<◌, add-one, arith, ◌≡◌, refl, sym, ap, ◌∙◌, true, false, List, [], ◌∷◌, ◌++◌}
+use Rattle.std.specs.Prelude.{◌+◌, ◌-◌, ◌*◌, ◌/◌, ◌≤◌, ◌<◌, ◌≡◌, ◌∷◌, ◌++◌}
+use Rattle.model.specs.Prelude.{ℕ, add-one, arith, refl, sym, ap, ◌∙◌, true, false, List, []}
 use Rattle.model.specs.Prelude.{append_assoc, append-nil, length, drop, get_or, sets, length-append, length-drop, drop-cons, drop-length}
 use Rattle.model.specs.{declared.PendingTransition.PendingTransition, BoolLaws.by_lt}
 use Rattle.texture_barrier.specs.Entries.{seven_of, flatten, entries_of, entries_long, blank_entry, Added, put_entry_is, get_entry_is}

@@ -1,6 +1,7 @@
 -- THE CONTRACTS: the call on borrowed numbers. `merging_logs` is what it answers, `MergesLogs` and `HandsOver` what becomes of what is
 -- borrowed.
-use Rattle.model.specs.Prelude.{ℕ, ◌+◌, ◌-◌, ◌*◌, ◌%◌, ◌≡◌, Bool, true, false, not, ◌&&◌, List, [], ◌∷◌, eqb, length, drop, min}
+use Rattle.std.specs.Prelude.{◌+◌, ◌-◌, ◌*◌, ◌%◌, ◌≡◌, ◌&&◌, ◌∷◌}
+use Rattle.model.specs.Prelude.{ℕ, Bool, true, false, not, List, [], eqb, length, drop, min}
 use Rattle.model.specs.{declared.Refusal.TheVariants.LogOutOfOrder, declared.Outcome.TheVariants.{Done, Refused, Conflict}}
 use Rattle.model.specs.declared.{Answered.Answered, LogHead.LogHead, Outcome.Outcome, PendingTransition.PendingTransition, Refusal.Refusal}
 use Rattle.model.specs.{Refusals.{Check, check, first_failing, number_of}, Calls.done}

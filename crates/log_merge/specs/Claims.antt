@@ -1,5 +1,6 @@
 -- WHAT HOLDS of a merge: each claim is a statement with its name, of any two logs unless it says that they ascend.
-use Rattle.model.specs.Prelude.{ℕ, arith, ◌≡◌, refl, true, List, [], ◌∷◌, ◌++◌, append-nil, ◌⊎◌, inl, inr}
+use Rattle.std.specs.Prelude.{◌≡◌, ◌∷◌, ◌++◌, ◌⊎◌}
+use Rattle.model.specs.Prelude.{ℕ, arith, refl, true, List, [], append-nil, inl, inr}
 use Rattle.model.specs.declared.{PendingTransition.PendingTransition}
 use Rattle.log_merge.specs.Merge.{index_of, merge, all_of, rises_from, ascending}
 use Rattle.log_merge.specs.MergeLaws.{merge_ind, rises_head, rises_tail, rises_cons}

@@ -1,6 +1,7 @@
 -- Two logs merged into one: THE DEFINITION. Over entries; `merge_of` reads borrowed numbers as entries.
-use Rattle.model.specs.Prelude.{ℕ, ◌+◌, Bool, true, false, List, [], ◌∷◌, ◌++◌, ltb, length}
-use Rattle.model.specs.{declared.PendingTransition.PendingTransition, Base.if◌then◌else◌}
+use Rattle.std.specs.Prelude.{◌+◌, ◌∷◌, ◌++◌, if◌then◌else◌}
+use Rattle.model.specs.Prelude.{ℕ, Bool, true, false, List, [], ltb, length}
+use Rattle.model.specs.{declared.PendingTransition.PendingTransition}
 use Rattle.texture_barrier.specs.Entries.{entries_of}
 
 -- the index of an entry

@@ -1,7 +1,8 @@
 -- Laws of `merge`: induction along a merge, its steps, ascending entries, and how many are below an index.
-use Rattle.model.specs.Prelude.{ℕ, suc, ◌≤◌, ◌<◌, arith, ◌≡◌, refl, Bool, true, false, List, [], ◌∷◌, ltb, length, lt-ltb, le-ltb, ltb-true}
+use Rattle.std.specs.Prelude.{◌≤◌, ◌<◌, ◌≡◌, ◌∷◌, if◌then◌else◌}
+use Rattle.model.specs.Prelude.{ℕ, suc, arith, refl, Bool, true, false, List, [], ltb, length, lt-ltb, le-ltb, ltb-true}
 use Rattle.model.specs.Prelude.{ltb-false, false≢true}
-use Rattle.model.specs.{declared.PendingTransition.PendingTransition, Base.if◌then◌else◌, BoolLaws.by_test}
+use Rattle.model.specs.{declared.PendingTransition.PendingTransition, BoolLaws.by_test}
 use Rattle.log_merge.specs.Merge.{index_of, Merge, put, ahead, merge, rises_from, one, below, last_of}
 
 -- ---- Induction along a merge

@@ -1,7 +1,8 @@
 -- What is told before a merge writes: whether a log ascends and how many of its entries are below an index, and how many entries a merge
 -- of two logs writes.
-use Rattle.model.specs.Prelude.{ℕ, ◌+◌, ◌≤◌, ◌≡◌, true, false, ◌&&◌, List, length}
-use Rattle.model.specs.{declared.PendingTransition.PendingTransition, Base.if◌then◌else◌}
+use Rattle.std.specs.Prelude.{◌+◌, ◌≤◌, ◌≡◌, ◌&&◌, if◌then◌else◌}
+use Rattle.model.specs.Prelude.{ℕ, true, false, List, length}
+use Rattle.model.specs.{declared.PendingTransition.PendingTransition}
 use Rattle.log_merge.specs.{declared.order.Scanned.Scanned, declared.order.Needed.Needed, Merge.{merge_of, ascending, below}}
 use Rattle.log_merge.specs.Calls.{in_order}
 

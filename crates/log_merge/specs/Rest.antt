@@ -1,6 +1,7 @@
 -- WHAT HOLDS of the rest that a merge tells: it lies in its own log. What a log in order is.
-use Rattle.model.specs.Prelude.{ℕ, ◌*◌, ◌%◌, ◌≤◌, arith, ◌≡◌, true}
-use Rattle.model.specs.Prelude.{Option, none, some, List, [], ◌∷◌, eqb, eqb-true, length}
+use Rattle.std.specs.Prelude.{◌*◌, ◌%◌, ◌≤◌, ◌≡◌, ◌∷◌}
+use Rattle.model.specs.Prelude.{ℕ, arith, true}
+use Rattle.model.specs.Prelude.{Option, none, some, List, [], eqb, eqb-true, length}
 use Rattle.model.specs.{declared.{PendingTransition.PendingTransition, Refusal.Refusal}}
 use Rattle.model.specs.{BoolLaws.and_both, Refusals.{first_failing}}
 use Rattle.model.specs.Log.{Log, Logged, unless_logged}

@@ -1,5 +1,6 @@
 -- Merges that are computed: a table to look at. An entry is told by its index and by whose it is.
-use Rattle.model.specs.Prelude.{ℕ, ◌≡◌, refl, true, false, [], ◌∷◌}
+use Rattle.std.specs.Prelude.{◌≡◌, ◌∷◌}
+use Rattle.model.specs.Prelude.{ℕ, refl, true, false, []}
 use Rattle.model.specs.{declared.PendingTransition.PendingTransition, Refusals.tracker_index, Representation.select}
 use Rattle.texture_barrier.specs.Entries.{read, entries_of}
 use Rattle.log_merge.specs.Merge.{merge, ahead, rises_from, below, last_of, first_count, second_count}

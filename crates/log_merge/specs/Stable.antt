@@ -1,7 +1,8 @@
 -- The entries of one index, in their order: a merge has the first log's before the second's.
-use Rattle.model.specs.Prelude.{ℕ, ◌≤◌, ◌<◌, arith, ◌≡◌, refl, sym, ap, ◌∙◌, Bool, true, false, List, [], ◌∷◌, ◌++◌, append-nil, eqb}
+use Rattle.std.specs.Prelude.{◌≤◌, ◌<◌, ◌≡◌, ◌∷◌, ◌++◌, if◌then◌else◌}
+use Rattle.model.specs.Prelude.{ℕ, arith, refl, sym, ap, ◌∙◌, Bool, true, false, List, [], append-nil, eqb}
 use Rattle.model.specs.Prelude.{ne_eqb, eqb-true}
-use Rattle.model.specs.{declared.PendingTransition.PendingTransition, Base.if◌then◌else◌}
+use Rattle.model.specs.{declared.PendingTransition.PendingTransition}
 use Rattle.log_merge.specs.Merge.{index_of, Merge, put, merge, all_of, rises_from}
 use Rattle.log_merge.specs.MergeLaws.{merge_ind, rises_head, rises_tail, rises_own}
 

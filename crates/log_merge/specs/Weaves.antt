@@ -1,5 +1,6 @@
 -- What the merge itself does: an entry moved, and all of them until one log is used up.
-use Rattle.model.specs.Prelude.{ℕ, ◌+◌, ◌*◌, ◌%◌, ◌≤◌, ◌≡◌, List, [], ◌∷◌, length, get_or, sets}
+use Rattle.std.specs.Prelude.{◌+◌, ◌*◌, ◌%◌, ◌≤◌, ◌≡◌, ◌∷◌}
+use Rattle.model.specs.Prelude.{ℕ, List, [], length, get_or, sets}
 use Rattle.texture_barrier.specs.Entries.{Added}
 use Rattle.log_merge.specs.{declared.Rest.Rest, Merge.merge_of, Calls.rest_at}
 

@@ -1,11 +1,6 @@
--- Words that every definition uses: a choice on a test, lists made element by element, and a walk that stops.
-use Rattle.model.specs.Prelude.{ℕ, suc, Bool, true, false, ◌&&◌, Option, none, some, List, [], ◌∷◌, ◌++◌}
-
-infixr 5 if◌then◌else◌
--- a choice on a test
-abbrev pub if◌then◌else◌ {ℓ} : {A : Type ℓ} → Bool → A → A → A
-if true then x else y = x
-if false then x else y = y
+-- Words that every definition uses: lists made element by element, and a walk that stops.
+use Rattle.std.specs.Prelude.{◌&&◌, ◌∷◌, ◌++◌}
+use Rattle.model.specs.Prelude.{ℕ, suc, Bool, true, false, Option, none, some, List, []}
 
 -- ---- Lists, element by element
 -- what each element makes, one after the other

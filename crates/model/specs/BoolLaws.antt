@@ -1,7 +1,7 @@
 -- Tests: a choice by cases, tests joined by `&&` and `||`, and a proof by the two cases of a comparison.
-use Rattle.model.specs.Prelude.{ℕ, ◌<◌, ◌≤◌, ◌≡◌, refl, Bool, true, false, ◌&&◌, ◌||◌, not, and-eq-true_iff, false≢true, true≢false}
+use Rattle.std.specs.Prelude.{◌<◌, ◌≤◌, ◌≡◌, ◌&&◌, ◌||◌, if◌then◌else◌}
+use Rattle.model.specs.Prelude.{ℕ, refl, Bool, true, false, not, and-eq-true_iff, false≢true, true≢false}
 use Rattle.model.specs.Prelude.{ltb, eqb, ltb-true, ltb-false, eqb-true, eqb-false}
-use Rattle.model.specs.Base.{if◌then◌else◌}
 
 -- a choice has a property where both its arms have it, each under its own answer of the test
 pub by_test : {A : Type 0} (P : A → Type 0) (b : Bool) {x y : A} → (b ≡ true → P x) → (b ≡ false → P y) → P (if b then x else y)

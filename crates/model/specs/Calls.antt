@@ -1,7 +1,8 @@
 -- The six calls on sets, written once over a representation of one texture, and any number of scopes and trackers.
-use Rattle.model.specs.Prelude.{ℕ, true, false, Option, none, some, Option_map, List, [], ◌∷◌, ◌++◌, eqb, set, get_elem?}
+use Rattle.std.specs.Prelude.{◌∷◌, ◌++◌, if◌then◌else◌}
+use Rattle.model.specs.Prelude.{ℕ, true, false, Option, none, some, Option_map, List, [], eqb, set, get_elem?}
 use Rattle.model.specs.declared.{UsageFlags.UsageFlags, Extent.Extent, Selector.Selector, TrackerIndex.TrackerIndex, Refusal.Refusal}
-use Rattle.model.specs.{Base.{if◌then◌else◌, each, each_at₂, over₂, Stop, fine, walk₂}, Representation.{Ends, Representation}}
+use Rattle.model.specs.{Base.{each, each_at₂, over₂, Stop, fine, walk₂}, Representation.{Ends, Representation}}
 use Rattle.model.specs.Sets.{Slot, Set, Tracker, slot_at, with_slots, with_tracker, head_of, Opening, open_set, open_tracker}
 use Rattle.model.specs.Refusals.{first_failing, single_refusal, set_refusal, sparse_refusal, opening_refusal, opens}
 

@@ -1,7 +1,8 @@
 -- Lists of checks one after another; what passed checks show of a selector, of a state and of a use; what the tests of numbers, extents
 -- and flags decide; and that a number and a place tell a refusal.
-use Rattle.model.specs.Prelude.{ℕ, ◌<◌, ◌≤◌, arith, ◌≡◌, refl, sym, ap, ◌∙◌, Bool, true, false, ◌||◌, and-eq-true_iff, false≢true}
-use Rattle.model.specs.Prelude.{Option, none, some, List, [], ◌∷◌, ◌++◌, ltb, eqb, eqb-true, eqb-false, ltb-false, not-false}
+use Rattle.std.specs.Prelude.{◌<◌, ◌≤◌, ◌≡◌, ◌||◌, ◌∷◌, ◌++◌, if◌then◌else◌}
+use Rattle.model.specs.Prelude.{ℕ, arith, refl, sym, ap, ◌∙◌, Bool, true, false, and-eq-true_iff, false≢true}
+use Rattle.model.specs.Prelude.{Option, none, some, List, [], ltb, eqb, eqb-true, eqb-false, ltb-false, not-false}
 use Rattle.model.specs.declared.Refusal.TheVariants.{NumbersOutOfLimits, FlagsBreakRule, ShortRoom, NotWellFormed, LogTooShort}
 use Rattle.model.specs.declared.Refusal.TheVariants.{FlagsDiffer, NoSuchIndex, ExtentOutOfLimits, ExtentDiffers, MipsEmpty}
 use Rattle.model.specs.declared.Refusal.TheVariants.{MipsReversed, LayersEmpty, LayersReversed, SelectorPastExtent, StateReserved}
@@ -9,7 +10,7 @@ use Rattle.model.specs.declared.Refusal.TheVariants.{StateIncompatible, RangesOu
 use Rattle.model.specs.declared.Refusal.TheVariants.{UseOfWrongSize, GroupsTooDeep, PlanUnbalanced, GroupTooLong, NoFreeEntry}
 use Rattle.model.specs.declared.Verdict.TheVariants.{Accepted, Refused}
 use Rattle.model.specs.declared.{Extent.Extent, Refusal.Refusal, Selector.Selector, UsageFlags.UsageFlags, Verdict.Verdict}
-use Rattle.model.specs.{Base.{if◌then◌else◌, All}, Flags.{meets, incompatible, same_flags}}
+use Rattle.model.specs.{Base.{All}, Flags.{meets, incompatible, same_flags}}
 use Rattle.model.specs.{Representation.{mip_start, mip_end, layer_start, layer_end}, Sets.{Slot, Head, own_extent, outside}, Log.or_next}
 use Rattle.model.specs.{BoolLaws.neither, ListLaws.{all_left, all_right}}
 use Rattle.model.specs.Refusals.{Check, first_failing, other_extent, same_extent, number_of, accepted, refused_for, texture_checks}

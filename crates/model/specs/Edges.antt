@@ -1,7 +1,8 @@
 -- 01's table of refusals, every number at its edge with its place, and which of two applies first: one theorem a kind of call, by
 -- computation. What the two representations share (the table, the calls' frame) is tested by nothing else but this page and the runs
 -- against the Rust.
-use Rattle.model.specs.Prelude.{ℕ, ◌≡◌, refl, true, Option, none, some, List, [], ◌∷◌, map, get_or, replicate, set}
+use Rattle.std.specs.Prelude.{◌≡◌, ◌∷◌}
+use Rattle.model.specs.Prelude.{ℕ, refl, true, Option, none, some, List, [], map, get_or, replicate, set}
 use Rattle.model.specs.declared.{Extent.Extent, Selector.Selector, InvalidUse.InvalidUse, PendingTransition.PendingTransition}
 use Rattle.model.specs.{declared.Refusal.Refusal, Flags.incompatible, Representation.{select, full}}
 use Rattle.model.specs.Sets.{Opening, Tracker, with_tracker, open_tracker}

@@ -1,5 +1,6 @@
 -- Usage states: numbers of 16 bits, read by the usage flags (01, "Palette").
-use Rattle.model.specs.Prelude.{ℕ, Bool, ◌&&◌, not, ltb, eqb, bit_and}
+use Rattle.std.specs.Prelude.{◌&&◌}
+use Rattle.model.specs.Prelude.{ℕ, Bool, not, ltb, eqb, bit_and}
 use Rattle.model.specs.declared.{UsageFlags.UsageFlags}
 use Rattle.std.specs.Int.Count.{ones_in}
 

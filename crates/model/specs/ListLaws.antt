@@ -1,6 +1,7 @@
 -- Lists: what holds of each element, element by element and of the lists that are made from one.
-use Rattle.model.specs.Prelude.{ℕ, zero, suc, ◌+◌, ◌<◌, ◌≤◌, arith, ◌≡◌, refl, sym, ap, Bool, true, Option, none, some, Option_map}
-use Rattle.model.specs.Prelude.{List, [], ◌∷◌, ◌++◌, map, append_assoc, length, replicate, get_or, set, get_elem?}
+use Rattle.std.specs.Prelude.{◌+◌, ◌<◌, ◌≤◌, ◌≡◌, ◌∷◌, ◌++◌}
+use Rattle.model.specs.Prelude.{ℕ, zero, suc, arith, refl, sym, ap, Bool, true, Option, none, some, Option_map}
+use Rattle.model.specs.Prelude.{List, [], map, append_assoc, length, replicate, get_or, set, get_elem?}
 use Rattle.model.specs.{Base.{All, AllO, each, each_at, zip₂, every}, BoolLaws.{both, and_left, and_right}}
 
 pub all_weak : {A : Type 0} (P N : A → Type 0) → ((x : A) → P x → N x) → (s : List A) → All P s → All N s

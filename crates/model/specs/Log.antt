@@ -1,5 +1,6 @@
 -- The log (01: the Rust's `temp`), and the calls whole: what is lent is checked first, and the room of the log last.
-use Rattle.model.specs.Prelude.{ℕ, ◌+◌, ◌-◌, Bool, true, false, not, Option, none, some, List, [], ◌∷◌, ◌++◌, map, ltb, length, take}
+use Rattle.std.specs.Prelude.{◌+◌, ◌-◌, ◌∷◌, ◌++◌}
+use Rattle.model.specs.Prelude.{ℕ, Bool, true, false, not, Option, none, some, List, [], map, ltb, length, take}
 use Rattle.model.specs.Prelude.{drop}
 use Rattle.model.specs.declared.Refusal.TheVariants.{NotWellFormed, LogTooShort, NoFreeEntry}
 use Rattle.model.specs.declared.Outcome.TheVariants.{Done, Refused, Conflict}

@@ -1,5 +1,6 @@
 -- 01, "Strips": the three calls on a lent run of range records, of which the first `told` are in use.
-use Rattle.model.specs.Prelude.{ℕ, ◌-◌, Bool, true, ◌&&◌, ◌||◌, not, Option, List, [], ◌∷◌, ◌++◌, leb, ltb, length, take, drop}
+use Rattle.std.specs.Prelude.{◌-◌, ◌&&◌, ◌||◌, ◌∷◌, ◌++◌}
+use Rattle.model.specs.Prelude.{ℕ, Bool, true, not, Option, List, [], leb, ltb, length, take, drop}
 use Rattle.model.specs.Prelude.{replicate}
 use Rattle.model.specs.{declared.Refusal.TheVariants.{RangesOutOfOrder, NoFreeEntry}, declared.{Range.Range, Refusal.Refusal}}
 use Rattle.model.specs.Refusals.{Check, check, first_failing, layers_checks}

@@ -1,9 +1,10 @@
 -- Ranges that tile: `coalesce`, `isolate` and `paint` keep the layers tiled, the first two keep the state of each layer, and no list has
 -- more ranges than layers.
-use Rattle.model.specs.Prelude.{max, ℕ, ◌-◌, ◌+◌, ◌≤◌, ◌<◌, arith, ◌≡◌, refl, sym, ap, ◌∙◌, true, and-eq-true_iff, List, [], ◌∷◌}
-use Rattle.model.specs.Prelude.{◌++◌, map, append_assoc, leb, ltb, eqb, length, length-append, length-replicate, replicate}
+use Rattle.std.specs.Prelude.{◌-◌, ◌+◌, ◌≤◌, ◌<◌, ◌≡◌, ◌∷◌, ◌++◌, if◌then◌else◌}
+use Rattle.model.specs.Prelude.{max, ℕ, arith, refl, sym, ap, ◌∙◌, true, and-eq-true_iff, List, []}
+use Rattle.model.specs.Prelude.{map, append_assoc, leb, ltb, eqb, length, length-append, length-replicate, replicate}
 use Rattle.model.specs.Prelude.{replicate-append-replicate, eqb-true, eqb-false, leb-true, leb-false, ltb-true, ltb-false}
-use Rattle.model.specs.{declared.Range.Range, Base.if◌then◌else◌}
+use Rattle.model.specs.{declared.Range.Range}
 use Rattle.model.specs.RangedStates.{range, joins, coalesce_from, coalesce, Cut, list_of, Rest, rest, with_run, isolate_from, isolate}
 use Rattle.model.specs.{RangedStates.{in_state, paint, layer_states, Tiles}, BoolLaws.by_test}
 

@@ -1,6 +1,7 @@
 -- range.rs on plain lists: `RangedStates` (01: a strip) is a list of ranges, each with a state.
-use Rattle.model.specs.Prelude.{ℕ, ◌-◌, min, max, ◌<◌, ◌≡◌, Bool, ◌&&◌, List, [], ◌∷◌, ◌++◌, map, leb, ltb, eqb, replicate}
-use Rattle.model.specs.{declared.Range.Range, Base.if◌then◌else◌}
+use Rattle.std.specs.Prelude.{◌-◌, ◌<◌, ◌≡◌, ◌&&◌, ◌∷◌, ◌++◌, if◌then◌else◌}
+use Rattle.model.specs.Prelude.{ℕ, min, max, Bool, List, [], map, leb, ltb, eqb, replicate}
+use Rattle.model.specs.{declared.Range.Range}
 
 -- "a start, an end and a state"
 abbrev pub range : ℕ → ℕ → ℕ → Range

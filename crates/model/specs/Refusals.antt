@@ -1,5 +1,6 @@
 -- 01, "Turned away": each check is whether it fails, with the refusal that is then the answer, in the table's order.
-use Rattle.model.specs.Prelude.{ℕ, Bool, true, false, ◌&&◌, ◌||◌, not, Option, none, some, List, [], ◌∷◌, ◌++◌, ltb, eqb, get_or}
+use Rattle.std.specs.Prelude.{◌&&◌, ◌||◌, ◌∷◌, ◌++◌, if◌then◌else◌}
+use Rattle.model.specs.Prelude.{ℕ, Bool, true, false, not, Option, none, some, List, [], ltb, eqb, get_or}
 use Rattle.model.specs.declared.Refusal.TheVariants.{NumbersOutOfLimits, FlagsBreakRule, ShortRoom, NotWellFormed, LogTooShort}
 use Rattle.model.specs.declared.Refusal.TheVariants.{FlagsDiffer, NoSuchIndex, ExtentOutOfLimits, ExtentDiffers, MipsEmpty}
 use Rattle.model.specs.declared.Refusal.TheVariants.{MipsReversed, LayersEmpty, LayersReversed, SelectorPastExtent, StateReserved}
@@ -7,7 +8,7 @@ use Rattle.model.specs.declared.Refusal.TheVariants.{StateIncompatible, RangesOu
 use Rattle.model.specs.declared.Refusal.TheVariants.{UseOfWrongSize, GroupsTooDeep, PlanUnbalanced, GroupTooLong, NoFreeEntry}
 use Rattle.model.specs.declared.Verdict.TheVariants.{Accepted, Refused}
 use Rattle.model.specs.declared.{UsageFlags.UsageFlags, Extent.Extent, Selector.Selector, TrackerIndex.TrackerIndex, Refusal.Refusal}
-use Rattle.model.specs.{declared.Verdict.Verdict, Base.{if◌then◌else◌, each, each_at}}
+use Rattle.model.specs.{declared.Verdict.Verdict, Base.{each, each_at}}
 use Rattle.model.specs.{Flags.{meets, incompatible, flags_fit, same_flags}, Representation.{mip_start, mip_end, layer_start, layer_end}}
 use Rattle.model.specs.Sets.{Numbers, Head, Opening, outside, numbers_fit, capacity}
 

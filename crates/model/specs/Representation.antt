@@ -1,6 +1,7 @@
 -- One texture: how it is held, what a use hands in, and what is done with it. Sets and calls are written once over this record;
 -- the ranged representation (the Rust) and the grid (01's sheet) are two of its values.
-use Rattle.model.specs.Prelude.{ℕ, Bool, ◌&&◌, Option, leb, ltb, eqb}
+use Rattle.std.specs.Prelude.{◌&&◌}
+use Rattle.model.specs.Prelude.{ℕ, Bool, Option, leb, ltb, eqb}
 use Rattle.model.specs.{declared.{UsageFlags.UsageFlags, Extent.Extent, Selector.Selector}, Base.Stop}
 
 -- ---- Selectors

@@ -1,5 +1,6 @@
 -- 01, "Bench samples": B1 to B14 as one table of rows, and one theorem for all of them, by computation.
-use Rattle.model.specs.Prelude.{ℕ, ◌≡◌, refl, Option, none, some, List, [], ◌∷◌, map, get_or, length}
+use Rattle.std.specs.Prelude.{◌≡◌, ◌∷◌}
+use Rattle.model.specs.Prelude.{ℕ, refl, Option, none, some, List, [], map, get_or, length}
 use Rattle.model.specs.{declared.{Extent.Extent, Selector.Selector, Range.Range, InvalidUse.InvalidUse}, Base.each}
 use Rattle.model.specs.{Flags.incompatible, Representation.{select, full, Ends}, Sets.{Opening, slot_at, open_set, open_tracker}}
 use Rattle.model.specs.Refusals.{tracker_index}

@@ -1,6 +1,7 @@
 -- Sets of textures, and opening them (01, "Opening numbers").
-use Rattle.model.specs.Prelude.{ℕ, ◌*◌, Bool, false, ◌&&◌, ◌||◌, not, Option, none, some, List, map, ltb, eqb, replicate, get_or}
-use Rattle.model.specs.{declared.{UsageFlags.UsageFlags, Extent.Extent}, Base.if◌then◌else◌, Representation.Ends}
+use Rattle.std.specs.Prelude.{◌*◌, ◌&&◌, ◌||◌, if◌then◌else◌}
+use Rattle.model.specs.Prelude.{ℕ, Bool, false, not, Option, none, some, List, map, ltb, eqb, replicate, get_or}
+use Rattle.model.specs.{declared.{UsageFlags.UsageFlags, Extent.Extent}, Representation.Ends}
 
 -- N, M and W
 pub record Numbers : Type 0 where

@@ -1,7 +1,8 @@
 -- The Rust's rules for one state: mod.rs, and the lines of texture.rs that make a new state from an old and a given one. `none` is a
 -- conflict.
-use Rattle.model.specs.Prelude.{ℕ, ◌-◌, Bool, ◌&&◌, ◌||◌, not, Option, none, some, eqb, bit_and, bit_or}
-use Rattle.model.specs.{declared.UsageFlags.UsageFlags, Base.if◌then◌else◌}
+use Rattle.std.specs.Prelude.{◌-◌, ◌&&◌, ◌||◌, if◌then◌else◌}
+use Rattle.model.specs.Prelude.{ℕ, Bool, not, Option, none, some, eqb, bit_and, bit_or}
+use Rattle.model.specs.{declared.UsageFlags.UsageFlags}
 use Rattle.std.specs.Int.Count.{ones_in}
 
 -- the two states of a transition

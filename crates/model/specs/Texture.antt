@@ -1,7 +1,8 @@
 -- texture.rs on plain lists: `insert`, `merge`, `barrier` and `update` of one texture, exactly as the Rust leaves it.
-use Rattle.model.specs.Prelude.{ℕ, suc, Option, none, some, Option_map, List, [], ◌∷◌, ◌++◌, map, eqb, replicate}
+use Rattle.std.specs.Prelude.{◌∷◌, ◌++◌, if◌then◌else◌}
+use Rattle.model.specs.Prelude.{ℕ, suc, Option, none, some, Option_map, List, [], map, eqb, replicate}
 use Rattle.model.specs.declared.{UsageFlags.UsageFlags, Extent.Extent, Selector.Selector, Range.Range, InvalidUse.InvalidUse}
-use Rattle.model.specs.Base.{if◌then◌else◌, each, each_at, Stop, fine, ruled, or_keep, passes, walk}
+use Rattle.model.specs.Base.{each, each_at, Stop, fine, ruled, or_keep, passes, walk}
 use Rattle.model.specs.StateRules.{Move, unite, unite_known, move_of, end_after}
 use Rattle.model.specs.Representation.{select, layer_start, layer_end, full, is_full, in_mips, Ends, Representation}
 use Rattle.model.specs.RangedStates.{range, coalesce, iter_filter, isolate, paint, in_state}

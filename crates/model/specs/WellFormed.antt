@@ -1,6 +1,7 @@
 -- 01, "Opening numbers": when a set is *sound*, here well formed.
-use Rattle.model.specs.Prelude.{ℕ, Bool, true, false, ◌&&◌, not, List, [], ◌∷◌, leb, ltb, eqb, length}
-use Rattle.model.specs.{declared.{UsageFlags.UsageFlags, Extent.Extent, Range.Range}, Base.{if◌then◌else◌, every}}
+use Rattle.std.specs.Prelude.{◌&&◌, ◌∷◌, if◌then◌else◌}
+use Rattle.model.specs.Prelude.{ℕ, Bool, true, false, not, List, [], leb, ltb, eqb, length}
+use Rattle.model.specs.{declared.{UsageFlags.UsageFlags, Extent.Extent, Range.Range}, Base.{every}}
 use Rattle.model.specs.{Flags.{meets, incompatible, flags_fit}, Representation.Ends}
 use Rattle.model.specs.{Sets.{Numbers, Slot, Set, Tracker, numbers_fit, capacity}, Refusals.extent_outside}
 use Rattle.model.specs.{Texture.{Held, single, many}, Subresources.subresources}

@@ -1,5 +1,6 @@
 -- Claims: what holds of plan files, from the definitions (Plan, Write) and from the contracts of the calls (Reading, Writing).
-use Rattle.model.specs.Prelude.{ℕ, ◌+◌, ◌*◌, ◌%◌, ◌≤◌, ◌≡◌, true, List, ◌++◌, length, take, drop}
+use Rattle.std.specs.Prelude.{◌+◌, ◌*◌, ◌%◌, ◌≤◌, ◌≡◌, ◌++◌}
+use Rattle.model.specs.Prelude.{ℕ, true, List, length, take, drop}
 use Rattle.model.specs.{declared.Refusal.Refusal, Refusals.number_of}
 use Rattle.plan_file.specs.{declared.PlanAnswer.PlanAnswer, Plan.{Event, took, no, read_plan}}
 use Rattle.plan_file.specs.{Write.{events_of, levels, deepest, widest, wrote, not, write_plan}, Reading.PlanRead, Writing.PlanWritten}

@@ -1,5 +1,6 @@
 -- The list is laid out from its end: what stands in the borrowed file, and where the groups end that are still open.
-use Rattle.model.specs.Prelude.{ℕ, zero, suc, ◌+◌, ◌*◌, ◌-◌, ◌<◌, ◌≤◌, ◌≡◌, refl, ap, sym, ◌∙◌, List, [], ◌∷◌, ◌++◌, append_assoc, arith}
+use Rattle.std.specs.Prelude.{◌+◌, ◌*◌, ◌-◌, ◌<◌, ◌≤◌, ◌≡◌, ◌∷◌, ◌++◌}
+use Rattle.model.specs.Prelude.{ℕ, zero, suc, refl, ap, sym, ◌∙◌, List, [], append_assoc, arith}
 use Rattle.model.specs.Prelude.{max, length, take, drop, get_or, set, length-drop, length-set, length-take-le, eqb, eq-eqb, ne_eqb}
 use Rattle.model.specs.BoolLaws.{by_test}
 use Rattle.plan_file.specs.Plan.{Event, opened, used, closed}

@@ -1,8 +1,9 @@
 -- By which numbers a file and a list are turned away, how long an accepted file is, and how much room is always enough.
-use Rattle.model.specs.Prelude.{ℕ, ◌+◌, ◌*◌, ◌%◌, ◌≤◌, ◌≡◌, refl, ap, sym, subst, ◌∙◌, Bool, true, false, List, [], ◌∷◌, ◌++◌, arith}
+use Rattle.std.specs.Prelude.{◌+◌, ◌*◌, ◌%◌, ◌≤◌, ◌≡◌, ◌∷◌, ◌++◌, if◌then◌else◌}
+use Rattle.model.specs.Prelude.{ℕ, refl, ap, sym, subst, ◌∙◌, Bool, true, false, List, [], arith}
 use Rattle.model.specs.Prelude.{length, length-append, ltb, eqb}
 use Rattle.model.specs.{declared.Refusal.Refusal, declared.Refusal.TheVariants.{GroupsTooDeep, PlanUnbalanced, GroupTooLong}}
-use Rattle.model.specs.{Refusals.number_of, Base.{if◌then◌else◌, All}}
+use Rattle.model.specs.{Refusals.number_of, Base.{All}}
 use Rattle.plan_file.specs.{Uses.count_of, Plan.{Event, opened, used, closed, other, Read, took, no, around, after, read_plan}}
 use Rattle.plan_file.specs.Write.{levels, deepest, head, on_top, push, shut, written, top, widest, wrote, not, write_plan}
 use Rattle.plan_file.specs.{Writing.costs, Wide.{Wide, WideRead}}

@@ -1,5 +1,6 @@
 -- The whole reader: an accepted file's uses have 15 bytes, its items stand one after another, and the answer is the definition's.
-use Rattle.model.specs.Prelude.{ℕ, suc, ◌+◌, ◌*◌, ◌/◌, ◌<◌, ◌≤◌, ◌≡◌, refl, ap, sym, subst, ◌∙◌, true, false, List, [], ◌∷◌, ◌++◌}
+use Rattle.std.specs.Prelude.{◌+◌, ◌*◌, ◌/◌, ◌<◌, ◌≤◌, ◌≡◌, ◌∷◌, ◌++◌}
+use Rattle.model.specs.Prelude.{ℕ, suc, refl, ap, sym, subst, ◌∙◌, true, false, List, []}
 use Rattle.model.specs.Prelude.{append_assoc, arith, length, drop, length-drop, length-append, take_at, drop-drop, drop-append-add, ltb}
 use Rattle.model.specs.Prelude.{lt-ltb, le-ltb}
 use Rattle.model.specs.{declared.{Refusal.Refusal, Verdict.Verdict}, declared.Refusal.TheVariants.NoFreeEntry, ListLaws.all_join}

@@ -1,10 +1,11 @@
 -- The reader's functions: an item written, where a field ends, what is answered of a use, of a field and of a run.
-use Rattle.model.specs.Prelude.{ℕ, ◌+◌, ◌*◌, ◌-◌, ◌/◌, ◌<◌, ◌≤◌, ◌≡◌, refl, ap, sym, subst, ◌∙◌, Bool, true, false, List, [], ◌∷◌, ◌++◌}
+use Rattle.std.specs.Prelude.{◌+◌, ◌*◌, ◌-◌, ◌/◌, ◌<◌, ◌≤◌, ◌≡◌, ◌∷◌, ◌++◌, if◌then◌else◌}
+use Rattle.model.specs.Prelude.{ℕ, refl, ap, sym, subst, ◌∙◌, Bool, true, false, List, []}
 use Rattle.model.specs.Prelude.{append_assoc, add-one, arith, length, take, drop, set, length-take, length-drop, length-set}
 use Rattle.model.specs.Prelude.{drop_of_length-le, take_all, take-suc-set, drop-set-lt, drop-drop, ltb, lt-ltb, le-ltb, eq-eqb, ne_eqb}
 use Rattle.model.specs.Prelude.{ltb-false}
 use Rattle.model.specs.declared.{Refusal.Refusal, Verdict.Verdict}
-use Rattle.model.specs.{declared.Refusal.TheVariants.{FieldCutShort, UnknownTag, UseOfWrongSize, GroupsTooDeep}, Base.if◌then◌else◌}
+use Rattle.model.specs.{declared.Refusal.TheVariants.{FieldCutShort, UnknownTag, UseOfWrongSize, GroupsTooDeep}}
 use Rattle.plan_file.specs.declared.reader.Step.{Step}
 use Rattle.plan_file.specs.Plan.{opened, closed, no, tag_of, length_of, size_of, content, cut_short, after, field, fields, run, item}
 use Rattle.plan_file.specs.Reading.{end_of, put_item, put_all, Came, UseRead, FieldRead, GroupRead, turned_away, taken}

@@ -1,5 +1,6 @@
 -- The laws by which the reader's code is the definition: how many fields a run wants, how it goes on, and what each field is.
-use Rattle.model.specs.Prelude.{ℕ, zero, suc, ◌+◌, ◌-◌, ◌<◌, ◌≤◌, ◌≡◌, refl, ap, sym, ◌∙◌, Bool, true, false, List, [], ◌∷◌, ◌++◌, add-one}
+use Rattle.std.specs.Prelude.{◌+◌, ◌-◌, ◌<◌, ◌≤◌, ◌≡◌, ◌∷◌, ◌++◌}
+use Rattle.model.specs.Prelude.{ℕ, zero, suc, refl, ap, sym, ◌∙◌, Bool, true, false, List, [], add-one}
 use Rattle.model.specs.Prelude.{arith, length, drop, length-take, length-drop, length-append, ltb, eq-eqb, ne_eqb, ltb-false, true≢false}
 use Rattle.model.specs.Prelude.{eqb, eqb-true}
 use Rattle.model.specs.declared.{Refusal.Refusal, Verdict.Verdict}

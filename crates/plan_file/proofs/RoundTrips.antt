@@ -1,5 +1,6 @@
 -- The round trips: an accepted file read and written is the same bytes, an accepted list written and read is the same events.
-use Rattle.model.specs.Prelude.{ℕ, zero, suc, ◌+◌, ◌-◌, ◌<◌, ◌≤◌, ◌≡◌, refl, ap, sym, subst, ◌∙◌, false, List, [], ◌∷◌, ◌++◌, append_assoc}
+use Rattle.std.specs.Prelude.{◌+◌, ◌-◌, ◌<◌, ◌≤◌, ◌≡◌, ◌∷◌, ◌++◌}
+use Rattle.model.specs.Prelude.{ℕ, zero, suc, refl, ap, sym, subst, ◌∙◌, false, List, [], append_assoc}
 use Rattle.model.specs.Prelude.{append-nil, arith, length, take, drop, length-take, length-drop, length-append, take-append-drop, take_at}
 use Rattle.model.specs.Prelude.{drop_at, length-take-le, eqb, le-ltb, eq-eqb, eqb-true, eqb-false}
 use Rattle.model.specs.BoolLaws.{by_test}

@@ -1,8 +1,9 @@
 -- What the calls do together, from their contracts alone: what `read` leaves, handed to `write`, gives the file's bytes back, and what
 -- `write` leaves, handed to `read`, gives the list's events back.
-use Rattle.model.specs.Prelude.{ℕ, suc, ◌+◌, ◌*◌, ◌/◌, ◌≤◌, ◌≡◌, refl, ap, sym, ◌∙◌, Bool, true, false, List, [], ◌∷◌, ◌++◌, append_assoc}
+use Rattle.std.specs.Prelude.{◌+◌, ◌*◌, ◌/◌, ◌≤◌, ◌≡◌, ◌∷◌, ◌++◌, if◌then◌else◌}
+use Rattle.model.specs.Prelude.{ℕ, suc, refl, ap, sym, ◌∙◌, Bool, true, false, List, [], append_assoc}
 use Rattle.model.specs.Prelude.{arith, length, take, drop, replicate, length-append, take_at, drop-append-add, get_or_at, ltb, le-ltb}
-use Rattle.model.specs.{declared.Refusal.Refusal, declared.Refusal.TheVariants.NoFreeEntry, Base.if◌then◌else◌}
+use Rattle.model.specs.{declared.Refusal.Refusal, declared.Refusal.TheVariants.NoFreeEntry}
 use Rattle.plan_file.specs.declared.{PlanAnswer.PlanAnswer}
 use Rattle.plan_file.specs.Plan.{Event, opened, used, closed, other, Read, took, no, read_plan, item, items, answer_of, left_of}
 use Rattle.plan_file.specs.{Reading.PlanRead, Wide.{WideUse, Wide, WideRead}}

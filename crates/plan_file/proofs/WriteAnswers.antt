@@ -1,9 +1,10 @@
 -- The whole writer: how long the file is, and that the answer is the definition's.
-use Rattle.model.specs.Prelude.{ℕ, zero, suc, ◌+◌, ◌*◌, ◌-◌, ◌/◌, ◌<◌, ◌≤◌, ◌≡◌, refl, ap, sym, ◌∙◌, Bool, true, false, List, [], ◌∷◌, ◌++◌}
+use Rattle.std.specs.Prelude.{◌+◌, ◌*◌, ◌-◌, ◌/◌, ◌<◌, ◌≤◌, ◌≡◌, ◌∷◌, ◌++◌, if◌then◌else◌}
+use Rattle.model.specs.Prelude.{ℕ, zero, suc, refl, ap, sym, ◌∙◌, Bool, true, false, List, []}
 use Rattle.model.specs.Prelude.{arith, length, drop, get_or, length-drop, length-append, length-take-le, ltb, eqb, lt-ltb, le-ltb, eq-eqb}
 use Rattle.model.specs.Prelude.{ltb-false, eqb-true}
 use Rattle.model.specs.declared.{Refusal.Refusal, Verdict.Verdict}
-use Rattle.model.specs.{declared.Refusal.TheVariants.{GroupsTooDeep, PlanUnbalanced, GroupTooLong, NoFreeEntry}, Base.if◌then◌else◌}
+use Rattle.model.specs.{declared.Refusal.TheVariants.{GroupsTooDeep, PlanUnbalanced, GroupTooLong, NoFreeEntry}}
 use Rattle.model.specs.BoolLaws.{by_test}
 use Rattle.plan_file.specs.{declared.writer.Weighed.Weighed, declared.PlanAnswer.PlanAnswer}
 use Rattle.plan_file.specs.{Plan.{Event, opened, used, closed, other}, Wide.{WideUse, Wide}}

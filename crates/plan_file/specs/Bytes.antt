@@ -1,5 +1,6 @@
 -- Bytes: each element of a list is below 256, as those of a file and of items are by their type; and numbers as bytes.
-use Rattle.model.specs.Prelude.{ℕ, zero, suc, ◌+◌, ◌*◌, ◌/◌, ◌%◌, ◌^◌, ◌<◌, arith, ◌≡◌, refl, ap, List, [], ◌∷◌, length, take, drop}
+use Rattle.std.specs.Prelude.{◌+◌, ◌*◌, ◌/◌, ◌%◌, ◌^◌, ◌<◌, ◌≡◌, ◌∷◌}
+use Rattle.model.specs.Prelude.{ℕ, zero, suc, arith, refl, ap, List, [], length, take, drop}
 use Rattle.model.specs.Base.{All}
 
 -- "all numbers go low byte first": the number of some bytes

@@ -1,5 +1,6 @@
 -- Bytes copied over others, as many: a whole list, and the part of a list from a to b, where what stood before and behind it stays.
-use Rattle.model.specs.Prelude.{ℕ, ◌+◌, ◌-◌, ◌≤◌, ◌≡◌, refl, ap, sym, ◌∙◌, List, [], ◌++◌, append-nil, arith, length, take, drop, drop_of_length-le}
+use Rattle.std.specs.Prelude.{◌+◌, ◌-◌, ◌≤◌, ◌≡◌, ◌++◌}
+use Rattle.model.specs.Prelude.{ℕ, refl, ap, sym, ◌∙◌, List, [], append-nil, arith, length, take, drop, drop_of_length-le}
 use Rattle.model.specs.Prelude.{take-length}
 use borrow.Rule.Slice.PartMut.{mid_of, post_of, put_mid, Post-is, mid_len}
 

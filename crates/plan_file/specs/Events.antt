@@ -1,5 +1,6 @@
 -- The events of items, one after another: n - i of them from the i-th on, up to the n-th.
-use Rattle.model.specs.Prelude.{ℕ, suc, ◌+◌, ◌*◌, ◌-◌, ◌<◌, ◌≤◌, ◌≡◌, ap, ◌∙◌, List, [], ◌∷◌, take, drop, get_or, add-one, arith}
+use Rattle.std.specs.Prelude.{◌+◌, ◌*◌, ◌-◌, ◌<◌, ◌≤◌, ◌≡◌, ◌∷◌}
+use Rattle.model.specs.Prelude.{ℕ, suc, ap, ◌∙◌, List, [], take, drop, get_or, add-one, arith}
 use Rattle.plan_file.specs.Write.{event_at, events_from}
 
 pub next_event : (l : List ℕ) (n i : ℕ) → i < n → events_from l (n - i) i ≡ event_at l i ∷ events_from l (n - suc i) (suc i)

@@ -1,6 +1,7 @@
 -- What `levels` and `deepest` say from the end of a list, a walk from its front says too: every closing closes a group that was opened,
 -- none stays open, and so many are open at once.
-use Rattle.model.specs.Prelude.{ℕ, zero, suc, ◌+◌, ◌≡◌, refl, ap₂, ◌∙◌, Bool, true, false, List, [], ◌∷◌, arith, max, false≢true}
+use Rattle.std.specs.Prelude.{◌+◌, ◌≡◌, ◌∷◌}
+use Rattle.model.specs.Prelude.{ℕ, zero, suc, refl, ap₂, ◌∙◌, Bool, true, false, List, [], arith, max, false≢true}
 use Rattle.plan_file.specs.{Levels.level_closed, Plan.{Event, opened, used, closed, other}, Write.{level_at, levels, deepest}}
 
 -- with k groups open, the events close them all, and none that is not open

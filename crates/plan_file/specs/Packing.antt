@@ -1,5 +1,6 @@
 -- Bytes and numbers of a use tell the same: packing eight numbers into 15 bytes undoes what `uses` lists, and the other way round.
-use Rattle.model.specs.Prelude.{ℕ, zero, suc, ◌+◌, ◌/◌, ◌^◌, ◌<◌, arith, ◌≡◌, refl, sym, ap, ◌∙◌, List, [], ◌∷◌, ◌++◌, length, take, drop}
+use Rattle.std.specs.Prelude.{◌+◌, ◌/◌, ◌^◌, ◌<◌, ◌≡◌, ◌∷◌, ◌++◌}
+use Rattle.model.specs.Prelude.{ℕ, zero, suc, arith, refl, sym, ap, ◌∙◌, List, [], length, take, drop}
 use Rattle.model.specs.Prelude.{length-drop, drop_at, take-append-drop, length-take-le, take_at}
 use Rattle.plan_file.specs.Bytes.{low_first, Bytes, bytes_in, number_back, number_there, bytes_take, bytes_drop}
 use Rattle.plan_file.specs.Uses.{widths, numbers_by, numbers_of}

@@ -1,10 +1,11 @@
 -- Plan files (request 08): what a file says, and what the reader does with borrowed items.
 -- "Fields have a one-byte tag and a two-byte length, then that many bytes; all numbers go low byte first. Tag 1 is a group, tag 2 a use of
 -- 15 bytes. A group holds fields, and a field is a use or a group, groups nested at most eight deep."
-use Rattle.model.specs.Prelude.{ℕ, zero, suc, ◌+◌, ◌*◌, ◌-◌, ◌/◌, Bool, true, List, [], ◌∷◌, ◌++◌, ltb, eqb, length, take, drop, get_or}
+use Rattle.std.specs.Prelude.{◌+◌, ◌*◌, ◌-◌, ◌/◌, ◌∷◌, ◌++◌, if◌then◌else◌}
+use Rattle.model.specs.Prelude.{ℕ, zero, suc, Bool, true, List, [], ltb, eqb, length, take, drop, get_or}
 use Rattle.model.specs.Prelude.{replicate}
 use Rattle.model.specs.declared.Refusal.TheVariants.{FieldCutShort, UnknownTag, UseOfWrongSize, GroupsTooDeep, NoFreeEntry}
-use Rattle.model.specs.{declared.Refusal.Refusal, Base.if◌then◌else◌}
+use Rattle.model.specs.{declared.Refusal.Refusal}
 use Rattle.plan_file.specs.{declared.PlanAnswer.PlanAnswer, Bytes.low_first}
 
 -- ---- What a plan is: "a list of opened, use and closed, in file order"; a use has its bytes. `other` is an item of no such kind, which

@@ -1,6 +1,7 @@
 -- The contracts of the reader: of `read`, and of the functions beneath it, whose definitions go the code's way.
-use Rattle.model.specs.Prelude.{ℕ, suc, ◌+◌, ◌*◌, ◌-◌, ◌/◌, ◌≤◌, ◌≡◌, List, [], ◌∷◌, ◌++◌, ltb, length, take, drop}
-use Rattle.model.specs.{declared.{Refusal.Refusal, Verdict.Verdict}, Base.if◌then◌else◌}
+use Rattle.std.specs.Prelude.{◌+◌, ◌*◌, ◌-◌, ◌/◌, ◌≤◌, ◌≡◌, ◌∷◌, ◌++◌, if◌then◌else◌}
+use Rattle.model.specs.Prelude.{ℕ, suc, List, [], ltb, length, take, drop}
+use Rattle.model.specs.{declared.{Refusal.Refusal, Verdict.Verdict}}
 use Rattle.plan_file.specs.{declared.reader.Step.Step, declared.PlanAnswer.PlanAnswer}
 use Rattle.plan_file.specs.Plan.{Event, Read, took, no, cut_short, as_use, field, run, content, size_of, item, answer_of, left_of}
 use Rattle.plan_file.specs.Plan.{read_plan}

@@ -1,5 +1,6 @@
 -- Files and lists by which the definitions can be read, each proved by computation.
-use Rattle.model.specs.Prelude.{ℕ, ◌≡◌, refl, List, [], ◌∷◌, ◌++◌, replicate}
+use Rattle.std.specs.Prelude.{◌≡◌, ◌∷◌, ◌++◌}
+use Rattle.model.specs.Prelude.{ℕ, refl, List, [], replicate}
 use Rattle.model.specs.declared.Refusal.TheVariants.{FieldCutShort, UnknownTag, UseOfWrongSize, GroupsTooDeep, PlanUnbalanced}
 use Rattle.plan_file.specs.Plan.{opened, used, closed, other, took, no, field, fields, read_plan}
 use Rattle.plan_file.specs.Write.{levels, deepest, written, widest, wrote, not, write_plan}

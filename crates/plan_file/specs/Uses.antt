@@ -1,6 +1,7 @@
 -- The uses of a plan as numbers: THE DEFINITION of `uses`, its contract, and uses that are computed.
-use Rattle.model.specs.Prelude.{ℕ, suc, ◌*◌, ◌/◌, ◌≡◌, refl, List, [], ◌∷◌, ◌++◌, ltb, length, take, drop, replicate}
-use Rattle.model.specs.{declared.Refusal.TheVariants.NoFreeEntry, Base.if◌then◌else◌}
+use Rattle.std.specs.Prelude.{◌*◌, ◌/◌, ◌≡◌, ◌∷◌, ◌++◌, if◌then◌else◌}
+use Rattle.model.specs.Prelude.{ℕ, suc, refl, List, [], ltb, length, take, drop, replicate}
+use Rattle.model.specs.{declared.Refusal.TheVariants.NoFreeEntry}
 use Rattle.plan_file.specs.{declared.PlanAnswer.PlanAnswer, declared.PlanAnswer.TheVariants.{Done, Refused}, Bytes.low_first}
 use Rattle.plan_file.specs.{Plan.{Event, opened, used, closed, other}, Write.{events_from, events_of}}
 

@@ -1,6 +1,7 @@
 -- The laws by which the lister's code is the definition: one use's bytes and numbers, an item that is or is not a use, the two loops of
 -- `uses`.
-use Rattle.model.specs.Prelude.{ℕ, zero, suc, ◌+◌, ◌-◌, ◌*◌, ◌/◌, ◌<◌, ◌≤◌, arith, ◌≡◌, refl, sym, ap, ◌∙◌, List, [], ◌∷◌, ◌++◌}
+use Rattle.std.specs.Prelude.{◌+◌, ◌-◌, ◌*◌, ◌/◌, ◌<◌, ◌≤◌, ◌≡◌, ◌∷◌, ◌++◌}
+use Rattle.model.specs.Prelude.{ℕ, zero, suc, arith, refl, sym, ap, ◌∙◌, List, []}
 use Rattle.model.specs.Prelude.{append_assoc, append-nil, length, take, drop, get_or, sets, length-append, drop-length, drop_at, drop-cons}
 use Rattle.model.specs.Prelude.{drop-drop, sets-eq, take_at, lt-ltb, le-ltb, ne_eqb}
 use Rattle.model.specs.{declared.Refusal.TheVariants.NoFreeEntry, BoolLaws.by_eq}

@@ -1,5 +1,6 @@
 -- Uses of 15 bytes: of an event, of events, and of what reading comes to.
-use Rattle.model.specs.Prelude.{◌≡◌, List, length}
+use Rattle.std.specs.Prelude.{◌≡◌}
+use Rattle.model.specs.Prelude.{List, length}
 use Rattle.model.specs.Base.{All}
 use Rattle.plan_file.specs.Plan.{Event, opened, used, closed, other, Read, took, no}
 

@@ -1,9 +1,9 @@
 -- Writing a plan (request 08): which list is turned away, and the bytes of the file.
 -- Everything goes by what follows an event, from the end of the list to its front: a group's length stands before what the group holds, and
 -- so is known where it is written. specs/Forward says the same of a walk from the front.
-use Rattle.model.specs.Prelude.{ℕ, zero, suc, ◌+◌, ◌*◌, ◌-◌, ◌/◌, List, [], ◌∷◌, ◌++◌, length, take, drop, get_or, ltb, eqb, max}
+use Rattle.std.specs.Prelude.{◌+◌, ◌*◌, ◌-◌, ◌/◌, ◌∷◌, ◌++◌, if◌then◌else◌}
+use Rattle.model.specs.Prelude.{ℕ, zero, suc, List, [], length, take, drop, get_or, ltb, eqb, max}
 use Rattle.model.specs.{declared.Refusal.Refusal, declared.Refusal.TheVariants.{GroupsTooDeep, PlanUnbalanced, GroupTooLong, NoFreeEntry}}
-use Rattle.model.specs.Base.{if◌then◌else◌}
 use Rattle.plan_file.specs.{declared.PlanAnswer.PlanAnswer, Bytes.bytes_in, Plan.{Event, opened, used, closed, other}}
 
 -- ---- The list, from its items: 16 bytes each, the k-th at 16 * k

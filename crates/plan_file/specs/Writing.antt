@@ -1,6 +1,7 @@
 -- The contracts of the writer: of `write`, and of the functions beneath it, whose definitions go the code's way.
-use Rattle.model.specs.Prelude.{ℕ, ◌+◌, ◌≤◌, ◌≡◌, List, [], ◌∷◌, ◌++◌, length, take, drop, ltb, leb, eqb}
-use Rattle.model.specs.{declared.Verdict.Verdict, declared.Refusal.TheVariants.{GroupsTooDeep, PlanUnbalanced}, Base.if◌then◌else◌}
+use Rattle.std.specs.Prelude.{◌+◌, ◌≤◌, ◌≡◌, ◌∷◌, ◌++◌, if◌then◌else◌}
+use Rattle.model.specs.Prelude.{ℕ, List, [], length, take, drop, ltb, leb, eqb}
+use Rattle.model.specs.{declared.Verdict.Verdict, declared.Refusal.TheVariants.{GroupsTooDeep, PlanUnbalanced}}
 use Rattle.plan_file.specs.{declared.writer.Weighed.Weighed, declared.PlanAnswer.PlanAnswer}
 use Rattle.plan_file.specs.Plan.{Event, opened, used, closed, other}
 use Rattle.plan_file.specs.Write.{event_of, events_of, levels, deepest, level_at, written, top, widest, write_plan, answer_to, left_to}

@@ -1,5 +1,6 @@
 -- The laws by which the writer's code is the definition.
-use Rattle.model.specs.Prelude.{ℕ, ◌+◌, ◌*◌, ◌-◌, ◌<◌, ◌≤◌, ◌≡◌, refl, ap, sym, ◌∙◌, List, [], ◌++◌, arith, length, take, drop, drop_at}
+use Rattle.std.specs.Prelude.{◌+◌, ◌*◌, ◌-◌, ◌<◌, ◌≤◌, ◌≡◌, ◌++◌}
+use Rattle.model.specs.Prelude.{ℕ, refl, ap, sym, ◌∙◌, List, [], arith, length, take, drop, drop_at}
 use Rattle.model.specs.Prelude.{max, length-take-le, eqb, le-leb, lt-leb}
 use Rattle.model.specs.{declared.Verdict.Verdict, BoolLaws.{by_test, by_test₂}}
 use Rattle.plan_file.specs.{Plan.{Event, opened, used, closed, other}, Write.{event_of, events_from, level_at, levels, deepest}}

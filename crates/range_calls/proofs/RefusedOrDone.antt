@@ -1,5 +1,6 @@
 -- The three calls, refused and done, from what the checks and the functions below ensure.
-use Rattle.model.specs.Prelude.{ℕ, ◌-◌, ◌≡◌, refl, sym, none, some, List}
+use Rattle.std.specs.Prelude.{◌-◌, ◌≡◌}
+use Rattle.model.specs.Prelude.{ℕ, refl, sym, none, some, List}
 use Rattle.model.specs.{declared.Refusal.Refusal, RangeCalls.{isolate_refusal, coalesce_refusal, filter_refusal}}
 use Rattle.range_states.specs.{View.view, Coalescing.Coalesced, Filtering.Filtered}
 use Rattle.range_isolate.specs.{declared.isolation.Isolated.Isolated, Isolation.Isolating}

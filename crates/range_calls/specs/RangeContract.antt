@@ -1,5 +1,6 @@
 -- 01, "Strips": what the three calls answer and leave, by the model's definitions (model, RangeCalls), on records and on plain numbers.
-use Rattle.model.specs.Prelude.{ℕ, ◌≡◌, Option, none, some, List, length}
+use Rattle.std.specs.Prelude.{◌≡◌}
+use Rattle.model.specs.Prelude.{ℕ, Option, none, some, List, length}
 use Rattle.model.specs.declared.{Range.Range, Refusal.Refusal}
 use Rattle.model.specs.RangeCalls.{isolate_refusal, isolated, coalesce_refusal, coalesced, filter_refusal, filtered}
 use Rattle.range_states.specs.View.{view, spare}

@@ -1,5 +1,6 @@
 -- The loop of `ascends`: what is left to test, from here, is what was to test from the start.
-use Rattle.model.specs.Prelude.{ℕ, ◌+◌, ◌*◌, ◌≤◌, ◌<◌, arith, ◌≡◌, refl, true, false, List, [], ◌∷◌, length, get_or, drop, slice_empty}
+use Rattle.std.specs.Prelude.{◌+◌, ◌*◌, ◌≤◌, ◌<◌, ◌≡◌, ◌∷◌}
+use Rattle.model.specs.Prelude.{ℕ, arith, refl, true, false, List, [], length, get_or, drop, slice_empty}
 use Rattle.model.specs.Prelude.{lt-ltb, le-ltb, le-leb, lt-leb}
 use Rattle.model.specs.{declared.Range.Range, RangeCalls.ascends}
 use Rattle.range_states.specs.View.{view, decode, blank}

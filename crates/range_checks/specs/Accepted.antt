@@ -1,5 +1,6 @@
 -- The contracts of this crate and the model's three calls on a lent run (model, RangeCalls): what they refuse, and what they leave.
-use Rattle.model.specs.Prelude.{ℕ, ◌-◌, ◌*◌, ◌≤◌, arith, ◌≡◌, sym, false, not, none, List, [], ◌∷◌, append_assoc, ltb, length, take}
+use Rattle.std.specs.Prelude.{◌-◌, ◌*◌, ◌≤◌, ◌≡◌, ◌∷◌}
+use Rattle.model.specs.Prelude.{ℕ, arith, sym, false, not, none, List, [], append_assoc, ltb, length, take}
 use Rattle.model.specs.Prelude.{ltb-false}
 use Rattle.model.specs.{BoolLaws.neither, CheckLaws.{passed, both_passed}, Refusals.{first_failing, layers_checks}}
 use Rattle.model.specs.RangedStates.{list_of, isolate, iter_filter}

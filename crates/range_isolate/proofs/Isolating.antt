@@ -1,8 +1,9 @@
 -- `isolate` is: find, cut the start, cover.
-use Rattle.model.specs.Prelude.{ℕ, suc, ◌+◌, ◌*◌, ◌-◌, ◌≤◌, ◌<◌, add-zero, arith, ◌≡◌, refl, sym, ap, ◌∙◌, Bool, true, false, List, [], ◌∷◌}
-use Rattle.model.specs.Prelude.{◌++◌, leb, ltb, length, get_or, take, drop, length-append, length-drop, slice_empty, length-take-le}
+use Rattle.std.specs.Prelude.{◌+◌, ◌*◌, ◌-◌, ◌≤◌, ◌<◌, ◌≡◌, ◌∷◌, ◌++◌, if◌then◌else◌}
+use Rattle.model.specs.Prelude.{ℕ, suc, add-zero, arith, refl, sym, ap, ◌∙◌, Bool, true, false, List, []}
+use Rattle.model.specs.Prelude.{leb, ltb, length, get_or, take, drop, length-append, length-drop, slice_empty, length-take-le}
 use Rattle.model.specs.Prelude.{take-append-add, drop-append-add, lt-ltb, le-ltb, leb-true, leb-false}
-use Rattle.model.specs.{declared.Range.Range, Base.if◌then◌else◌, RangedStates.{range, list_of, isolate_from, isolate}}
+use Rattle.model.specs.{declared.Range.Range, RangedStates.{range, list_of, isolate_from, isolate}}
 use Rattle.range_isolate.specs.declared.isolation.Placed.{Placed}
 use Rattle.range_isolate.specs.Isolation.{all_of, first_past, cut_first, lead_count, Found, StartCut, CoverRoom, Covered, IsolateRoom}
 use Rattle.range_isolate.specs.Isolation.{Isolating}

@@ -1,7 +1,8 @@
 -- A loop that opens a gap in the first n + 1 of a list, from the top down.
 --     shifted k n l     the elements from k to n, not including n, stand one place up, and what stood at k stands there still
-use Rattle.model.specs.Prelude.{ℕ, zero, suc, ◌+◌, ◌-◌, ◌≤◌, ◌<◌, not-suc-le-zero, le_of_suc-le-suc, add-one, arith, ◌≡◌, refl, ap, List}
-use Rattle.model.specs.Prelude.{[], ◌∷◌, ◌++◌, length, get_or, take, drop, set}
+use Rattle.std.specs.Prelude.{◌+◌, ◌-◌, ◌≤◌, ◌<◌, ◌≡◌, ◌∷◌, ◌++◌}
+use Rattle.model.specs.Prelude.{ℕ, zero, suc, not-suc-le-zero, le_of_suc-le-suc, add-one, arith, refl, ap, List}
+use Rattle.model.specs.Prelude.{[], length, get_or, take, drop, set}
 use Rattle.range_states.specs.Insert.{insert_at}
 
 module _ {A : Type 0} where

@@ -1,6 +1,7 @@
 -- The contracts of `isolate` and of its parts, over the model's `isolate` and `isolate_from`.
-use Rattle.model.specs.Prelude.{ℕ, zero, suc, ◌+◌, ◌-◌, ◌*◌, ◌≤◌, ◌<◌, max, ◌≡◌, List, [], ◌∷◌, ◌++◌, leb, ltb, length, drop}
-use Rattle.model.specs.{declared.Range.Range, Base.if◌then◌else◌, RangedStates.{range, Rest, rest, list_of, isolate_from, isolate}}
+use Rattle.std.specs.Prelude.{◌+◌, ◌-◌, ◌*◌, ◌≤◌, ◌<◌, ◌≡◌, ◌∷◌, ◌++◌, if◌then◌else◌}
+use Rattle.model.specs.Prelude.{ℕ, zero, suc, max, List, [], leb, ltb, length, drop}
+use Rattle.model.specs.{declared.Range.Range, RangedStates.{range, Rest, rest, list_of, isolate_from, isolate}}
 use Rattle.range_isolate.specs.{declared.isolation.Placed.Placed, declared.isolation.Isolated.Isolated}
 use Rattle.range_states.specs.View.{decode, Becomes}
 

@@ -1,6 +1,7 @@
 -- Ranges that tile their layers (01: "tiles layer 0 to the last with nonempty ascending ranges") are isolated within as many records as
 -- layers.
-use Rattle.model.specs.Prelude.{ℕ, ◌*◌, ◌≤◌, ◌<◌, arith, List, length}
+use Rattle.std.specs.Prelude.{◌*◌, ◌≤◌, ◌<◌}
+use Rattle.model.specs.Prelude.{ℕ, arith, List, length}
 use Rattle.model.specs.{RangedStates.Tiles, RangeLaws.isolate_few}
 use Rattle.range_states.specs.View.{decode}
 use Rattle.range_isolate.specs.Isolation.{IsolateRoom}

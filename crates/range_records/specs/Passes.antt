@@ -1,7 +1,8 @@
 -- The passes over a run of records: what each computes, in the direction of its loop. That they are the model's calls is proved in proofs/.
-use Rattle.model.specs.Prelude.{ℕ, zero, suc, ◌+◌, ◌-◌, ◌≤◌, min, max, Bool, true, ◌&&◌, ◌||◌, not, List, [], ◌∷◌, leb, ltb, eqb, get_or, set}
+use Rattle.std.specs.Prelude.{◌+◌, ◌-◌, ◌≤◌, ◌&&◌, ◌||◌, ◌∷◌, if◌then◌else◌}
+use Rattle.model.specs.Prelude.{ℕ, zero, suc, min, max, Bool, true, not, List, [], leb, ltb, eqb, get_or, set}
 use Rattle.model.specs.declared.Refusal.TheVariants.{LayersEmpty, LayersReversed, RangesOutOfOrder, NoFreeEntry}
-use Rattle.model.specs.{declared.{Range.Range, Refusal.Refusal, Verdict.Verdict}, Base.if◌then◌else◌, RangedStates.{range, joins}}
+use Rattle.model.specs.{declared.{Range.Range, Refusal.Refusal, Verdict.Verdict}, RangedStates.{range, joins}}
 use Rattle.range_states.specs.{View.blank, Filtering.{overlaps, clip}}
 use Rattle.range_calls.specs.declared.{CoalesceAnswer.CoalesceAnswer, FilterAnswer.FilterAnswer}
 use Rattle.range_records.specs.{declared.decisions.Scan.Scan, declared.decisions.Plan.Plan, declared.decisions.Piece.Piece}

@@ -1,5 +1,6 @@
 -- Two lists that agree from w on.
-use Rattle.model.specs.Prelude.{ℕ, ◌+◌, ◌-◌, ◌≤◌, arith, ◌≡◌, List, ◌++◌, get_or, take, drop, length, take-append-drop, get_or-drop, drop-drop}
+use Rattle.std.specs.Prelude.{◌+◌, ◌-◌, ◌≤◌, ◌≡◌, ◌++◌}
+use Rattle.model.specs.Prelude.{ℕ, arith, List, get_or, take, drop, length, take-append-drop, get_or-drop, drop-drop}
 use Rattle.model.specs.Prelude.{drop-append-le, length-take-le}
 
 module _ {A : Type 0} (a b : List A) (w : ℕ) (e : drop w a ≡ drop w b) where

@@ -1,6 +1,7 @@
 -- A loop that writes v at each index from f up to k.
-use Rattle.model.specs.Prelude.{ℕ, zero, suc, ◌+◌, ◌-◌, ◌≤◌, not-suc-le-zero, le_of_suc-le-suc, sub-zero, suc-sub-suc, add-one, arith, ◌≡◌}
-use Rattle.model.specs.Prelude.{refl, sym, ap, List, [], ◌∷◌, ◌++◌, length, take, drop, set, replicate}
+use Rattle.std.specs.Prelude.{◌+◌, ◌-◌, ◌≤◌, ◌≡◌, ◌∷◌, ◌++◌}
+use Rattle.model.specs.Prelude.{ℕ, zero, suc, not-suc-le-zero, le_of_suc-le-suc, sub-zero, suc-sub-suc, add-one, arith}
+use Rattle.model.specs.Prelude.{refl, sym, ap, List, [], length, take, drop, set, replicate}
 
 module _ {A : Type 0} (v : A) where
   pub filled : ℕ → ℕ → List A → List A

@@ -1,5 +1,6 @@
 -- The records in use cut at a position, and what a store and an insertion there make of them.
-use Rattle.model.specs.Prelude.{ℕ, ◌+◌, ◌*◌, ◌≤◌, ◌<◌, le_of_lt, add-one, arith, ◌≡◌, ◌∙◌, List, ◌∷◌, ◌++◌, length, get_or, take, drop, set}
+use Rattle.std.specs.Prelude.{◌+◌, ◌*◌, ◌≤◌, ◌<◌, ◌≡◌, ◌∷◌, ◌++◌}
+use Rattle.model.specs.Prelude.{ℕ, le_of_lt, add-one, arith, ◌∙◌, List, length, get_or, take, drop, set}
 use Rattle.model.specs.Prelude.{take-append-drop, take-take, slice-cons, length-take-le, set_split}
 use Rattle.model.specs.declared.{Range.Range}
 use Rattle.range_states.specs.View.{view, decode, blank, Put, Becomes, view_long, becomes_none, becomes_live, becomes_then}

@@ -1,6 +1,7 @@
 -- The loop of `coalesce`, over plain lists: at its head the first w records are made, and those from w on are as they came.
-use Rattle.model.specs.Prelude.{ℕ, suc, ◌+◌, ◌*◌, ◌-◌, ◌≤◌, ◌<◌, add-one, arith, ◌≡◌, refl, sym, ap, ◌∙◌, Bool, true, false, List, [], ◌∷◌}
-use Rattle.model.specs.Prelude.{◌++◌, append_assoc, append-nil, length, get_or, take, drop, replicate, length-set, set-get_or, take-suc}
+use Rattle.std.specs.Prelude.{◌+◌, ◌*◌, ◌-◌, ◌≤◌, ◌<◌, ◌≡◌, ◌∷◌, ◌++◌}
+use Rattle.model.specs.Prelude.{ℕ, suc, add-one, arith, refl, sym, ap, ◌∙◌, Bool, true, false, List, []}
+use Rattle.model.specs.Prelude.{append_assoc, append-nil, length, get_or, take, drop, replicate, length-set, set-get_or, take-suc}
 use Rattle.model.specs.Prelude.{drop-set-lt, take-suc-set, slice-cons, slice_empty, length-take-le}
 use Rattle.model.specs.{declared.Range.Range, RangedStates.{range, joins, coalesce_from, coalesce}}
 use Rattle.range_states.proofs.Agree.{agree_drop, agree_at}

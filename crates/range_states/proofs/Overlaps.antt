@@ -1,5 +1,6 @@
 -- The loops of `filtered_count` and `iter_filter`: what is told or written, and what is left to look at.
-use Rattle.model.specs.Prelude.{ℕ, ◌+◌, ◌*◌, ◌≤◌, ◌<◌, add-one, arith, ◌≡◌, refl, sym, ap, ◌∙◌, Bool, true, false, List, [], ◌∷◌, ◌++◌}
+use Rattle.std.specs.Prelude.{◌+◌, ◌*◌, ◌≤◌, ◌<◌, ◌≡◌, ◌∷◌, ◌++◌}
+use Rattle.model.specs.Prelude.{ℕ, add-one, arith, refl, sym, ap, ◌∙◌, Bool, true, false, List, []}
 use Rattle.model.specs.Prelude.{append_assoc, append-nil, length, get_or, take, drop, take-append-drop, slice_empty, length-take-le}
 use Rattle.model.specs.Prelude.{take-suc-set, drop-set-lt}
 use Rattle.model.specs.{declared.Range.Range, RangedStates.iter_filter}

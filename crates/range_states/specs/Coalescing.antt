@@ -1,5 +1,6 @@
 -- The contract of `coalesce`: the model's list, and zeros where records were freed.
-use Rattle.model.specs.Prelude.{ℕ, ◌-◌, ◌≤◌, ◌<◌, ◌≡◌, List, ◌++◌, length, get_or, take, drop, replicate}
+use Rattle.std.specs.Prelude.{◌-◌, ◌≤◌, ◌<◌, ◌≡◌, ◌++◌}
+use Rattle.model.specs.Prelude.{ℕ, List, length, get_or, take, drop, replicate}
 use Rattle.model.specs.RangedStates.{coalesce_from, coalesce}
 use Rattle.range_states.specs.View.{view, blank, decode, Becomes}
 

@@ -1,5 +1,6 @@
 -- The contract of `iter_filter`, over the model's `iter_filter`.
-use Rattle.model.specs.Prelude.{ℕ, ◌≤◌, min, max, ◌≡◌, Bool, ◌&&◌, List, ltb, length}
+use Rattle.std.specs.Prelude.{◌≤◌, ◌≡◌, ◌&&◌}
+use Rattle.model.specs.Prelude.{ℕ, min, max, Bool, List, ltb, length}
 use Rattle.model.specs.{declared.Range.Range, RangedStates.{range, iter_filter}}
 use Rattle.range_states.specs.View.{decode, Becomes}
 

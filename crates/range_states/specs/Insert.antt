@@ -1,5 +1,6 @@
 -- An insertion into a list: `SmallVec::insert`.
-use Rattle.model.specs.Prelude.{ℕ, zero, suc, ◌≤◌, not-suc-le-zero, le_of_suc-le-suc, ◌≡◌, refl, ap, List, [], ◌∷◌, ◌++◌, length, take}
+use Rattle.std.specs.Prelude.{◌≤◌, ◌≡◌, ◌∷◌, ◌++◌}
+use Rattle.model.specs.Prelude.{ℕ, zero, suc, not-suc-le-zero, le_of_suc-le-suc, refl, ap, List, [], length, take}
 use Rattle.model.specs.Prelude.{drop}
 
 unfoldable pub insert_at : {A : Type 0} → ℕ → A → List A → List A

@@ -1,7 +1,8 @@
 -- The Rust's `coalesce` drops every empty range once it joined any (`retain`); of ranges that are not empty it drops none.
-use Rattle.model.specs.Prelude.{suc, ◌<◌, arith, ◌≡◌, refl, Bool, true, false, ◌&&◌, false≢true, List, [], ◌∷◌, eqb, length, eqb-true}
+use Rattle.std.specs.Prelude.{◌<◌, ◌≡◌, ◌&&◌, ◌∷◌, if◌then◌else◌}
+use Rattle.model.specs.Prelude.{suc, arith, refl, Bool, true, false, false≢true, List, [], eqb, length, eqb-true}
 use Rattle.model.specs.Prelude.{ne_eqb}
-use Rattle.model.specs.{declared.Range.Range, Base.if◌then◌else◌, RangedStates.{range, joins, coalesce_from, coalesce}}
+use Rattle.model.specs.{declared.Range.Range, RangedStates.{range, joins, coalesce_from, coalesce}}
 
 -- `self.ranges.retain(|pair| pair.0.start != pair.0.end)`
 unfoldable pub retained : List Range → List Range

@@ -1,6 +1,7 @@
 -- A borrowed run of numbers as a list of ranges, and the form of every contract that changes it.
-use Rattle.model.specs.Prelude.{ℕ, zero, suc, ◌+◌, ◌*◌, ◌/◌, ◌-◌, ◌≤◌, ◌<◌, not-suc-le-zero, le_of_suc-le-suc, arith, ◌≡◌, refl, sym, ap}
-use Rattle.model.specs.Prelude.{◌∙◌, List, [], ◌∷◌, ◌++◌, length, get_or, take, drop, set, length-set, take-append-drop, take_at, drop_at}
+use Rattle.std.specs.Prelude.{◌+◌, ◌*◌, ◌/◌, ◌-◌, ◌≤◌, ◌<◌, ◌≡◌, ◌∷◌, ◌++◌}
+use Rattle.model.specs.Prelude.{ℕ, zero, suc, not-suc-le-zero, le_of_suc-le-suc, arith, refl, sym, ap}
+use Rattle.model.specs.Prelude.{◌∙◌, List, [], length, get_or, take, drop, set, length-set, take-append-drop, take_at, drop_at}
 use Rattle.model.specs.Prelude.{drop-drop, length-take-le, set-append_left}
 use Rattle.model.specs.{declared.Range.Range, RangedStates.range}
 

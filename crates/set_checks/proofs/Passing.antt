@@ -1,5 +1,6 @@
 -- A set of which every index passes: no check of it fails.
-use Rattle.model.specs.Prelude.{ℕ, zero, suc, ◌+◌, ◌≤◌, ◌<◌, arith, ◌≡◌, refl, sym, ◌∙◌, Bool, true, false, ◌&&◌, not, Option, none, List}
+use Rattle.std.specs.Prelude.{◌+◌, ◌≤◌, ◌<◌, ◌≡◌, ◌&&◌}
+use Rattle.model.specs.Prelude.{ℕ, zero, suc, arith, refl, sym, ◌∙◌, Bool, true, false, not, Option, none, List}
 use Rattle.model.specs.Prelude.{eqb, get_or, lt-ltb}
 use Rattle.model.specs.{declared.Verdict.TheVariants.Accepted, declared.{Extent.Extent, Refusal.Refusal}, Flags.same_flags}
 use Rattle.model.specs.{Refusals.{first_failing, same_extent, extent_outside, other_extent}, BoolLaws.{by_lt, nor as neither, and_both as both}}

@@ -1,5 +1,6 @@
 -- A loop of checks: what is left of it from a place on, what a turn does to it, and what it tells.
-use Rattle.model.specs.Prelude.{ℕ, suc, ◌+◌, ◌-◌, ◌≤◌, ◌<◌, add-one, arith, ◌≡◌, ap, ◌∙◌, true, false, Option, none, some, List, length}
+use Rattle.std.specs.Prelude.{◌+◌, ◌-◌, ◌≤◌, ◌<◌, ◌≡◌}
+use Rattle.model.specs.Prelude.{ℕ, suc, add-one, arith, ap, ◌∙◌, true, false, Option, none, some, List, length}
 use Rattle.model.specs.Prelude.{get_or}
 use Rattle.model.specs.{declared.Refusal.TheVariants.FlagsDiffer, declared.Verdict.TheVariants.{Accepted, Refused}}
 use Rattle.model.specs.{declared.{Refusal.Refusal, Verdict.Verdict}, Flags.same_flags, Refusals.{set_refusal, sparse_refusal, refused_for}}

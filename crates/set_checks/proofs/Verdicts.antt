@@ -1,7 +1,8 @@
 -- What several checks tell, from what their parts do.
-use Rattle.model.specs.Prelude.{ℕ, ◌≤◌, ◌<◌, ◌≡◌, refl, Bool, true, false, none, some, List, get_or, lt-ltb, le-ltb, eq-eqb, ne_eqb}
+use Rattle.std.specs.Prelude.{◌≤◌, ◌<◌, ◌≡◌, if◌then◌else◌}
+use Rattle.model.specs.Prelude.{ℕ, refl, Bool, true, false, none, some, List, get_or, lt-ltb, le-ltb, eq-eqb, ne_eqb}
 use Rattle.model.specs.{declared.Verdict.TheVariants.{Accepted, Refused}, declared.Refusal.TheVariants.{NoSuchIndex, ExtentDiffers}}
-use Rattle.model.specs.{declared.{Extent.Extent, Refusal.Refusal, Selection.Selection, Verdict.Verdict}, Base.if◌then◌else◌}
+use Rattle.model.specs.{declared.{Extent.Extent, Refusal.Refusal, Selection.Selection, Verdict.Verdict}}
 use Rattle.model.specs.Refusals.{first_failing, tracker_index, other_extent, refused_for}
 use Rattle.set_storage.specs.Storage.{flags_of, extent_of, layer_limit_at, mip_limit_at, owned_at, textures_at}
 use Rattle.set_checks.specs.Head.{owned_extent, extent_at, texture_refusal, use_splits, TextureTold, SelectorTold, StateTold, UseTold}

@@ -1,9 +1,10 @@
 -- What checks that passed show: of a texture, a selector, a state, a use, a set and a list.
-use Rattle.model.specs.Prelude.{ℕ, ◌≤◌, ◌<◌, arith, ◌≡◌, refl, sym, Bool, true, false, Option, none, some, List, ltb, length, get_or}
+use Rattle.std.specs.Prelude.{◌≤◌, ◌<◌, ◌≡◌, if◌then◌else◌}
+use Rattle.model.specs.Prelude.{ℕ, arith, refl, sym, Bool, true, false, Option, none, some, List, ltb, length, get_or}
 use Rattle.model.specs.Prelude.{ltb-true, not-false}
 use Rattle.model.specs.{declared.Refusal.TheVariants.FlagsDiffer, declared.Selection.TheVariants.Part}
 use Rattle.model.specs.declared.{Extent.Extent, Refusal.Refusal, Selector.Selector, Selection.Selection, UsageFlags.UsageFlags}
-use Rattle.model.specs.{Base.if◌then◌else◌, Flags.same_flags, Sets.outside, Refusals.{same_extent, other_extent, set_refusal, sparse_refusal}}
+use Rattle.model.specs.{Flags.same_flags, Sets.outside, Refusals.{same_extent, other_extent, set_refusal, sparse_refusal}}
 use Rattle.model.specs.{Log.or_next, BoolLaws.{by_lt, neither}}
 use Rattle.model.specs.CheckLaws.{passed, first_passed, none_both, inside, same_extent_lem, same_flags_lem, SelectorWithin, selector_within}
 use Rattle.model.specs.CheckLaws.{StatePassed, state_shown}

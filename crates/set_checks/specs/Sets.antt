@@ -1,8 +1,9 @@
 -- The checks over a set and over a list: the first refusal of many, and the contracts.
-use Rattle.model.specs.Prelude.{ℕ, zero, suc, ◌+◌, ◌≤◌, ◌<◌, arith, ◌≡◌, refl, ap, ◌∙◌, Bool, true, false, ◌||◌, not, Option, none, some}
-use Rattle.model.specs.Prelude.{List, [], ◌∷◌, eqb, length, get_or, lt-ltb, le-ltb}
+use Rattle.std.specs.Prelude.{◌+◌, ◌≤◌, ◌<◌, ◌≡◌, ◌||◌, ◌∷◌, if◌then◌else◌}
+use Rattle.model.specs.Prelude.{ℕ, zero, suc, arith, refl, ap, ◌∙◌, Bool, true, false, not, Option, none, some}
+use Rattle.model.specs.Prelude.{List, [], eqb, length, get_or, lt-ltb, le-ltb}
 use Rattle.model.specs.{declared.Refusal.TheVariants.{FlagsDiffer, NoSuchIndex}, declared.{Refusal.Refusal, Verdict.Verdict}}
-use Rattle.model.specs.{Base.{if◌then◌else◌, each, each_at}, Flags.same_flags}
+use Rattle.model.specs.{Base.{each, each_at}, Flags.same_flags}
 use Rattle.model.specs.Refusals.{Check, first_failing, extent_outside, other_extent, flags_check, owned_checks, set_refusal, sparse_checks}
 use Rattle.model.specs.{Refusals.{sparse_refusal, tracker_index, refused_for}, Log.or_next, BoolLaws.by_lt}
 use Rattle.model.specs.CheckLaws.{checks_append, none_both}

@@ -1,5 +1,6 @@
 -- A use and a texture that passed the checks: the texture, owned or about to be, is ready for the use.
-use Rattle.model.specs.Prelude.{ℕ, ◌+◌, ◌≡◌, sym, ap, subst, ◌∙◌, Bool, true, false, and-eq-true_iff, List, bit_and, bit_or, get_or, ne_eqb}
+use Rattle.std.specs.Prelude.{◌+◌, ◌≡◌}
+use Rattle.model.specs.Prelude.{ℕ, sym, ap, subst, ◌∙◌, Bool, true, false, and-eq-true_iff, List, bit_and, bit_or, get_or, ne_eqb}
 use Rattle.model.specs.Prelude.{not-false, eqb-true}
 use Rattle.model.specs.{declared.{UsageFlags.UsageFlags, Extent.Extent, Selector.Selector}, Flags.meets, Sets.Numbers}
 use Rattle.model.specs.{Representation.{is_full, full}, RangedStates.Tiles, CheckLaws.{SelectorWithin, StatePassed}}

@@ -1,6 +1,7 @@
 -- One half of a texture that passed the checks, in a set that passed the test: ready for the functions over it, and ready still while
 -- others change.
-use Rattle.model.specs.Prelude.{ℕ, ◌<◌, arith, ◌≡◌, refl, sym, ap, subst, ◌∙◌, true, List, length, get_or}
+use Rattle.std.specs.Prelude.{◌<◌, ◌≡◌}
+use Rattle.model.specs.Prelude.{ℕ, arith, refl, sym, ap, subst, ◌∙◌, true, List, length, get_or}
 use Rattle.model.specs.{declared.{UsageFlags.UsageFlags, Extent.Extent}, Sets.{Numbers, Slot}}
 use Rattle.set_storage.specs.Storage.{numbers_of, flags_of, owned_of, start_half, end_half, held_of, ends_of, slot_with, owned_at, scope_slot}
 use Rattle.set_storage.specs.Storage.{tracker_slot, complex_at, exclusive_at, head_length, layer_limit_at, mip_limit_at, textures_at}

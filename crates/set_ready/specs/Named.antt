@@ -1,5 +1,6 @@
 -- What the frame of a call says of the numbers that no texture of the set uses, and of a texture that the call does not name.
-use Rattle.model.specs.Prelude.{ℕ, ◌≤◌, ◌<◌, arith, ◌≡◌, List, get_or}
+use Rattle.std.specs.Prelude.{◌≤◌, ◌<◌, ◌≡◌}
+use Rattle.model.specs.Prelude.{ℕ, arith, List, get_or}
 use Rattle.set_storage.specs.Storage.{numbers_of, start_half, end_half, table_indices, owned_at, mips_at, layers_at, state_at, count_at, ranges_at}
 use Rattle.set_storage.specs.Storage.{textures_at}
 use Rattle.set_storage.specs.Stays.{Stays, OffTracker, OffRanges, off_scope, past_ranges, owned_off, mips_off, layers_off, start_off}

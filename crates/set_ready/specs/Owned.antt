@@ -1,5 +1,6 @@
 -- A texture that is owned, just now or before: what the functions on one texture ask for, how its slot reads after a change, and the view.
-use Rattle.model.specs.Prelude.{ℕ, ◌≤◌, ◌<◌, arith, ◌≡◌, refl, sym, ap, ◌∙◌, List, get_or, set, set_out}
+use Rattle.std.specs.Prelude.{◌≤◌, ◌<◌, ◌≡◌}
+use Rattle.model.specs.Prelude.{ℕ, arith, refl, sym, ap, ◌∙◌, List, get_or, set, set_out}
 use Rattle.model.specs.{declared.Extent.Extent, Sets.{Numbers, Slot, with_slots}, Calls.owning, BoolLaws.by_lt}
 use Rattle.set_storage.specs.Storage.{numbers_of, flags_of, start_half, end_half, slot_with, set_with, list_from, owned_at, mips_at, layers_at}
 use Rattle.set_storage.specs.Storage.{textures_at, complex_at, exclusive_at, layer_limit_at, mip_limit_at, uninitialized_at, unknown_at}

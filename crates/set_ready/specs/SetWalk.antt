@@ -1,5 +1,6 @@
 -- A walk over the slots of a set as it is lent: the view at its end; and of a tracker, that a slot which is left is ready as it was.
-use Rattle.model.specs.Prelude.{ℕ, ◌<◌, arith, ◌≡◌, ap, subst, ◌∙◌, List, get_or}
+use Rattle.std.specs.Prelude.{◌<◌, ◌≡◌}
+use Rattle.model.specs.Prelude.{ℕ, arith, ap, subst, ◌∙◌, List, get_or}
 use Rattle.model.specs.{declared.Extent.Extent, Representation.Ends, Sets.{Numbers, Slot, with_tracker}, Texture.Held}
 use Rattle.set_storage.specs.Storage.{numbers_of, flags_of, start_half, ends_of, slot_with, set_with, tracker_of, list_from, mask_at, textures_at}
 use Rattle.set_storage.specs.{Storage.tracker_slot, Stays.{both_refl, both_then, both_more, TrackerFrame}, Frames.Measured}

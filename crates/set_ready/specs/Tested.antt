@@ -1,5 +1,6 @@
 -- What the test of a set has shown of its storage, index by index.
-use Rattle.model.specs.Prelude.{ℕ, ◌+◌, ◌/◌, ◌≤◌, ◌<◌, arith, ◌≡◌, refl, sym, ap, subst, ◌∙◌, true, and-eq-true_iff, List, [], bit_and}
+use Rattle.std.specs.Prelude.{◌+◌, ◌/◌, ◌≤◌, ◌<◌, ◌≡◌}
+use Rattle.model.specs.Prelude.{ℕ, arith, refl, sym, ap, subst, ◌∙◌, true, and-eq-true_iff, List, [], bit_and}
 use Rattle.model.specs.Prelude.{bit_or, and_comm, and_self, length, get_or}
 use Rattle.model.specs.{declared.{UsageFlags.UsageFlags, Extent.Extent, Range.Range}, Flags.flags_fit, RangedStates.Tiles, Texture.many}
 use Rattle.model.specs.{WellFormed.{well_formed_scope, well_formed_tracker}, ListLaws.all_at}

@@ -1,5 +1,6 @@
 -- A walk over slots that changes them one by one: which are done, which are left as they were, and that the model's walks give the same.
-use Rattle.model.specs.Prelude.{ℕ, zero, suc, ◌+◌, ◌≤◌, ◌<◌, ℕ_discrete, arith, ◌≡◌, refl, sym, ap, subst, ◌∙◌, List, [], ◌∷◌}
+use Rattle.std.specs.Prelude.{◌+◌, ◌≤◌, ◌<◌, ◌≡◌, ◌∷◌}
+use Rattle.model.specs.Prelude.{ℕ, zero, suc, ℕ_discrete, arith, refl, sym, ap, subst, ◌∙◌, List, []}
 use Rattle.model.specs.Base.{Stop, fine, stopped, over₂, walk₂}
 use Rattle.set_storage.specs.{Storage.list_from, Lists.list_ext}
 

@@ -1,5 +1,6 @@
 -- What a change of one texture leaves as it was, and how changes of its mips follow one another.
-use Rattle.model.specs.Prelude.{ℕ, suc, ◌+◌, ◌*◌, ◌/◌, ◌≤◌, ◌<◌, min-le_right, arith, ◌≡◌, refl, ap, ◌∙◌, ◌⊎◌, inl, inr, true, List, ◌++◌}
+use Rattle.std.specs.Prelude.{◌+◌, ◌*◌, ◌/◌, ◌≤◌, ◌<◌, ◌≡◌, ◌⊎◌, ◌++◌}
+use Rattle.model.specs.Prelude.{ℕ, suc, min-le_right, arith, refl, ap, ◌∙◌, inl, inr, true, List}
 use Rattle.model.specs.Prelude.{leb, length, get_or, set, take, drop, get_or-set_same, get_or-set_other, le-leb, leb-true, not-true}
 use Rattle.model.specs.{declared.Range.Range, Sets.{Numbers, numbers_fit, capacity}, BoolLaws.and_both, CheckLaws.inside}
 use Rattle.range_states.specs.View.{decode}

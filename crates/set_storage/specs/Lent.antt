@@ -1,6 +1,7 @@
 -- What is lent for a set, the set that it holds, and whether that is well formed. Nothing is asked of the numbers, nor of how many they
 -- are.
-use Rattle.model.specs.Prelude.{ℕ, ◌/◌, Bool, List, length}
+use Rattle.std.specs.Prelude.{◌/◌}
+use Rattle.model.specs.Prelude.{ℕ, Bool, List, length}
 use Rattle.model.specs.{Sets.{Set, Tracker}, Texture.Held, WellFormed.{well_formed_scope, well_formed_tracker}}
 use Rattle.set_storage.specs.Storage.{scope_of, tracker_of}
 

@@ -1,5 +1,6 @@
 -- Laws of `list_from`: lists made position by position, as the mips of a texture and the slots of a set are.
-use Rattle.model.specs.Prelude.{ℕ, zero, suc, ◌+◌, ◌≤◌, ◌<◌, arith, ◌≡◌, refl, ap, ◌∙◌, length, get_or, set}
+use Rattle.std.specs.Prelude.{◌+◌, ◌≤◌, ◌<◌, ◌≡◌}
+use Rattle.model.specs.Prelude.{ℕ, zero, suc, arith, refl, ap, ◌∙◌, length, get_or, set}
 use Rattle.set_storage.specs.Storage.{list_from}
 
 module _ {A : Type 0} (f g : ℕ → A) where

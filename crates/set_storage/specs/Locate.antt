@@ -1,5 +1,6 @@
 -- Where the ranges of a mip lie: what `locate` asks for and tells.
-use Rattle.model.specs.Prelude.{ℕ, ◌*◌, ◌-◌, ◌≤◌, ◌<◌, arith, ◌≡◌, List, length, get_or}
+use Rattle.std.specs.Prelude.{◌*◌, ◌-◌, ◌≤◌, ◌<◌, ◌≡◌}
+use Rattle.model.specs.Prelude.{ℕ, arith, List, length, get_or}
 use Rattle.set_storage.specs.{declared.Located.Located, Part.{base_of, Within}}
 use Rattle.set_storage.specs.{Storage.{numbers_of, count_at, end_half, layer_limit_at, mip_limit_at}, Frames.{MipReady, within}}
 

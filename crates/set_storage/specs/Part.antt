@@ -1,6 +1,7 @@
 -- A part of a list at a computed place.
-use Rattle.model.specs.Prelude.{ℕ, suc, ◌+◌, ◌*◌, ◌-◌, ◌≤◌, ◌<◌, min, suc-mul, mul-le-mul_right, le-mul_of_pos_right, min-le_left, arith}
-use Rattle.model.specs.Prelude.{◌≡◌, ap, sym, ◌∙◌, ◌⊎◌, inl, inr, List, ◌++◌, length, get_or, take, drop, length-take, length-drop}
+use Rattle.std.specs.Prelude.{◌+◌, ◌*◌, ◌-◌, ◌≤◌, ◌<◌, ◌≡◌, ◌⊎◌, ◌++◌}
+use Rattle.model.specs.Prelude.{ℕ, suc, min, suc-mul, mul-le-mul_right, le-mul_of_pos_right, min-le_left, arith}
+use Rattle.model.specs.Prelude.{ap, sym, ◌∙◌, inl, inr, List, length, get_or, take, drop, length-take, length-drop}
 use Rattle.model.specs.Prelude.{length-append, List_get_D_append, length-take-le, get_or-take, get_or-drop, get_or-append-add, take_at, drop_at}
 use Rattle.model.specs.Prelude.{ext_get_or}
 use Rattle.model.specs.BoolLaws.{by_lt}

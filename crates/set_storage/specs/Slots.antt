@@ -1,5 +1,6 @@
 -- From a change of one texture to the view of the whole set: a scope's, and either half of a tracker's.
-use Rattle.model.specs.Prelude.{ℕ, ◌+◌, ◌≤◌, ◌<◌, arith, ◌≡◌, refl, sym, ap, subst, ◌∙◌, ◌⊎◌, inl, inr, List, length, get_or, set, length-set}
+use Rattle.std.specs.Prelude.{◌+◌, ◌≤◌, ◌<◌, ◌≡◌, ◌⊎◌}
+use Rattle.model.specs.Prelude.{ℕ, arith, refl, sym, ap, subst, ◌∙◌, inl, inr, List, length, get_or, set, length-set}
 use Rattle.model.specs.Prelude.{get_or-set_same, get_or-set_other, eq-eqb, ne_eqb}
 use Rattle.model.specs.{declared.{Range.Range, Extent.Extent}, Sets.{Numbers, Slot, with_slots}, Calls.owning, Texture.{Held, single, many}}
 use Rattle.set_storage.specs.Storage.{half_length, extent_of, start_half, end_half, table_indices, owned_at, mips_at, layers_at, state_at}

@@ -1,5 +1,6 @@
 -- What a change leaves alone: one frame for every list that is lent, the words of a table and the numbers of its ranges alike.
-use Rattle.model.specs.Prelude.{ℕ, suc, ◌+◌, ◌*◌, ◌≤◌, ◌<◌, mul-le-mul_right, arith, ◌≡◌, refl, sym, subst, ◌∙◌, ◌⊎◌, inl, inr, true, List}
+use Rattle.std.specs.Prelude.{◌+◌, ◌*◌, ◌≤◌, ◌<◌, ◌≡◌, ◌⊎◌}
+use Rattle.model.specs.Prelude.{ℕ, suc, mul-le-mul_right, arith, refl, sym, subst, ◌∙◌, inl, inr, true, List}
 use Rattle.model.specs.Prelude.{length, get_or, set, length-set, get_or-set_other}
 use Rattle.model.specs.{Sets.Numbers, BoolLaws.by_lt}
 use Rattle.set_storage.specs.Part.{base_of, block_le, row_lt, part_alike}

@@ -1,6 +1,7 @@
 -- The lent numbers as the model's sets: THE VIEW.
-use Rattle.model.specs.Prelude.{ℕ, zero, suc, ◌+◌, ◌*◌, min, Bool, not, List, [], ◌∷◌, eqb, leb, get_or}
-use Rattle.model.specs.{declared.{Range.Range, UsageFlags.UsageFlags, Extent.Extent}, Base.if◌then◌else◌, Representation.Ends}
+use Rattle.std.specs.Prelude.{◌+◌, ◌*◌, ◌∷◌, if◌then◌else◌}
+use Rattle.model.specs.Prelude.{ℕ, zero, suc, min, Bool, not, List, [], eqb, leb, get_or}
+use Rattle.model.specs.{declared.{Range.Range, UsageFlags.UsageFlags, Extent.Extent}, Representation.Ends}
 use Rattle.model.specs.{Sets.{Numbers, Slot, Set, Tracker}, Texture.{Held, single, many}}
 use Rattle.range_states.specs.View.{decode}
 use Rattle.set_storage.specs.Part.{base_of, part_of}

@@ -1,5 +1,6 @@
 -- A texture of a set in one half of its storage: what every function over it may count on, and what a change elsewhere leaves of that.
-use Rattle.model.specs.Prelude.{ℕ, ◌≤◌, ◌<◌, min-eq_left, arith, ◌≡◌, refl, sym, subst, ◌∙◌, List, [], length, get_or, lt-leb}
+use Rattle.std.specs.Prelude.{◌≤◌, ◌<◌, ◌≡◌}
+use Rattle.model.specs.Prelude.{ℕ, min-eq_left, arith, refl, sym, subst, ◌∙◌, List, [], length, get_or, lt-leb}
 use Rattle.model.specs.{declared.Extent.Extent, Sets.Numbers, RangedStates.Tiles, BoolLaws.by_lt}
 use Rattle.set_storage.specs.Storage.{numbers_of, flags_of, start_half, mips_in, mip_of, count_at, mips_at, layers_at, state_at, complex_at}
 use Rattle.set_storage.specs.Storage.{exclusive_at, layer_limit_at, mip_limit_at, textures_at, uninitialized_at, unknown_at}

@@ -1,5 +1,6 @@
 -- The loop of `ranges_agree`: a layer that both places have reached, and what is left from it on in each list.
-use Rattle.model.specs.Prelude.{ℕ, zero, suc, ◌+◌, ◌-◌, ◌≤◌, ◌<◌, arith, ◌≡◌, refl, sym, ◌∙◌, Bool, true, false, List, [], ◌∷◌, ◌++◌, get_or}
+use Rattle.std.specs.Prelude.{◌+◌, ◌-◌, ◌≤◌, ◌<◌, ◌≡◌, ◌∷◌, ◌++◌}
+use Rattle.model.specs.Prelude.{ℕ, zero, suc, arith, refl, sym, ◌∙◌, Bool, true, false, List, [], get_or}
 use Rattle.model.specs.Prelude.{drop, replicate, slice_empty, le-leb, lt-leb}
 use Rattle.model.specs.{declared.Range.Range, RangedStates.{layer_states, Tiles}, WellFormed.all₂, RangeLaws.tiles_count, BoolLaws.by_lt}
 use Rattle.range_states.specs.View.{view, decode, blank}

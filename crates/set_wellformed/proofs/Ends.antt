@@ -1,5 +1,6 @@
 -- What is known of a mip and of a texture that were tested, and the four cases of start and end.
-use Rattle.model.specs.Prelude.{ℕ, ◌+◌, ◌*◌, ◌-◌, ◌≤◌, ◌<◌, arith, ◌≡◌, refl, sym, ap, ◌∙◌, true, false, false≢true, List, map, eqb, length}
+use Rattle.std.specs.Prelude.{◌+◌, ◌*◌, ◌-◌, ◌≤◌, ◌<◌, ◌≡◌}
+use Rattle.model.specs.Prelude.{ℕ, arith, refl, sym, ap, ◌∙◌, true, false, false≢true, List, map, eqb, length}
 use Rattle.model.specs.Prelude.{get_or, take, drop, replicate, length-drop, length-take-le}
 use Rattle.model.specs.{declared.{Range.Range, UsageFlags.UsageFlags}, Base.every, RangedStates.layer_states, Subresources.subresources}
 use Rattle.model.specs.{WellFormed.{ranges_fit, held_fits, all₂}, BoolLaws.{by_lt, and_both as both}}

@@ -1,5 +1,6 @@
 -- What an index holds, and the set of all indices, as the code tests them.
-use Rattle.model.specs.Prelude.{ℕ, ◌+◌, ◌/◌, ◌≤◌, ◌≡◌, refl, ◌∙◌, Bool, true, false, ◌&&◌, List, leb, length, get_or, eq-eqb}
+use Rattle.std.specs.Prelude.{◌+◌, ◌/◌, ◌≤◌, ◌≡◌, ◌&&◌}
+use Rattle.model.specs.Prelude.{ℕ, refl, ◌∙◌, Bool, true, false, List, leb, length, get_or, eq-eqb}
 use Rattle.model.specs.{declared.{UsageFlags.UsageFlags, Extent.Extent}, Base.every, Flags.flags_fit, Sets.{Numbers, numbers_fit, capacity}}
 use Rattle.model.specs.WellFormed.{single_fits, ranges_fit, held_fits, slot_fits, ends_fit, set_fits, scope_fits, tracker_fits, well_formed_scope}
 use Rattle.model.specs.WellFormed.{well_formed_tracker}

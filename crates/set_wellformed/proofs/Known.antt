@@ -1,6 +1,7 @@
 -- A list with no UNKNOWN range agrees with a state that is not UNKNOWN; and the loop of `ranges_known`.
-use Rattle.model.specs.Prelude.{ℕ, zero, suc, ◌+◌, ◌*◌, ◌-◌, ◌≤◌, ◌<◌, arith, ◌≡◌, refl, sym, ◌∙◌, Bool, true, false, ◌&&◌, not, false≢true}
-use Rattle.model.specs.Prelude.{List, [], ◌∷◌, ◌++◌, map, ltb, eqb, bit_and, and_self, length, get_or, drop, replicate}
+use Rattle.std.specs.Prelude.{◌+◌, ◌*◌, ◌-◌, ◌≤◌, ◌<◌, ◌≡◌, ◌&&◌, ◌∷◌, ◌++◌}
+use Rattle.model.specs.Prelude.{ℕ, zero, suc, arith, refl, sym, ◌∙◌, Bool, true, false, not, false≢true}
+use Rattle.model.specs.Prelude.{List, [], map, ltb, eqb, bit_and, and_self, length, get_or, drop, replicate}
 use Rattle.model.specs.Prelude.{replicate-append-replicate, slice_empty, eqb-true, eqb-false, ltb-true, eq-eqb, ne_eqb, not-true, not-false}
 use Rattle.model.specs.{declared.{Range.Range, UsageFlags.UsageFlags}, Base.every, Flags.{meets, incompatible}}
 use Rattle.model.specs.{RangedStates.{layer_states, Tiles}, WellFormed.{state_fits, single_fits, ranges_fit, same_test, all₂}}

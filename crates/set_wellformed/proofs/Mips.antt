@@ -1,5 +1,6 @@
 -- A mip as the code reads it, and the mips of a texture within its set's.
-use Rattle.model.specs.Prelude.{ℕ, ◌+◌, ◌*◌, ◌-◌, ◌≤◌, ◌<◌, min-eq_left, arith, ◌≡◌, sym, ◌∙◌, false, List, get_or, take, drop, ne_eqb}
+use Rattle.std.specs.Prelude.{◌+◌, ◌*◌, ◌-◌, ◌≤◌, ◌<◌, ◌≡◌}
+use Rattle.model.specs.Prelude.{ℕ, min-eq_left, arith, sym, ◌∙◌, false, List, get_or, take, drop, ne_eqb}
 use Rattle.model.specs.Prelude.{lt-leb}
 use Rattle.model.specs.{declared.UsageFlags.UsageFlags, Sets.Numbers, WellFormed.ranges_fit}
 use Rattle.range_states.specs.View.{decode}

@@ -1,5 +1,6 @@
 -- What the tests of the head tell: numbers within their limits, room for every range, and so storage that can be indexed.
-use Rattle.model.specs.Prelude.{ℕ, zero, suc, ◌*◌, ◌/◌, ◌≤◌, ◌<◌, mul-le-mul_right, arith, ◌≡◌, refl, sym, Bool, true, false, ◌&&◌, not}
+use Rattle.std.specs.Prelude.{◌*◌, ◌/◌, ◌≤◌, ◌<◌, ◌≡◌, ◌&&◌}
+use Rattle.model.specs.Prelude.{ℕ, zero, suc, mul-le-mul_right, arith, refl, sym, Bool, true, false, not}
 use Rattle.model.specs.Prelude.{false≢true, List, leb, ltb, eqb, length, ltb-false, eqb-false}
 use Rattle.model.specs.{BoolLaws.{and_both as both, nor as neither}, Flags.flags_fit, Sets.{outside, numbers_fit, capacity}}
 use Rattle.set_storage.specs.{Storage.{numbers_of, flags_of, table_length, start_half}, Frames.{Measured, measured_of as measured}}

@@ -1,5 +1,6 @@
 -- The words in two parts: where every index is proper, EXCLUSIVE is left of the test, and a union of at most one bit decides it.
-use Rattle.model.specs.Prelude.{ℕ, ◌≤◌, ◌<◌, ◌≡◌, refl, sym, ◌∙◌, Bool, true, false, ◌&&◌, ◌||◌, not, false≢true, List, get_or, not-true}
+use Rattle.std.specs.Prelude.{◌≤◌, ◌<◌, ◌≡◌, ◌&&◌, ◌||◌}
+use Rattle.model.specs.Prelude.{ℕ, refl, sym, ◌∙◌, Bool, true, false, not, false≢true, List, get_or, not-true}
 use Rattle.model.specs.{BoolLaws.and_both as both, Base.every}
 use Rattle.usage.specs.Gathered.{Gathered}
 use Rattle.set_storage.specs.Storage.{flags_of, start_half, end_half, list_from, owned_at}

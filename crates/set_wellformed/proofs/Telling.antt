@@ -1,5 +1,6 @@
 -- What the words of an index tell of the whole test of it.
-use Rattle.model.specs.Prelude.{ℕ, ◌+◌, arith, ◌≡◌, refl, sym, ◌∙◌, Bool, true, false, ◌&&◌, ◌||◌, not, false≢true, List, eqb, get_or}
+use Rattle.std.specs.Prelude.{◌+◌, ◌≡◌, ◌&&◌, ◌||◌}
+use Rattle.model.specs.Prelude.{ℕ, arith, refl, sym, ◌∙◌, Bool, true, false, not, false≢true, List, eqb, get_or}
 use Rattle.model.specs.Prelude.{eqb-true, eqb-false, not-true, not-false}
 use Rattle.model.specs.{BoolLaws.{and_both as both, neither}, Base.every, WellFormed.{single_fits, ranges_fit, held_fits, slot_fits, ends_fit}}
 use Rattle.set_storage.specs.Storage.{numbers_of, flags_of, extent_of, start_half, end_half, mips_of, held_of, ends_of, list_from, complex_at}

@@ -1,5 +1,6 @@
 -- The loop of `ranges_fit`: what is left to test decides.
-use Rattle.model.specs.Prelude.{ℕ, ◌+◌, ◌*◌, ◌≤◌, ◌<◌, arith, ◌≡◌, refl, true, false, List, ◌∷◌, eqb, length, get_or, drop, slice_empty}
+use Rattle.std.specs.Prelude.{◌+◌, ◌*◌, ◌≤◌, ◌<◌, ◌≡◌, ◌∷◌}
+use Rattle.model.specs.Prelude.{ℕ, arith, refl, true, false, List, eqb, length, get_or, drop, slice_empty}
 use Rattle.model.specs.Prelude.{eq-eqb, ne_eqb, lt-ltb, le-ltb}
 use Rattle.model.specs.{declared.{Range.Range, UsageFlags.UsageFlags}, WellFormed.{state_fits, ranges_fit}}
 use Rattle.range_states.specs.View.{view, decode, blank}

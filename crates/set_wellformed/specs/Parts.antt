@@ -1,6 +1,7 @@
 -- Tests of every position of a list, as loops make them, and what the code needs of storage to make them.
-use Rattle.model.specs.Prelude.{ℕ, zero, suc, ◌+◌, ◌/◌, ◌≤◌, ◌<◌, add-one, le_ind, arith, ◌≡◌, refl, sym, ◌∙◌, Bool, true, false, ◌&&◌}
-use Rattle.model.specs.Prelude.{◌||◌, not, and-true, and_assoc, List, leb, not-true, not-false}
+use Rattle.std.specs.Prelude.{◌+◌, ◌/◌, ◌≤◌, ◌<◌, ◌≡◌, ◌&&◌, ◌||◌}
+use Rattle.model.specs.Prelude.{ℕ, zero, suc, add-one, le_ind, arith, refl, sym, ◌∙◌, Bool, true, false}
+use Rattle.model.specs.Prelude.{not, and-true, and_assoc, List, leb, not-true, not-false}
 use Rattle.model.specs.{BoolLaws.and_both as both, Base.every, Flags.flags_fit, Sets.{Numbers, outside, numbers_fit, capacity}}
 use Rattle.model.specs.WellFormed.{held_fits, slot_fits}
 use Rattle.set_storage.specs.{Storage.{scope_slot, numbers_of, flags_of, list_from}, Frames.Measured}

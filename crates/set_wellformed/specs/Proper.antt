@@ -1,5 +1,6 @@
 -- The test of a state in two parts: all but EXCLUSIVE (proper), and EXCLUSIVE (compatible).
-use Rattle.model.specs.Prelude.{ℕ, ◌≤◌, ◌≡◌, refl, sym, ◌∙◌, Bool, true, false, ◌&&◌, not, and-true, and-false, ltb, eqb, bit_or, eqb-false}
+use Rattle.std.specs.Prelude.{◌≤◌, ◌≡◌, ◌&&◌}
+use Rattle.model.specs.Prelude.{ℕ, refl, sym, ◌∙◌, Bool, true, false, not, and-true, and-false, ltb, eqb, bit_or, eqb-false}
 use Rattle.model.specs.Prelude.{ltb-true, not-true}
 use Rattle.model.specs.{declared.UsageFlags.UsageFlags, BoolLaws.{and_both as both, and_left}, Flags.{meets, incompatible}}
 use Rattle.model.specs.WellFormed.{state_fits, single_fits}

@@ -1,6 +1,7 @@
 -- THE CONTRACTS of the test of a whole set: what it returns, and that its table is as long as a table is; and what follows where a call
 -- branches on it.
-use Rattle.model.specs.Prelude.{ℕ, ◌≡◌, sym, ◌∙◌, Bool, true, false, not, ◌&&◌, List, length, not-true, not-false}
+use Rattle.std.specs.Prelude.{◌≡◌, ◌&&◌}
+use Rattle.model.specs.Prelude.{ℕ, sym, ◌∙◌, Bool, true, false, not, List, length, not-true, not-false}
 use Rattle.set_storage.specs.{Lent.{scope_test, tracker_test}, Storage.table_length}
 
 -- of a scope

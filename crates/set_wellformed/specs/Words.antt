@@ -1,5 +1,6 @@
 -- What the table alone tells of an index, as the pass over the words tests it.
-use Rattle.model.specs.Prelude.{ℕ, ◌+◌, ◌≡◌, Bool, ◌&&◌, ◌||◌, not, List, eqb, get_or}
+use Rattle.std.specs.Prelude.{◌+◌, ◌≡◌, ◌&&◌, ◌||◌}
+use Rattle.model.specs.Prelude.{ℕ, Bool, not, List, eqb, get_or}
 use Rattle.model.specs.{declared.UsageFlags.UsageFlags, Base.every, WellFormed.single_fits}
 use Rattle.set_storage.specs.Storage.{flags_of, start_half, end_half, list_from, layer_limit_at, layers_at, mip_limit_at, mips_at, owned_at}
 use Rattle.set_wellformed.specs.{declared.words.Words.Words, Parts.extent_fits, Proper.{single_proper, compatible}, Unknowns.itself}

@@ -1,6 +1,7 @@
 -- The model's `barrier` of a stored texture, by what its word tells: Many, or one state.
-use Rattle.model.specs.Prelude.{ℕ, ◌+◌, ◌-◌, arith, ◌≡◌, refl, Bool, true, false, List, [], ◌∷◌, get_or}
-use Rattle.model.specs.{declared.{Range.Range, Selector.Selector, Extent.Extent, UsageFlags.UsageFlags}, Base.{if◌then◌else◌, each_at}}
+use Rattle.std.specs.Prelude.{◌+◌, ◌-◌, ◌≡◌, ◌∷◌, if◌then◌else◌}
+use Rattle.model.specs.Prelude.{ℕ, arith, refl, Bool, true, false, List, [], get_or}
+use Rattle.model.specs.{declared.{Range.Range, Selector.Selector, Extent.Extent, UsageFlags.UsageFlags}, Base.{each_at}}
 use Rattle.model.specs.{Representation.{full, mip_start, mip_end}, StateRules.move_of, CheckLaws.SelectorWithin}
 use Rattle.model.specs.Texture.{Given, given_single, given_many, from_held, single, many, entry, barrier}
 use Rattle.set_storage.specs.{Storage.{numbers_of, mip_of, list_from, held_of, complex_at}, Slots.{held_many, held_single}}

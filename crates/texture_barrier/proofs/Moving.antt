@@ -1,5 +1,6 @@
 -- One transition in the log: not made, made and counted, made and written.
-use Rattle.model.specs.Prelude.{ℕ, ◌+◌, ◌*◌, ◌≤◌, arith, ◌≡◌, refl, Bool, true, false, List, length}
+use Rattle.std.specs.Prelude.{◌+◌, ◌*◌, ◌≤◌, ◌≡◌}
+use Rattle.model.specs.Prelude.{ℕ, arith, refl, Bool, true, false, List, length}
 use Rattle.model.specs.{declared.{PendingTransition.PendingTransition, Selector.Selector}, Refusals.tracker_index, StateRules.move_of}
 use Rattle.model.specs.Texture.{entry}
 use Rattle.texture_barrier.specs.{Entries.{flatten, PutEntry}, Adds.{entries_at, RoomFor, Adds, adds_none}}

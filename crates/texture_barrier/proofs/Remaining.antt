@@ -1,5 +1,6 @@
 -- What a loop has left of texture i: the entries of a run's ranges from the one at k on, and those of its mips from mip m on.
-use Rattle.model.specs.Prelude.{ℕ, suc, ◌+◌, ◌*◌, ◌-◌, ◌≤◌, ◌<◌, add-one, arith, ◌≡◌, List, length, get_or, drop, slice_empty}
+use Rattle.std.specs.Prelude.{◌+◌, ◌*◌, ◌-◌, ◌≤◌, ◌<◌, ◌≡◌}
+use Rattle.model.specs.Prelude.{ℕ, suc, add-one, arith, List, length, get_or, drop, slice_empty}
 use Rattle.model.specs.{declared.{PendingTransition.PendingTransition, Range.Range}, Base.{each, each_at}, Texture.Entry}
 use Rattle.range_states.specs.View.{view, blank, decode}
 use Rattle.set_storage.specs.Storage.{list_from}

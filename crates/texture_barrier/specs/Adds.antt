@@ -1,7 +1,8 @@
 -- THE FORM OF EVERY CONTRACT: what a function that counts and writes transitions does to the log, and how such steps follow one another.
-use Rattle.model.specs.Prelude.{ℕ, ◌+◌, ◌*◌, ◌≤◌, ◌<◌, arith, ◌≡◌, refl, sym, ap, subst, ◌∙◌, Bool, true, false, List, [], ◌∷◌, ◌++◌}
+use Rattle.std.specs.Prelude.{◌+◌, ◌*◌, ◌≤◌, ◌<◌, ◌≡◌, ◌∷◌, ◌++◌, if◌then◌else◌}
+use Rattle.model.specs.Prelude.{ℕ, arith, refl, sym, ap, subst, ◌∙◌, Bool, true, false, List, []}
 use Rattle.model.specs.Prelude.{append_assoc, append-nil, map-append, length, take, drop, length-append, take-append-drop}
-use Rattle.model.specs.{declared.PendingTransition.PendingTransition, Base.if◌then◌else◌, Log.pending_of, Texture.Entry}
+use Rattle.model.specs.{declared.PendingTransition.PendingTransition, Log.pending_of, Texture.Entry}
 use Rattle.texture_barrier.specs.{Over.{over, over_then}, Entries.{flatten, flatten_long, Added, added_is}}
 
 -- the log has room for new entries after its first n, if they are to be written

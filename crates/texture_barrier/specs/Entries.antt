@@ -1,5 +1,6 @@
 -- A borrowed log as a list of entries: THE VIEW of the log, and what writing entries does to it.
-use Rattle.model.specs.Prelude.{ℕ, zero, suc, ◌+◌, ◌*◌, ◌-◌, ◌/◌, ◌≤◌, ◌<◌, add-one, arith, ◌≡◌, refl, sym, ap, ◌∙◌, List, [], ◌∷◌, ◌++◌}
+use Rattle.std.specs.Prelude.{◌+◌, ◌*◌, ◌-◌, ◌/◌, ◌≤◌, ◌<◌, ◌≡◌, ◌∷◌, ◌++◌}
+use Rattle.model.specs.Prelude.{ℕ, zero, suc, add-one, arith, refl, sym, ap, ◌∙◌, List, []}
 use Rattle.model.specs.Prelude.{append_assoc, length, get_or, take, drop, set, length-drop, take-append-drop, List_get_D_append, take-add}
 use Rattle.model.specs.Prelude.{drop_at, drop-drop, get_or-drop, length-take-le, set_split, sets, sets-eq}
 use Rattle.model.specs.{declared.PendingTransition.PendingTransition, Representation.{select, mip_start, mip_end, layer_start, layer_end}}

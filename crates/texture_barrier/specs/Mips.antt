@@ -1,5 +1,6 @@
 -- Lists made mip by mip: laws of the model's `each` and `each_at` over `list_from`.
-use Rattle.model.specs.Prelude.{ℕ, zero, suc, ◌+◌, ◌-◌, ◌≤◌, ◌<◌, arith, ◌≡◌, refl, ap, ◌∙◌, List, [], ◌++◌, append-nil}
+use Rattle.std.specs.Prelude.{◌+◌, ◌-◌, ◌≤◌, ◌<◌, ◌≡◌, ◌++◌}
+use Rattle.model.specs.Prelude.{ℕ, zero, suc, arith, refl, ap, ◌∙◌, List, [], append-nil}
 use Rattle.model.specs.Base.{each_at}
 use Rattle.set_storage.specs.Storage.{list_from}
 

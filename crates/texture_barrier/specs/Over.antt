@@ -1,5 +1,6 @@
 -- A list written over another from a place on: what the log's numbers and its entries both become.
-use Rattle.model.specs.Prelude.{ℕ, ◌+◌, ◌≤◌, arith, ◌≡◌, sym, ap, ◌∙◌, List, ◌++◌, append_assoc, length, take, drop, length-append}
+use Rattle.std.specs.Prelude.{◌+◌, ◌≤◌, ◌≡◌, ◌++◌}
+use Rattle.model.specs.Prelude.{ℕ, arith, sym, ap, ◌∙◌, List, append_assoc, length, take, drop, length-append}
 use Rattle.model.specs.Prelude.{length-drop, take_at, drop_at, drop-drop, length-take-le}
 
 abbrev pub over : {A : Type 0} → List A → ℕ → List A → List A

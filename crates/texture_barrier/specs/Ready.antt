@@ -1,5 +1,6 @@
 -- What the functions over one texture may count on, and where the ranges of a mip are found.
-use Rattle.model.specs.Prelude.{ℕ, ◌+◌, ◌-◌, ◌≤◌, ◌<◌, arith, ◌≡◌, sym, List, length, get_or, take, drop, length-drop, length-take-le}
+use Rattle.std.specs.Prelude.{◌+◌, ◌-◌, ◌≤◌, ◌<◌, ◌≡◌}
+use Rattle.model.specs.Prelude.{ℕ, arith, sym, List, length, get_or, take, drop, length-drop, length-take-le}
 use Rattle.model.specs.{declared.{Extent.Extent, Range.Range}, Base.each_at, Texture.Entry}
 use Rattle.range_states.specs.View.{decode}
 use Rattle.set_storage.specs.{declared.Located.Located, Part.part_of, Storage.{numbers_of, mips_in, count_at, mip_of, list_from, complex_at}}

@@ -1,7 +1,8 @@
 -- The entries that one step adds, in the model's words.
-use Rattle.model.specs.Prelude.{ℕ, suc, ◌+◌, ◌*◌, ◌≤◌, ◌<◌, ◌≡◌, refl, sym, ap, ◌∙◌, Bool, true, false, ◌||◌, not, Option, none, some, List}
-use Rattle.model.specs.Prelude.{[], ◌∷◌, ◌++◌, eqb, length}
-use Rattle.model.specs.{declared.{Range.Range, Selector.Selector}, Base.{if◌then◌else◌, each}, Representation.select}
+use Rattle.std.specs.Prelude.{◌+◌, ◌*◌, ◌≤◌, ◌<◌, ◌≡◌, ◌||◌, ◌∷◌, ◌++◌, if◌then◌else◌}
+use Rattle.model.specs.Prelude.{ℕ, suc, refl, sym, ap, ◌∙◌, Bool, true, false, not, Option, none, some, List}
+use Rattle.model.specs.Prelude.{[], eqb, length}
+use Rattle.model.specs.{declared.{Range.Range, Selector.Selector}, Base.{each}, Representation.select}
 use Rattle.model.specs.{RangedStates.iter_filter, StateRules.{Move, move_of, skip_barrier}, Texture.{Entry, entry, mip_entries}}
 use Rattle.range_states.specs.Filtering.{overlaps, clip}
 use Rattle.texture_barrier.specs.{declared.mip.Change.Change, declared.mip.Step.Step}

@@ -1,8 +1,9 @@
 -- The model's `barrier` of one texture, by cases, as the code adds its entries mip by mip.
-use Rattle.model.specs.Prelude.{ℕ, suc, ◌-◌, ◌≤◌, ◌<◌, arith, ◌≡◌, refl, ◌∙◌, Bool, true, false, ◌&&◌, List, [], ◌∷◌, map, append-nil, leb}
+use Rattle.std.specs.Prelude.{◌-◌, ◌≤◌, ◌<◌, ◌≡◌, ◌&&◌, ◌∷◌, if◌then◌else◌}
+use Rattle.model.specs.Prelude.{ℕ, suc, arith, refl, ◌∙◌, Bool, true, false, List, [], map, append-nil, leb}
 use Rattle.model.specs.Prelude.{le-leb, lt-leb, lt-ltb, le-ltb}
 use Rattle.model.specs.declared.{PendingTransition.PendingTransition, Range.Range, Selector.Selector, Extent.Extent, UsageFlags.UsageFlags}
-use Rattle.model.specs.{Base.{if◌then◌else◌, each, each_at}, Refusals.tracker_index, RangedStates.range}
+use Rattle.model.specs.{Base.{each, each_at}, Refusals.tracker_index, RangedStates.range}
 use Rattle.model.specs.{Representation.{select, full, mip_start, mip_end, layer_start, layer_end, in_mips}, StateRules.move_of}
 use Rattle.model.specs.Texture.{single, many, Piece, Given, given_single, given_many, pieces_of, Entry, entry, barrier}
 use Rattle.model.specs.ListLaws.{each_map, each_at_lem, each_ext, at_ext}

@@ -3,7 +3,7 @@
 // A texture is held as Many where its word tells COMPLEX (the tracker's table and the given one each have the word), otherwise the word
 // is its one state.
 ghost use Rattle.std.specs.Prelude.{◌≡◌, true, [], ◌∷◌, ◌≤◌, ◌<◌};
-ghost use Rattle.model.specs.Base.{if◌then◌else◌};
+ghost use Rattle.std.specs.Prelude.{if◌then◌else◌};
 ghost use Rattle.model.specs.CheckLaws.{SelectorWithin};
 ghost use Rattle.model.specs.Representation.{full as full_of};
 ghost use Rattle.model.specs.StateRules.{move_of};

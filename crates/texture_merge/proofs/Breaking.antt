@@ -1,5 +1,6 @@
 -- A texture becomes Many: its state tells COMPLEX, its mips are made anew, and those are changed by g.
-use Rattle.model.specs.Prelude.{ℕ, ◌+◌, arith, ◌≡◌, sym, ap, subst, ◌∙◌, List, [], ◌∷◌, get_or, set, replicate, get_or-set_same}
+use Rattle.std.specs.Prelude.{◌+◌, ◌≡◌, ◌∷◌}
+use Rattle.model.specs.Prelude.{ℕ, arith, sym, ap, subst, ◌∙◌, List, [], get_or, set, replicate, get_or-set_same}
 use Rattle.model.specs.{declared.{UsageFlags.UsageFlags, Extent.Extent, Range.Range}, Sets.Numbers, RangedStates.range}
 use Rattle.model.specs.Texture.{many, fresh_mips}
 use Rattle.set_storage.specs.{Storage.{numbers_of, flags_of, mips_of, complex_at, layers_at}, Stays.{HalfFrame, keeps_then}}

@@ -1,5 +1,6 @@
 -- What is given to a texture, range by range and mip by mip, while it keeps its layers and its mips.
-use Rattle.model.specs.Prelude.{ℕ, zero, suc, ◌+◌, ◌≤◌, ◌<◌, add-one, arith, ◌≡◌, sym, ap, subst, ◌∙◌, List, [], ◌∷◌, length, get_or, drop}
+use Rattle.std.specs.Prelude.{◌+◌, ◌≤◌, ◌<◌, ◌≡◌, ◌∷◌}
+use Rattle.model.specs.Prelude.{ℕ, zero, suc, add-one, arith, sym, ap, subst, ◌∙◌, List, [], length, get_or, drop}
 use Rattle.model.specs.Prelude.{drop_of_length-le, drop-cons, get_or-take, length-take-le}
 use Rattle.model.specs.{declared.Range.Range, Sets.Numbers, Representation.select, RangedStates.Tiles, RangeLaws.tiles_le}
 use Rattle.range_states.specs.View.{view, blank, decode, view_long}

@@ -1,5 +1,6 @@
 -- One lap of a loop over the mips of a texture, with any step: what the step needs holds, and what it leaves is the next place of the loop.
-use Rattle.model.specs.Prelude.{ℕ, ◌+◌, ◌≤◌, ◌<◌, arith, ◌≡◌, refl, sym, subst, ◌∙◌, Option, none, some, List, get_or, set, replicate}
+use Rattle.std.specs.Prelude.{◌+◌, ◌≤◌, ◌<◌, ◌≡◌}
+use Rattle.model.specs.Prelude.{ℕ, arith, refl, sym, subst, ◌∙◌, Option, none, some, List, get_or, set, replicate}
 use Rattle.model.specs.Prelude.{drop_of_length-le}
 use Rattle.model.specs.{declared.{Range.Range, Selector.Selector, InvalidUse.InvalidUse}, Base.{Stop, fine, walk}, Texture.on_mips}
 use Rattle.model.specs.{Sets.Numbers, Representation.{mip_start, mip_end, layer_start, layer_end}, RangedStates.Tiles}

@@ -1,5 +1,6 @@
 -- The loops over the ranges of a given mip, and over the given mips: what each lap needs, and where it leaves the storage.
-use Rattle.model.specs.Prelude.{ℕ, suc, ◌+◌, ◌≤◌, ◌<◌, add-one, arith, ◌≡◌, sym, subst, none, some, List, map, length, get_or, drop}
+use Rattle.std.specs.Prelude.{◌+◌, ◌≤◌, ◌<◌, ◌≡◌}
+use Rattle.model.specs.Prelude.{ℕ, suc, add-one, arith, sym, subst, none, some, List, map, length, get_or, drop}
 use Rattle.model.specs.{declared.{UsageFlags.UsageFlags, Range.Range, InvalidUse.InvalidUse}, Base.{Stop, and_then, passes}}
 use Rattle.model.specs.{Representation.select, Texture.pieces_of}
 use Rattle.range_states.specs.View.{view, blank, decode}

@@ -1,5 +1,6 @@
 -- `insert` and `merge` of a texture of another set, case by case: what the code leaves is what the model gives.
-use Rattle.model.specs.Prelude.{ℕ, ◌+◌, ◌<◌, arith, ◌≡◌, refl, sym, ap, subst, ◌∙◌, none, some, List, [], ◌∷◌, get_or, set, replicate}
+use Rattle.std.specs.Prelude.{◌+◌, ◌<◌, ◌≡◌, ◌∷◌}
+use Rattle.model.specs.Prelude.{ℕ, arith, refl, sym, ap, subst, ◌∙◌, none, some, List, [], get_or, set, replicate}
 use Rattle.model.specs.{declared.{UsageFlags.UsageFlags, Extent.Extent, Range.Range, InvalidUse.InvalidUse}, Base.{Stop, passes}}
 use Rattle.model.specs.{Sets.Numbers, RangedStates.range}
 use Rattle.model.specs.Texture.{single, many, Given, given_single, pieces_of, from_held, fresh_mips, paint_all, insert, spread_piece, merge}

@@ -1,5 +1,6 @@
 -- `merge` of one use, case by case: what the code leaves is what the model's merge gives.
-use Rattle.model.specs.Prelude.{ℕ, ◌+◌, ◌≡◌, refl, sym, ap, subst, ◌∙◌, Bool, true, false, none, some, List, bit_or, get_or, set}
+use Rattle.std.specs.Prelude.{◌+◌, ◌≡◌}
+use Rattle.model.specs.Prelude.{ℕ, refl, sym, ap, subst, ◌∙◌, Bool, true, false, none, some, List, bit_or, get_or, set}
 use Rattle.model.specs.declared.{UsageFlags.UsageFlags, Extent.Extent, Selector.Selector, Range.Range, InvalidUse.InvalidUse}
 use Rattle.model.specs.{Base.{Stop, walk}, StateRules.unite, Texture.{Held, single, many, merge_mip, merge_every, invalid_use, as_many, merge}}
 use Rattle.set_storage.specs.{Storage.{numbers_of, mips_of, held_of, complex_at}, Stays.keeps_refl}

@@ -1,5 +1,6 @@
 -- A texture of another set, given to one half: what is asked for.
-use Rattle.model.specs.Prelude.{ℕ, ◌+◌, arith, ◌≡◌, refl, sym, ap, ◌∙◌, true, List, bit_or, get_or}
+use Rattle.std.specs.Prelude.{◌+◌, ◌≡◌}
+use Rattle.model.specs.Prelude.{ℕ, arith, refl, sym, ap, ◌∙◌, true, List, bit_or, get_or}
 use Rattle.model.specs.{declared.{UsageFlags.UsageFlags, Extent.Extent}, Representation.full}
 use Rattle.model.specs.Texture.{given_single, given_many, pieces_of, from_held}
 use Rattle.set_storage.specs.{Storage.{numbers_of, flags_of, mips_of, held_of, complex_at}, Slots.{held_many, held_single}}

@@ -1,6 +1,7 @@
 -- The pieces of another texture, given one after another to the mips of a texture in storage: what is left to give decides.
-use Rattle.model.specs.Prelude.{ℕ, zero, suc, ◌*◌, ◌≤◌, ◌<◌, arith, ◌≡◌, refl, sym, ap, subst, ◌∙◌, Bool, true, false, Option, none, some}
-use Rattle.model.specs.Prelude.{Option_map, List, [], ◌∷◌, ◌++◌, map, length, get_or}
+use Rattle.std.specs.Prelude.{◌*◌, ◌≤◌, ◌<◌, ◌≡◌, ◌∷◌, ◌++◌}
+use Rattle.model.specs.Prelude.{ℕ, zero, suc, arith, refl, sym, ap, subst, ◌∙◌, Bool, true, false, Option, none, some}
+use Rattle.model.specs.Prelude.{Option_map, List, [], map, length, get_or}
 use Rattle.model.specs.declared.{UsageFlags.UsageFlags, Selector.Selector, Range.Range, InvalidUse.InvalidUse}
 use Rattle.model.specs.{Base.{each_at, Stop, fine, ruled, and_then, onward, passes, walk}, StateRules.{unite, end_after}, Sets.Numbers}
 use Rattle.model.specs.{Representation.{select, layer_start, layer_end, in_mips}, RangedStates.{paint, Tiles}}

@@ -1,6 +1,7 @@
 -- What the code needs of a mip, or of all mips of a texture, to change it in place, and what it leaves: the part of the ranges that is lent
 -- on.
-use Rattle.model.specs.Prelude.{ℕ, ◌+◌, ◌*◌, ◌-◌, ◌≤◌, ◌<◌, arith, ◌≡◌, sym, ap, subst, ◌∙◌, List, [], ◌∷◌, ◌++◌, length, get_or, set, take}
+use Rattle.std.specs.Prelude.{◌+◌, ◌*◌, ◌-◌, ◌≤◌, ◌<◌, ◌≡◌, ◌∷◌, ◌++◌}
+use Rattle.model.specs.Prelude.{ℕ, arith, sym, ap, subst, ◌∙◌, List, [], length, get_or, set, take}
 use Rattle.model.specs.Prelude.{drop, get_or-replicate}
 use Rattle.model.specs.{declared.{Extent.Extent, Range.Range, Selector.Selector}, Representation.{mip_start, mip_end, layer_start, layer_end}}
 use Rattle.model.specs.{Sets.Numbers, RangedStates.{range, coalesce, paint, Tiles}, Texture.{on_mips, fresh_mips}, CheckLaws.SelectorWithin}

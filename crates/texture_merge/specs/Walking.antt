@@ -1,8 +1,9 @@
 -- A walk over a list that is changed in place: what is done, then what is left; and walks that no conflict stops.
-use Rattle.model.specs.Prelude.{ℕ, zero, suc, ◌+◌, ◌≤◌, ◌<◌, add-one, arith, ◌≡◌, refl, sym, ◌∙◌, Bool, true, false, ◌&&◌, none, some, List}
-use Rattle.model.specs.Prelude.{[], ◌∷◌, ◌++◌, append_assoc, leb, length, get_or, set, take, drop, replicate, take-append-drop, take-suc}
+use Rattle.std.specs.Prelude.{◌+◌, ◌≤◌, ◌<◌, ◌≡◌, ◌&&◌, ◌∷◌, ◌++◌, if◌then◌else◌}
+use Rattle.model.specs.Prelude.{ℕ, zero, suc, add-one, arith, refl, sym, ◌∙◌, Bool, true, false, none, some, List}
+use Rattle.model.specs.Prelude.{[], append_assoc, leb, length, get_or, set, take, drop, replicate, take-append-drop, take-suc}
 use Rattle.model.specs.Prelude.{drop-cons, drop-set-lt, take-suc-set, set_split, get_or-set_other, le-leb, lt-leb, lt-ltb, le-ltb}
-use Rattle.model.specs.{declared.{Range.Range, Selector.Selector}, Base.{if◌then◌else◌, Stop, fine, onward, walk}}
+use Rattle.model.specs.{declared.{Range.Range, Selector.Selector}, Base.{Stop, fine, onward, walk}}
 use Rattle.model.specs.{Representation.{mip_start, mip_end, in_mips}, Texture.on_mips}
 
 module _ {C A : Type 0} (f : ℕ → A → Stop C A) where

@@ -1,5 +1,6 @@
 -- A walk over the mips of a texture, in place, that stops at the first conflict: the storage on the way.
-use Rattle.model.specs.Prelude.{ℕ, ◌+◌, ◌≤◌, ◌<◌, arith, ◌≡◌, sym, ap, ◌∙◌, Option, none, some, List, [], length, get_or, set, drop}
+use Rattle.std.specs.Prelude.{◌+◌, ◌≤◌, ◌<◌, ◌≡◌}
+use Rattle.model.specs.Prelude.{ℕ, arith, sym, ap, ◌∙◌, Option, none, some, List, [], length, get_or, set, drop}
 use Rattle.model.specs.{declared.{Range.Range, InvalidUse.InvalidUse}, Base.{Stop, fine, walk}, Sets.Numbers}
 use Rattle.set_storage.specs.{Storage.{mips_in, mip_of, mips_of, mips_at, start_half}, Stays.{Frame, keeps_refl, keeps_then}}
 use Rattle.set_storage.specs.Frames.{Measured, MipsBecome, MipReady, frame_below, measured_then, mips_same, mips_top, mip_at, mips_long}

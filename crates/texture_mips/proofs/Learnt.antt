@@ -1,5 +1,6 @@
 -- The loop of `learn`: what is left to learn, from here, is what was to learn from the start.
-use Rattle.model.specs.Prelude.{ℕ, ◌+◌, ◌*◌, ◌≤◌, ◌<◌, arith, ◌≡◌, refl, sym, ◌∙◌, List, [], ◌∷◌, length, get_or, drop, slice_empty, eq-eqb}
+use Rattle.std.specs.Prelude.{◌+◌, ◌*◌, ◌≤◌, ◌<◌, ◌≡◌, ◌∷◌}
+use Rattle.model.specs.Prelude.{ℕ, arith, refl, sym, ◌∙◌, List, [], length, get_or, drop, slice_empty, eq-eqb}
 use Rattle.model.specs.Prelude.{ne_eqb}
 use Rattle.model.specs.{declared.Range.Range, RangedStates.{coalesce, paint}, Texture.learn}
 use Rattle.range_states.specs.View.{view, decode, blank}

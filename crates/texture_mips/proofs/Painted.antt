@@ -1,5 +1,6 @@
 -- A run that takes one state, and a mip made anew.
-use Rattle.model.specs.Prelude.{ℕ, ◌*◌, ◌≤◌, arith, ◌≡◌, refl, ap, ◌∙◌, Bool, false, List, [], ◌∷◌, ◌++◌, map, length, drop, take-suc-set}
+use Rattle.std.specs.Prelude.{◌*◌, ◌≤◌, ◌≡◌, ◌∷◌, ◌++◌}
+use Rattle.model.specs.Prelude.{ℕ, arith, refl, ap, ◌∙◌, Bool, false, List, [], map, length, drop, take-suc-set}
 use Rattle.model.specs.{declared.Range.Range, RangedStates.{range, in_state, isolate, coalesce, paint}}
 use Rattle.range_states.specs.{View.{view, decode, Put, Becomes, view_long, becomes_live}, Coalescing.Coalesced}
 use Rattle.range_isolate.specs.{declared.isolation.Isolated.Isolated, Isolation.Isolating}

@@ -1,5 +1,6 @@
 -- A loop over the records from `from` up to `to` that changes each and stops at the first where a test says so, over plain lists.
-use Rattle.model.specs.Prelude.{ℕ, suc, ◌+◌, ◌*◌, ◌≤◌, ◌<◌, add-one, arith, ◌≡◌, refl, sym, ◌∙◌, Bool, true, false, List, [], ◌∷◌, ◌++◌}
+use Rattle.std.specs.Prelude.{◌+◌, ◌*◌, ◌≤◌, ◌<◌, ◌≡◌, ◌∷◌, ◌++◌}
+use Rattle.model.specs.Prelude.{ℕ, suc, add-one, arith, refl, sym, ◌∙◌, Bool, true, false, List, []}
 use Rattle.model.specs.Prelude.{append_assoc, length, get_or, take, drop, take-append-drop, length-append, length-drop, drop-set-lt}
 use Rattle.model.specs.Prelude.{take-suc-set, slice-cons, slice_empty, length-take-le}
 use Rattle.model.specs.declared.{Range.Range}

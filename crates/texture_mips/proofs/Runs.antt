@@ -1,5 +1,6 @@
 -- A run of ranges in the middle of a mip is changed, and what is before and after it stays.
-use Rattle.model.specs.Prelude.{ℕ, ◌+◌, ◌*◌, ◌-◌, ◌≤◌, arith, ◌≡◌, sym, ap, ◌∙◌, List, ◌++◌, append_assoc, length, take, drop, replicate}
+use Rattle.std.specs.Prelude.{◌+◌, ◌*◌, ◌-◌, ◌≤◌, ◌≡◌, ◌++◌}
+use Rattle.model.specs.Prelude.{ℕ, arith, sym, ap, ◌∙◌, List, append_assoc, length, take, drop, replicate}
 use Rattle.model.specs.Prelude.{length-append, take-take, take_at, drop_at, take-add, length-take-le, take-append-add}
 use Rattle.model.specs.{declared.Range.Range, RangedStates.coalesce}
 use Rattle.range_states.specs.{View.{view, blank, decode, Becomes, view_long, becomes_live}, Coalescing.Coalesced}

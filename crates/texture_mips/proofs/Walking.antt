@@ -1,7 +1,8 @@
 -- The pass of `merge_run` is the model's walk; the mip is coalesced where nothing stopped it.
-use Rattle.model.specs.Prelude.{ℕ, suc, ◌+◌, ◌*◌, ◌≤◌, ◌<◌, arith, ◌≡◌, refl, sym, ap, ◌∙◌, Bool, true, false, Option, none, some}
-use Rattle.model.specs.Prelude.{Option_map, List, [], ◌∷◌, ◌++◌, append-nil, length, get_or, length-take-le, get_or-append-add, get_or-take}
-use Rattle.model.specs.{declared.{Range.Range, UsageFlags.UsageFlags, InvalidUse.InvalidUse}, Base.{if◌then◌else◌, Stop, walk}}
+use Rattle.std.specs.Prelude.{◌+◌, ◌*◌, ◌≤◌, ◌<◌, ◌≡◌, ◌∷◌, ◌++◌, if◌then◌else◌}
+use Rattle.model.specs.Prelude.{ℕ, suc, arith, refl, sym, ap, ◌∙◌, Bool, true, false, Option, none, some}
+use Rattle.model.specs.Prelude.{Option_map, List, [], append-nil, length, get_or, length-take-le, get_or-append-add, get_or-take}
+use Rattle.model.specs.{declared.{Range.Range, UsageFlags.UsageFlags, InvalidUse.InvalidUse}, Base.{Stop, walk}}
 use Rattle.model.specs.{StateRules.unite_known, RangedStates.{in_state, Cut, isolate}, Representation.select}
 use Rattle.model.specs.Texture.{invalid_use, merge_range, merge_every, settled}
 use Rattle.range_states.specs.{View.{view, blank, decode, Becomes, view_long, becomes_live}, Coalescing.Coalesced}

@@ -1,5 +1,6 @@
 -- A mip that tiles its layers goes on tiling them under every function here, and has room for it with as many records as layers.
-use Rattle.model.specs.Prelude.{ℕ, suc, ◌*◌, ◌≤◌, ◌<◌, arith, ◌≡◌, refl, Option, none, some, List, [], ◌∷◌, ◌++◌, eqb, length}
+use Rattle.std.specs.Prelude.{◌*◌, ◌≤◌, ◌<◌, ◌≡◌, ◌∷◌, ◌++◌}
+use Rattle.model.specs.Prelude.{ℕ, suc, arith, refl, Option, none, some, List, [], eqb, length}
 use Rattle.model.specs.{declared.{Range.Range, UsageFlags.UsageFlags}, Base.walk, StateRules.unite_known}
 use Rattle.model.specs.{RangedStates.{isolate, paint, coalesce, Tiles}, Texture.{merge_range, settled, learn}, BoolLaws.by_test}
 use Rattle.model.specs.RangeLaws.{tiles_append, isolate_cuts, isolate_few, paint_tiles, coalesce_tiles}

@@ -1,6 +1,7 @@
 -- The room that a mip of the start needs while it learns.
-use Rattle.model.specs.Prelude.{ℕ, ◌*◌, ◌≤◌, ◌≡◌, List, [], ◌∷◌, eqb, length}
-use Rattle.model.specs.{declared.Range.Range, Base.if◌then◌else◌, RangedStates.{list_of, isolate, paint, coalesce}}
+use Rattle.std.specs.Prelude.{◌*◌, ◌≤◌, ◌≡◌, ◌∷◌, if◌then◌else◌}
+use Rattle.model.specs.Prelude.{ℕ, List, [], eqb, length}
+use Rattle.model.specs.{declared.Range.Range, RangedStates.{list_of, isolate, paint, coalesce}}
 use Rattle.range_states.specs.View.{decode}
 
 -- what the start is after one range of the end: the step of the model's `learn`

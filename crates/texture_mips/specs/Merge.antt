@@ -1,5 +1,6 @@
 -- The contracts of the merges on one mip, over the model's walk.
-use Rattle.model.specs.Prelude.{ℕ, suc, ◌*◌, ◌≤◌, ◌≡◌, Bool, true, false, Option, none, some, List, ◌++◌, length}
+use Rattle.std.specs.Prelude.{◌*◌, ◌≤◌, ◌≡◌, ◌++◌}
+use Rattle.model.specs.Prelude.{ℕ, suc, Bool, true, false, Option, none, some, List, length}
 use Rattle.model.specs.{declared.{Range.Range, UsageFlags.UsageFlags, InvalidUse.InvalidUse}, Base.{Stop, fine, walk}}
 use Rattle.model.specs.{StateRules.unite_known, Representation.{select, layer_start, layer_end, in_mips}, RangedStates.{in_state, isolate}}
 use Rattle.model.specs.Texture.{Piece, invalid_use, merge_range, settled, merge_mip, merge_every}

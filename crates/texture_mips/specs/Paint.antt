@@ -1,5 +1,6 @@
 -- The contracts of what gives a run one state.
-use Rattle.model.specs.Prelude.{ℕ, ◌*◌, ◌≤◌, ◌≡◌, List, length}
+use Rattle.std.specs.Prelude.{◌*◌, ◌≤◌, ◌≡◌}
+use Rattle.model.specs.Prelude.{ℕ, List, length}
 use Rattle.model.specs.declared.{Range.Range}
 use Rattle.range_states.specs.View.{decode}
 

@@ -1,6 +1,7 @@
 -- A pass that changes each range in turn and stops at the first where a test says so: the contract of a loop over a run.
-use Rattle.model.specs.Prelude.{ℕ, zero, suc, ◌+◌, ◌≤◌, ◌≡◌, Bool, List, [], ◌∷◌, ◌++◌, drop}
-use Rattle.model.specs.{declared.Range.Range, Base.if◌then◌else◌}
+use Rattle.std.specs.Prelude.{◌+◌, ◌≤◌, ◌≡◌, ◌∷◌, ◌++◌, if◌then◌else◌}
+use Rattle.model.specs.Prelude.{ℕ, zero, suc, Bool, List, [], drop}
+use Rattle.model.specs.{declared.Range.Range}
 use Rattle.range_states.specs.View.{decode, Becomes}
 
 -- each element changed by f, up to the first at which `stop` holds; and how many those are

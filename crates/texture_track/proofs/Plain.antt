@@ -1,5 +1,6 @@
 -- A Single texture of a tracker, where the given set holds a Single one: its transitions and what it becomes.
-use Rattle.model.specs.Prelude.{ℕ, ◌+◌, ◌≡◌, sym, ap, ◌∙◌, true, not, List, eqb, get_or, set, ne_eqb, eqb-false, not-true}
+use Rattle.std.specs.Prelude.{◌+◌, ◌≡◌}
+use Rattle.model.specs.Prelude.{ℕ, sym, ap, ◌∙◌, true, not, List, eqb, get_or, set, ne_eqb, eqb-false, not-true}
 use Rattle.model.specs.{declared.UsageFlags.UsageFlags, Texture.barrier, BoolLaws.and_both as both}
 use Rattle.set_storage.specs.{Storage.{numbers_of, end_half, complex_at, owned_at, state_at, tracker_slot}, Stays.OnlyOwned, Slots.held_single}
 use Rattle.texture_update.specs.FromSet.{from_use_lem}

@@ -1,6 +1,7 @@
 -- One texture of a tracker and what a given set holds at its index: the transitions, and what is asked for where the set owns the index.
-use Rattle.model.specs.Prelude.{ℕ, ◌+◌, ◌≡◌, Bool, ◌&&◌, not, List, [], eqb, get_or}
-use Rattle.model.specs.{declared.{UsageFlags.UsageFlags, Extent.Extent}, Base.if◌then◌else◌, Representation.{Ends, full}, StateRules.move_of}
+use Rattle.std.specs.Prelude.{◌+◌, ◌≡◌, ◌&&◌, if◌then◌else◌}
+use Rattle.model.specs.Prelude.{ℕ, Bool, not, List, [], eqb, get_or}
+use Rattle.model.specs.{declared.{UsageFlags.UsageFlags, Extent.Extent}, Representation.{Ends, full}, StateRules.move_of}
 use Rattle.model.specs.{Sets.Slot, Calls.set_given, Texture.{Held, Given, Entry, entry, from_held, barrier, ranged}}
 use Rattle.set_storage.specs.Storage.{numbers_of, flags_of, extent_of, owned_of, end_half, held_of, slot_with, complex_at}
 use Rattle.set_ready.specs.{Half.{HalfReady, BothReady}, Given.{given_at, HalfGiven, WhereOwned}}

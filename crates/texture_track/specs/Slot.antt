@@ -1,6 +1,7 @@
 -- One texture of a tracker: the contracts of its change and of its transitions.
-use Rattle.model.specs.Prelude.{ℕ, arith, ◌≡◌, refl, subst, Bool, true, false, List, [], ◌∷◌, append-nil, get_or, set, ne_eqb, eq-eqb}
-use Rattle.model.specs.{declared.{UsageFlags.UsageFlags, Extent.Extent}, Base.if◌then◌else◌, Representation.Ends}
+use Rattle.std.specs.Prelude.{◌≡◌, ◌∷◌, if◌then◌else◌}
+use Rattle.model.specs.Prelude.{ℕ, arith, refl, subst, Bool, true, false, List, [], append-nil, get_or, set, ne_eqb, eq-eqb}
+use Rattle.model.specs.{declared.{UsageFlags.UsageFlags, Extent.Extent}, Representation.Ends}
 use Rattle.model.specs.{Sets.{Numbers, Slot, with_tracker}, Calls.{set_slot, log_slot}, Log.pending}
 use Rattle.model.specs.Texture.{Held, Given, Entry, insert, update, barrier, ranged}
 use Rattle.set_storage.specs.Storage.{numbers_of, start_half, end_half, ends_of, slot_with, tracker_of, mask_at, owned_at, tracker_slot}

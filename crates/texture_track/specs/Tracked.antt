@@ -1,5 +1,6 @@
 -- THE CONTRACT of a tracker's call: the answer, and the content of what was lent; and what it is check by check.
-use Rattle.model.specs.Prelude.{ℕ, ◌/◌, ◌≡◌, refl, Bool, true, false, List, length}
+use Rattle.std.specs.Prelude.{◌/◌, ◌≡◌}
+use Rattle.model.specs.Prelude.{ℕ, refl, Bool, true, false, List, length}
 use Rattle.model.specs.declared.Refusal.TheVariants.{NotWellFormed, LogTooShort}
 use Rattle.model.specs.declared.{Answered.Answered, InvalidUse.InvalidUse, LogHead.LogHead, PendingTransition.PendingTransition}
 use Rattle.model.specs.{declared.Refusal.Refusal, Sets.Tracker, Calls.{CallResult, done}, Log.pending, Texture.{Held, Entry}}

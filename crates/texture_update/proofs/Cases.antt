@@ -1,5 +1,6 @@
 -- `update` of one use, case by case: what the code leaves is what the model's update gives.
-use Rattle.model.specs.Prelude.{ℕ, arith, ◌≡◌, refl, sym, ap, subst, ◌∙◌, false, List, get_or, set}
+use Rattle.std.specs.Prelude.{◌≡◌}
+use Rattle.model.specs.Prelude.{ℕ, arith, refl, sym, ap, subst, ◌∙◌, false, List, get_or, set}
 use Rattle.model.specs.{declared.{UsageFlags.UsageFlags, Extent.Extent, Selector.Selector, Range.Range}, Representation.Ends}
 use Rattle.model.specs.Texture.{Held, single, many, Given, given_single, learn_all, met_by, update}
 use Rattle.set_storage.specs.Storage.{numbers_of, start_half, end_half, mips_of, held_of, ends_of, complex_at, state_at}

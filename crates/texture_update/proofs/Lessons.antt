@@ -1,5 +1,6 @@
 -- The start learns from the end, mip by mip: what each step needs holds, and what it leaves is the next place of the loop.
-use Rattle.model.specs.Prelude.{ℕ, ◌+◌, ◌≤◌, ◌<◌, arith, ◌≡◌, refl, ap, subst, ◌∙◌, inl, List, length, get_or, set}
+use Rattle.std.specs.Prelude.{◌+◌, ◌≤◌, ◌<◌, ◌≡◌}
+use Rattle.model.specs.Prelude.{ℕ, arith, refl, ap, subst, ◌∙◌, inl, List, length, get_or, set}
 use Rattle.model.specs.{declared.{Range.Range, InvalidUse.InvalidUse}, Base.{Stop, fine}, Sets.Numbers, Texture.{learn, learn_all}}
 use Rattle.range_states.specs.View.{decode}
 use Rattle.texture_mips.specs.{Learn.LearnRoom, Kept.{learn_room, tiles_within}}

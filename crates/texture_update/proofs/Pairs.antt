@@ -1,5 +1,6 @@
 -- An update of one mip of both halves: the run that was isolated is what the start learns by, and what is painted.
-use Rattle.model.specs.Prelude.{ℕ, arith, ◌≡◌, sym, ap, subst, ◌∙◌, List, ◌++◌, map, drop, take-append-drop, take-take}
+use Rattle.std.specs.Prelude.{◌≡◌, ◌++◌}
+use Rattle.model.specs.Prelude.{ℕ, arith, sym, ap, subst, ◌∙◌, List, map, drop, take-append-drop, take-take}
 use Rattle.model.specs.{declared.Range.Range, RangedStates.{in_state, isolate}, Texture.learn}
 use Rattle.range_states.specs.{View.{view, decode, Becomes, becomes_none, becomes_live}, Coalescing.Coalesced}
 use Rattle.range_isolate.specs.{declared.isolation.Isolated.Isolated, Isolation.Isolating}

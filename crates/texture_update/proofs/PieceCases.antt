@@ -1,5 +1,6 @@
 -- One piece of another texture on both halves: what the code needs holds, and what it leaves is what the model's update gives.
-use Rattle.model.specs.Prelude.{ℕ, ◌+◌, ◌≡◌, refl, sym, ap, subst, ◌∙◌, List, get_or, eq-eqb, ne_eqb}
+use Rattle.std.specs.Prelude.{◌+◌, ◌≡◌}
+use Rattle.model.specs.Prelude.{ℕ, refl, sym, ap, subst, ◌∙◌, List, get_or, eq-eqb, ne_eqb}
 use Rattle.model.specs.{declared.UsageFlags.UsageFlags, Sets.Numbers, Texture.{Held, many, Piece, learn_all, met_by}, BoolLaws.by_eq}
 use Rattle.set_storage.specs.Storage.{numbers_of, start_half, end_half, mips_of, held_of, ends_of, complex_at, layers_at, state_at}
 use Rattle.set_storage.specs.{Frames.MipsBecome, Slots.{become_many, held_many, held_single}, Stays.both_refl}

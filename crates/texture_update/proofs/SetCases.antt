@@ -1,5 +1,6 @@
 -- `update` from a texture of another set, case by case: what the code leaves is what the model's update gives.
-use Rattle.model.specs.Prelude.{ℕ, suc, ◌+◌, arith, ◌≡◌, sym, ap, subst, ◌∙◌, List, [], ◌∷◌, get_or, set, replicate}
+use Rattle.std.specs.Prelude.{◌+◌, ◌≡◌, ◌∷◌}
+use Rattle.model.specs.Prelude.{ℕ, suc, arith, sym, ap, subst, ◌∙◌, List, [], get_or, set, replicate}
 use Rattle.model.specs.{declared.{UsageFlags.UsageFlags, Extent.Extent, Range.Range, InvalidUse.InvalidUse}, Base.{Stop, passes}}
 use Rattle.model.specs.{Representation.Ends, RangedStates.range}
 use Rattle.model.specs.{Texture.{Held, single, Given, given_single, pieces_of, from_held, spread_end, update}, BoolLaws.by_eq}

@@ -1,5 +1,6 @@
 -- The loops over the ranges of a given mip, and over the given mips, on both halves: what each lap needs, and where it leaves the storage.
-use Rattle.model.specs.Prelude.{ℕ, suc, ◌+◌, ◌≤◌, ◌<◌, add-one, arith, ◌≡◌, refl, sym, ap, subst, ◌∙◌, List, [], ◌∷◌, map, length, get_or}
+use Rattle.std.specs.Prelude.{◌+◌, ◌≤◌, ◌<◌, ◌≡◌, ◌∷◌}
+use Rattle.model.specs.Prelude.{ℕ, suc, add-one, arith, refl, sym, ap, subst, ◌∙◌, List, [], map, length, get_or}
 use Rattle.model.specs.Prelude.{drop}
 use Rattle.model.specs.{declared.{UsageFlags.UsageFlags, Range.Range}, Sets.Numbers, Representation.{Ends, select}, RangedStates.Tiles}
 use Rattle.model.specs.{Texture.{Held, pieces_of}, RangeLaws.tiles_le}

@@ -1,5 +1,6 @@
 -- Both halves change, mip by mip: what each step needs holds, and what it leaves is the next place of the loop.
-use Rattle.model.specs.Prelude.{ℕ, ◌+◌, ◌-◌, ◌≤◌, ◌<◌, arith, ◌≡◌, refl, ap, subst, ◌∙◌, inl, Bool, true, false, ◌&&◌, List, [], leb}
+use Rattle.std.specs.Prelude.{◌+◌, ◌-◌, ◌≤◌, ◌<◌, ◌≡◌, ◌&&◌}
+use Rattle.model.specs.Prelude.{ℕ, arith, refl, ap, subst, ◌∙◌, inl, Bool, true, false, List, [], leb}
 use Rattle.model.specs.Prelude.{length, get_or, set, le-leb, lt-leb, lt-ltb, le-ltb}
 use Rattle.model.specs.{declared.{Range.Range, Selector.Selector, InvalidUse.InvalidUse}, Base.{Stop, fine}, Sets.Numbers}
 use Rattle.model.specs.{Representation.{mip_start, mip_end, layer_start, layer_end, in_mips}, RangedStates.{isolate, coalesce, paint}}

@@ -1,5 +1,6 @@
 -- A change of both halves of one texture of a tracker: what it leaves as it was, and how changes follow one another.
-use Rattle.model.specs.Prelude.{ℕ, ◌+◌, ◌≤◌, ◌<◌, arith, ◌≡◌, refl, sym, subst, ◌∙◌, ◌⊎◌, inl, inr, List, length, get_or}
+use Rattle.std.specs.Prelude.{◌+◌, ◌≤◌, ◌<◌, ◌≡◌, ◌⊎◌}
+use Rattle.model.specs.Prelude.{ℕ, arith, refl, sym, subst, ◌∙◌, inl, inr, List, length, get_or}
 use Rattle.model.specs.{declared.Range.Range, Sets.Numbers, Representation.Ends, RangedStates.Tiles, Texture.{Held, many}}
 use Rattle.set_storage.specs.Lists.{list_ext}
 use Rattle.set_storage.specs.Storage.{half_length, numbers_of, start_half, end_half, count_at, mip_of, mips_in, mips_of, held_of, ends_of, complex_at}

@@ -1,5 +1,6 @@
 -- `update` from a texture of another set: what is asked for, and the model's update by pieces, case by case.
-use Rattle.model.specs.Prelude.{ℕ, ◌≡◌, refl, sym, List}
+use Rattle.std.specs.Prelude.{◌≡◌}
+use Rattle.model.specs.Prelude.{ℕ, refl, sym, List}
 use Rattle.model.specs.declared.{UsageFlags.UsageFlags, Extent.Extent, Range.Range}
 use Rattle.model.specs.Texture.{Held, single, many, given_many, Piece, fresh_mips, spread_end, update}
 use Rattle.set_storage.specs.{Storage.{numbers_of, flags_of, start_half, end_half}, Texture.TextureHeld}

@@ -1,5 +1,6 @@
 -- Every mip of the start learns from the end's: what the code needs, and the model's `learn_all` as a walk.
-use Rattle.model.specs.Prelude.{ℕ, zero, suc, ◌≡◌, refl, List, get_or}
+use Rattle.std.specs.Prelude.{◌≡◌}
+use Rattle.model.specs.Prelude.{ℕ, zero, suc, refl, List, get_or}
 use Rattle.model.specs.{declared.Range.Range, Base.{fine, walk}, Texture.{learn, learn_all}}
 use Rattle.set_storage.specs.Storage.{numbers_of, start_half, end_half, list_from, layers_at}
 use Rattle.texture_merge.specs.Ready.{MipTiled, HalfTiled}

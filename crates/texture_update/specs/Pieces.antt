@@ -1,6 +1,7 @@
 -- The pieces of another texture, one after another, on a texture whose end is Many: the model's `update_all`, and that tiling is kept.
-use Rattle.model.specs.Prelude.{ℕ, suc, ◌≤◌, ◌<◌, arith, ◌≡◌, refl, Bool, true, false, List, [], ◌∷◌, ◌++◌, eqb, get_or}
-use Rattle.model.specs.{declared.{UsageFlags.UsageFlags, Range.Range}, Base.if◌then◌else◌}
+use Rattle.std.specs.Prelude.{◌≤◌, ◌<◌, ◌≡◌, ◌∷◌, ◌++◌, if◌then◌else◌}
+use Rattle.model.specs.Prelude.{ℕ, suc, arith, refl, Bool, true, false, List, [], eqb, get_or}
+use Rattle.model.specs.{declared.{UsageFlags.UsageFlags, Range.Range}}
 use Rattle.model.specs.{Representation.{Ends, layer_start, layer_end, in_mips}, RangedStates.{isolate, Tiles}}
 use Rattle.model.specs.{Texture.{Held, single, many, Piece, learn_all, learn_held, met_by, update_all}, BoolLaws.by_test}
 use Rattle.model.specs.RangeLaws.{isolate_cuts}

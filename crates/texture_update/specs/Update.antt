@@ -1,5 +1,6 @@
 -- `update` of one texture of a tracker: what the code needs, and the model's `update` of one use, case by case.
-use Rattle.model.specs.Prelude.{ℕ, ◌≡◌, refl, ap, ◌∙◌, false, false≢true, List, get_or, ne_eqb}
+use Rattle.std.specs.Prelude.{◌≡◌}
+use Rattle.model.specs.Prelude.{ℕ, refl, ap, ◌∙◌, false, false≢true, List, get_or, ne_eqb}
 use Rattle.model.specs.{declared.{UsageFlags.UsageFlags, Extent.Extent, Selector.Selector, Range.Range}, CheckLaws.SelectorWithin}
 use Rattle.model.specs.Texture.{Held, single, many, given_single, learn_all, met_by, spread_end, update_all, update}
 use Rattle.set_storage.specs.{Storage.{numbers_of, flags_of, start_half, end_half, complex_at, state_at}, Texture.TextureHeld}

@@ -1,6 +1,7 @@
 -- What else is proved of every trace of the public calls' contracts (Demand3 has demand 3): each claim is a statement with the name of its
 -- proof.
-use Rattle.model.specs.Prelude.{ℕ, ◌≡◌, ◌↔◌, false, Option, some, List, [], ◌∷◌, ◌++◌, map, get_elem?}
+use Rattle.std.specs.Prelude.{◌≡◌, ◌↔◌, ◌∷◌, ◌++◌}
+use Rattle.model.specs.Prelude.{ℕ, false, Option, some, List, [], map, get_elem?}
 use Rattle.model.specs.{declared.{Extent.Extent, Selector.Selector, TrackerIndex.TrackerIndex}, Sets.Set, Calls.{call_merge_single, newly}}
 use Rattle.model.specs.{Texture.ranged, Log.is_refused, Base.All}
 use Rattle.agreement.specs.{Shared.after_calls, WebGpu.{Usage, Renders, Histories, histories, InConflict, GivenUsage, NotCompatible}}

@@ -1,9 +1,10 @@
 -- The client's calls are a trace: newly opened, the log emptied before each of two calls, with a free entry for every subresource.
-use Rattle.model.specs.Prelude.{ℕ, ◌+◌, ◌/◌, ◌≤◌, min, le_trans, le-min, arith, ◌≡◌, refl, sym, ap, subst, ◌∙◌, Bool, true, false, Option}
-use Rattle.model.specs.Prelude.{none, some, List, [], ◌∷◌, ltb, length, le-ltb, ltb-false}
+use Rattle.std.specs.Prelude.{◌+◌, ◌/◌, ◌≤◌, ◌≡◌, ◌∷◌, if◌then◌else◌}
+use Rattle.model.specs.Prelude.{ℕ, min, le_trans, le-min, arith, refl, sym, ap, subst, ◌∙◌, Bool, true, false, Option}
+use Rattle.model.specs.Prelude.{none, some, List, [], ltb, length, le-ltb, ltb-false}
 use Rattle.model.specs.declared.Refusal.TheVariants.{NoFreeEntry}
 use Rattle.model.specs.declared.{Extent.Extent, InvalidUse.InvalidUse, LogHead.LogHead, Outcome.Outcome, Refusal.Refusal, Selector.Selector}
-use Rattle.model.specs.{declared.{TrackerIndex.TrackerIndex, Answered.Answered}, Base.if◌then◌else◌, Flags.flags_fit}
+use Rattle.model.specs.{declared.{TrackerIndex.TrackerIndex, Answered.Answered}, Flags.flags_fit}
 use Rattle.model.specs.{Sets.{Numbers, Tracker, capacity}, Refusals.{first_failing, opening_refusal, opens}}
 use Rattle.model.specs.Calls.{Answer, done, refused, in_conflict, CallResult, Call, call_set_single, set_single}
 use Rattle.model.specs.Texture.{Held, Entry, ranged}

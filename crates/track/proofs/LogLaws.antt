@@ -1,10 +1,11 @@
 -- The log of a step: emptied, it fits and is empty; a call of the model then runs as if there were no log; and its entries tell the model's
 -- transitions.
-use Rattle.model.specs.Prelude.{ℕ, ◌+◌, ◌≤◌, zero-add, arith, ◌≡◌, refl, ap, ◌∙◌, Bool, true, false, ◌&&◌, Option, none, some, List, []}
-use Rattle.model.specs.Prelude.{◌∷◌, ◌++◌, append_assoc, eqb, length, take, le-ltb}
+use Rattle.std.specs.Prelude.{◌+◌, ◌≤◌, ◌≡◌, ◌&&◌, ◌∷◌, ◌++◌, if◌then◌else◌}
+use Rattle.model.specs.Prelude.{ℕ, zero-add, arith, refl, ap, ◌∙◌, Bool, true, false, Option, none, some, List, []}
+use Rattle.model.specs.Prelude.{append_assoc, eqb, length, take, le-ltb}
 use Rattle.model.specs.declared.Outcome.TheVariants.{Done}
 use Rattle.model.specs.declared.{InvalidUse.InvalidUse, LogHead.LogHead, PendingTransition.PendingTransition, Refusal.Refusal}
-use Rattle.model.specs.{declared.Answered.Answered, Base.if◌then◌else◌, Representation.holds, Refusals.first_failing}
+use Rattle.model.specs.{declared.Answered.Answered, Representation.holds, Refusals.first_failing}
 use Rattle.model.specs.{Calls.{Indexed, done, CallResult, unless}, StateRules.Move, Texture.Entry}
 use Rattle.model.specs.Log.{Log, Logged, pending_of, pending, head_check, emptied, emptying, logging, outcome_of}
 use Rattle.texture_barrier.specs.Entries.{entries_of}

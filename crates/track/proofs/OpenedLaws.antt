@@ -1,8 +1,9 @@
 -- Newly opened storage: its view is the model's newly opened sets, and every set in it is well formed with the room that is lent for it.
-use Rattle.model.specs.Prelude.{◌/◌, ◌≤◌, le_trans, min-le_left, min-le_right, ◌≡◌, refl, sym, ap, ◌∙◌, Bool, true, false, not, false≢true}
-use Rattle.model.specs.Prelude.{Option, none, some, List, [], ◌∷◌, ◌++◌, map, length, ltb-false, le-leb}
+use Rattle.std.specs.Prelude.{◌/◌, ◌≤◌, ◌≡◌, ◌∷◌, ◌++◌, if◌then◌else◌}
+use Rattle.model.specs.Prelude.{le_trans, min-le_left, min-le_right, refl, sym, ap, ◌∙◌, Bool, true, false, not, false≢true}
+use Rattle.model.specs.Prelude.{Option, none, some, List, [], map, length, ltb-false, le-leb}
 use Rattle.model.specs.{declared.Refusal.Refusal, declared.Refusal.TheVariants.{NumbersOutOfLimits, FlagsBreakRule, ShortRoom}}
-use Rattle.model.specs.{Base.{if◌then◌else◌, each, All}, Flags.flags_fit, Sets.{Opening, open_set, open_tracker, numbers_fit, capacity}}
+use Rattle.model.specs.{Base.{each, All}, Flags.flags_fit, Sets.{Opening, open_set, open_tracker, numbers_fit, capacity}}
 use Rattle.model.specs.{Refusals.{first_failing, opening_refusal, accepted, opens}, Calls.newly, Texture.{single, ranged}}
 use Rattle.model.specs.{WellFormed.{scope_fits, tracker_fits}, Log.verdict, ListLaws.all_join, BoolLaws.{by_test, by_test₂, both, and_left}}
 use Rattle.agreement.proofs.CallsAgree.{opened_fits}

@@ -1,9 +1,11 @@
 -- A step that meets its call's contract, from well-formed sets, is the model's step on their view: its answer, its sets and its entries;
 -- and they stay well formed.
-use Rattle.model.specs.Prelude.{ℕ, ◌/◌, ◌≤◌, le_trans, ◌≡◌, refl, sym, ap, subst, ◌∙◌, Bool, true, false, ◌&&◌, Option, none, some}
-use Rattle.model.specs.Prelude.{Option_map, List, [], ◌∷◌, map, eqb, leb, length, set, get_elem?}
+use Rattle.std.specs.Bool.{MatchBool}
+use Rattle.std.specs.Prelude.{◌/◌, ◌≤◌, ◌≡◌, ◌&&◌, ◌∷◌, if◌then◌else◌}
+use Rattle.model.specs.Prelude.{ℕ, le_trans, refl, sym, ap, subst, ◌∙◌, Bool, true, false, Option, none, some}
+use Rattle.model.specs.Prelude.{Option_map, List, [], map, eqb, leb, length, set, get_elem?}
 use Rattle.model.specs.declared.{Extent.Extent, InvalidUse.InvalidUse, LogHead.LogHead, Refusal.Refusal, Selector.Selector}
-use Rattle.model.specs.{declared.{TrackerIndex.TrackerIndex, Answered.Answered}, Base.{if◌then◌else◌, All, AllO}}
+use Rattle.model.specs.{declared.{TrackerIndex.TrackerIndex, Answered.Answered}, Base.{All, AllO}}
 use Rattle.model.specs.Sets.{Numbers, Set, Tracker, slot_at, head_of, capacity}
 use Rattle.model.specs.Refusals.{first_failing, single_refusal, set_refusal, sparse_refusal}
 use Rattle.model.specs.Calls.{done, CallResult, unless, Call, call_merge_single, call_merge_usage_scope, call_set_single, call_set_from_usage_scope}
@@ -317,7 +319,7 @@ module _ (k : Lent) (ready : Ready k) (s : Step) (empty : Empty (log_of s.log s.
 
   -- a call on two sets is none where they are one
   apart : (b : Bool) (call : Type 0) (r : CallResult InvalidUse (List Entry) (Sets ranged)) → (call → Follows r s)
-      → (if b then NoCall k s else call) → Follows (if b then nothing ranged (view_of k) else r) s
+      → MatchBool b (NoCall k s) call → Follows (if b then nothing ranged (view_of k) else r) s
   apart true call r h c = no_call c
   apart false call r h c = h c
 

@@ -1,9 +1,10 @@
 -- Every trace from well-formed storage is, step by step, the ranged model's run, and so shares with the grid's what demand 3 lists.
-use Rattle.model.specs.Prelude.{ℕ, arith, ◌≡◌, refl, sym, ap, subst, ◌∙◌, true, false, Bool, true≢false, Option, List, [], ◌∷◌, map, eqb}
+use Rattle.std.specs.Prelude.{◌≡◌, ◌∷◌, if◌then◌else◌}
+use Rattle.model.specs.Prelude.{ℕ, arith, refl, sym, ap, subst, ◌∙◌, true, false, Bool, true≢false, Option, List, [], map, eqb}
 use Rattle.model.specs.{declared.Outcome.TheVariants.{Done, Refused}, declared.{InvalidUse.InvalidUse, Refusal.Refusal}}
 use Rattle.model.specs.{Sets.{Set, Tracker}, Refusals.number_of, Calls.{Answer, done, refused, in_conflict, CallResult, Sets, step, newly}}
 use Rattle.model.specs.{StateRules.Move, Texture.{Held, ranged}, WellFormed.{scope_fits, tracker_fits}, Log.outcome_of, BoolLaws.both}
-use Rattle.model.specs.{ListLaws.{all_every, all_map}, Base.if◌then◌else◌}
+use Rattle.model.specs.{ListLaws.{all_every, all_map}}
 use Rattle.agreement.specs.Grid.{SubresourceConflict, grid}
 use Rattle.agreement.specs.{Shared.{grid_of, grid_ends, to_grids, seen_answer, seen, Shares, Agree, after_calls}, WellFormedSets.well_formed}
 use Rattle.agreement.specs.LogBound.{listed}

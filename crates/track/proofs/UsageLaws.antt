@@ -1,6 +1,7 @@
 -- The last step of a trace, where it is a single merge of a usage: the WebGPU rule of crate `agreement`, carried over to the lent numbers.
-use Rattle.model.specs.Prelude.{ℕ, ◌≡◌, refl, sym, ap, subst, ◌∙◌, ◌↔◌, false, false≢true, Option, none, some, Option_map, List, [], ◌∷◌}
-use Rattle.model.specs.Prelude.{◌++◌, map, get_elem?}
+use Rattle.std.specs.Prelude.{◌≡◌, ◌↔◌, ◌∷◌, ◌++◌}
+use Rattle.model.specs.Prelude.{ℕ, refl, sym, ap, subst, ◌∙◌, false, false≢true, Option, none, some, Option_map, List, []}
+use Rattle.model.specs.Prelude.{map, get_elem?}
 use Rattle.model.specs.declared.{Extent.Extent, InvalidUse.InvalidUse, Outcome.Outcome, Refusal.Refusal, Selector.Selector}
 use Rattle.model.specs.{declared.TrackerIndex.TrackerIndex, Sets.{Set, head_of}, Refusals.single_refusal}
 use Rattle.model.specs.{Calls.{Answer, done, refused, in_conflict, Call, call_merge_single, Sets, step, newly}, Texture.{Held, ranged}}

@@ -1,11 +1,13 @@
 -- Demand 3, over the numbers that callers lend and the public calls' own contracts: what a trace of calls is, and what is shared at each of
 -- its steps. Definitions only; Demand3 and Claims state the theorems.
-use Rattle.model.specs.Prelude.{ℕ, ◌+◌, ◌/◌, ◌≤◌, min, ◌≡◌, Bool, true, false, ◌&&◌, Option, none, some, List, [], ◌∷◌, map, eqb, length}
+use Rattle.std.specs.Bool.{MatchBool}
+use Rattle.std.specs.Prelude.{◌+◌, ◌/◌, ◌≤◌, ◌≡◌, ◌&&◌, ◌∷◌, if◌then◌else◌}
+use Rattle.model.specs.Prelude.{ℕ, min, Bool, true, false, Option, none, some, List, [], map, eqb, length}
 use Rattle.model.specs.Prelude.{set, get_elem?, take}
 use Rattle.model.specs.{declared.Outcome.TheVariants.{Done, Refused, Conflict}, declared.Selection.TheVariants.{Full, Part}}
 use Rattle.model.specs.declared.{InvalidUse.InvalidUse, LogHead.LogHead, Outcome.Outcome, PendingTransition.PendingTransition}
 use Rattle.model.specs.declared.{Refusal.Refusal, Selection.Selection, Selector.Selector, UsageFlags.UsageFlags, Answered.Answered}
-use Rattle.model.specs.{Base.{if◌then◌else◌, each, All}, Representation.holds, Refusals.number_of, Sets.{Tracker, Opening}}
+use Rattle.model.specs.{Base.{each, All}, Representation.holds, Refusals.number_of, Sets.{Tracker, Opening}}
 use Rattle.model.specs.Calls.{Answer, done, refused, in_conflict, CallResult, Call, call_merge_single, call_merge_usage_scope, call_set_single}
 use Rattle.model.specs.{Calls.{call_set_from_usage_scope, call_set_from_tracker, call_set_and_remove_sparse, Sets, step}, StateRules.Move}
 use Rattle.model.specs.{Texture.{Held, Entry, ranged}, Log.{outcome_of, pending}}
@@ -151,14 +153,14 @@ abbrev pub Ran : Call → Lent → Step → Type 0
 Ran (call_merge_single n i sh sel st) k s = At₁ (get_elem? k.scopes n) (NoCall k s)
     (λ a. MergedAt n (MergeSingle a i sh (selection_of sel) st) k s)
 Ran (call_merge_usage_scope n m) k s =
-    if eqb n m then NoCall k s else At₂ (get_elem? k.scopes n) (get_elem? k.scopes m) (NoCall k s) (λ a g.
-    MergedAt n (MergeUsageScope a g) k s)
+    MatchBool (eqb n m) (NoCall k s) (At₂ (get_elem? k.scopes n) (get_elem? k.scopes m) (NoCall k s) (λ a g.
+    MergedAt n (MergeUsageScope a g) k s))
 Ran (call_set_single n i sh sel st) k s = At₁ (get_elem? k.trackers n) (NoCall k s) (λ t. TrackedAt n (SetSingle t i sh sel st) k s)
 Ran (call_set_from_usage_scope n m) k s =
     At₂ (get_elem? k.trackers n) (get_elem? k.scopes m) (NoCall k s) (λ t g. TrackedAt n (SetFromUsageScope t g) k s)
 Ran (call_set_from_tracker n m) k s =
-    if eqb n m then NoCall k s else At₂ (get_elem? k.trackers n) (get_elem? k.trackers m) (NoCall k s) (λ t g.
-    TrackedAt n (SetFromTracker t g) k s)
+    MatchBool (eqb n m) (NoCall k s) (At₂ (get_elem? k.trackers n) (get_elem? k.trackers m) (NoCall k s) (λ t g.
+    TrackedAt n (SetFromTracker t g) k s))
 Ran (call_set_and_remove_sparse n m is) k s =
     At₂ (get_elem? k.trackers n) (get_elem? k.scopes m) (NoCall k s) (λ t g. RemovedAt n m g (SetAndRemoveSparse t g is) k s)
 

@@ -1,5 +1,6 @@
 -- "More room is ignored", of the public calls' own contracts: what no call changes, whatever it answers.
-use Rattle.model.specs.Prelude.{ℕ, ◌≤◌, ◌<◌, ◌≡◌, false, List, get_or}
+use Rattle.std.specs.Prelude.{◌≤◌, ◌<◌, ◌≡◌}
+use Rattle.model.specs.Prelude.{ℕ, false, List, get_or}
 use Rattle.model.specs.declared.{Extent.Extent, LogHead.LogHead, Outcome.Outcome, Selection.Selection, Selector.Selector}
 use Rattle.model.specs.{declared.{TrackerIndex.TrackerIndex, Answered.Answered}, Log.is_refused}
 use Rattle.set_storage.specs.{Storage.{numbers_of, table_indices, ranges_at, textures_at}, Stays.{Only, OwnedBy, ScopeFrame, TrackerFrame}}

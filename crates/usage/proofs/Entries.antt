@@ -1,6 +1,7 @@
 -- A table's rule at each of its entries, from one test of all of them that the prover computes.
-use Rattle.model.specs.Prelude.{ℕ, zero, suc, ◌+◌, ◌<◌, add-zero, zero-add, add-suc, suc-add, le_of_suc-le-suc, not-suc-le-zero, ◌≡◌, ◌∙◌}
-use Rattle.model.specs.Prelude.{subst, sym, Bool, true, List, [], ◌∷◌, ◌&&◌, eqb, eqb-true, length, get_or}
+use Rattle.std.specs.Prelude.{◌+◌, ◌<◌, ◌≡◌, ◌∷◌, ◌&&◌}
+use Rattle.model.specs.Prelude.{ℕ, zero, suc, add-zero, zero-add, add-suc, suc-add, le_of_suc-le-suc, not-suc-le-zero, ◌∙◌}
+use Rattle.model.specs.Prelude.{subst, sym, Bool, true, List, [], eqb, eqb-true, length, get_or}
 use Rattle.model.specs.BoolLaws.{and_left, and_right}
 use Rattle.usage.specs.Ones.{to_two, CountsOnes}
 use lib.Count.{ones_in}

@@ -1,5 +1,6 @@
 -- The bits of a union, of what two numbers share, and of a number less some bits.
-use Rattle.model.specs.Prelude.{ℕ, zero, suc, ◌+◌, ◌-◌, ◌*◌, ◌/◌, ◌%◌, ◌^◌, ◌<◌, min, max, dec_lt, arith, ◌≡◌, refl, sym, ap, ap₂, ◌∙◌}
+use Rattle.std.specs.Prelude.{◌+◌, ◌-◌, ◌*◌, ◌/◌, ◌%◌, ◌^◌, ◌<◌, ◌≡◌}
+use Rattle.model.specs.Prelude.{ℕ, zero, suc, min, max, dec_lt, arith, refl, sym, ap, ap₂, ◌∙◌}
 use Rattle.model.specs.Prelude.{bit_and, bit_or, and_step, or_step, and_zero_l, and_zero_r, or_add_and, and_le_l, and_le_r, or_disjoint}
 use Rattle.std.proofs.Math.Arith.{bin_ind}
 use Rattle.std.specs.Int.Count.{ones_in}

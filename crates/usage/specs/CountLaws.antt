@@ -1,5 +1,6 @@
 -- Counts of the low bits of a number, over every width.
-use Rattle.model.specs.Prelude.{ℕ, zero, suc, ◌+◌, ◌/◌, ◌%◌, ◌^◌, ◌≤◌, zero-add, add-suc, add-zero, add-one, arith, ◌≡◌, refl, sym, ◌∙◌}
+use Rattle.std.specs.Prelude.{◌+◌, ◌/◌, ◌%◌, ◌^◌, ◌≤◌, ◌≡◌}
+use Rattle.model.specs.Prelude.{ℕ, zero, suc, zero-add, add-suc, add-zero, add-one, arith, refl, sym, ◌∙◌}
 use Rattle.model.specs.Prelude.{bit_or}
 use Rattle.usage.specs.BitLaws.{or_half, or_odd}
 use Rattle.std.specs.Int.Count.{ones, ones_in, ones_step}

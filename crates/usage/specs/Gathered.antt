@@ -1,7 +1,8 @@
 -- States that meet EXCLUSIVE, tested together: where their union has at most one bit, each of them has one.
-use Rattle.model.specs.Prelude.{ℕ, ◌+◌, ◌≤◌, ◌<◌, arith, ◌≡◌, refl, sym, ap, ◌∙◌, Bool, true, false, ◌&&◌, not, bit_or, or_comm, or_self}
+use Rattle.std.specs.Prelude.{◌+◌, ◌≤◌, ◌<◌, ◌≡◌, ◌&&◌, if◌then◌else◌}
+use Rattle.model.specs.Prelude.{ℕ, arith, refl, sym, ap, ◌∙◌, Bool, true, false, not, bit_or, or_comm, or_self}
 use Rattle.model.specs.Prelude.{eqb-true, eq-eqb}
-use Rattle.model.specs.{declared.UsageFlags.UsageFlags, Base.if◌then◌else◌, BoolLaws.{by_lt, by_eq}, Flags.{one_bit, meets, incompatible}}
+use Rattle.model.specs.{declared.UsageFlags.UsageFlags, BoolLaws.{by_lt, by_eq}, Flags.{one_bit, meets, incompatible}}
 use Rattle.usage.specs.{BitLaws.{or_assoc, zero_ones, ones_zero}, CountLaws.ones_within}
 use Rattle.std.specs.Int.Count.{ones_in}
 

@@ -1,5 +1,6 @@
 -- The rule of the table, a byte's bits counted to two; and one bit of sixteen by the entries of two bytes.
-use Rattle.model.specs.Prelude.{ℕ, ◌+◌, ◌/◌, ◌<◌, min, dec_lt, arith, ◌≡◌, sym, ◌∙◌, List, eqb, length, get_or, List_get_D_eq_default}
+use Rattle.std.specs.Prelude.{◌+◌, ◌/◌, ◌<◌, ◌≡◌}
+use Rattle.model.specs.Prelude.{ℕ, min, dec_lt, arith, sym, ◌∙◌, List, eqb, length, get_or, List_get_D_eq_default}
 use Rattle.model.specs.Prelude.{bit_and, and_mask, eq-eqb, ne_eqb}
 use Rattle.model.specs.{BoolLaws.by_lt, Flags.one_bit}
 use Rattle.usage.specs.CountLaws.{ones_rest, ones_split}

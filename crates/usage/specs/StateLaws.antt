@@ -1,5 +1,6 @@
 -- One law on states of sixteen bits.
-use Rattle.model.specs.Prelude.{ℕ, ◌≡◌, refl}
+use Rattle.std.specs.Prelude.{◌≡◌}
+use Rattle.model.specs.Prelude.{ℕ, refl}
 use Rattle.model.specs.{declared.UsageFlags.UsageFlags, Flags.incompatible, StateRules.invalid_state}
 
 -- ---- the Rust's `invalid_resource_state` is 01's "incompatible"

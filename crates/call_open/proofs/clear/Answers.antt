@@ -1,5 +1,6 @@
 -- `clear`: each lap writes the five words of one index.
-use Rattle.model.specs.Prelude.{add-one, arith, ◌≡◌, refl, ◌∙◌}
+use Rattle.std.specs.Prelude.{◌≡◌}
+use Rattle.model.specs.Prelude.{add-one, arith, refl, ◌∙◌}
 use Rattle.call_open.specs.Open.{cleared}
 use Rattle.call_open.proofs.clear.Goals as goal
 

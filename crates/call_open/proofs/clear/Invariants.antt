@@ -1,5 +1,5 @@
 -- `clear`: each lap writes the five words of one index.
-use Rattle.model.specs.Prelude.{◌-◌, ◌≤◌, ◌≡◌}
+use Rattle.std.specs.Prelude.{◌-◌, ◌≤◌, ◌≡◌}
 use Rattle.call_open.specs.Open.{cleared}
 use Rattle.call_open.proofs.clear.Given as goal
 

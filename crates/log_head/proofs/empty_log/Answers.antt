@@ -1,5 +1,6 @@
 -- `empty_log`: the head's check, and the model's emptied head.
-use Rattle.model.specs.Prelude.{◌/◌, arith, sym, ◌∙◌, length}
+use Rattle.std.specs.Prelude.{◌/◌}
+use Rattle.model.specs.Prelude.{arith, sym, ◌∙◌, length}
 use Rattle.log_head.specs.Log.{head_le, empty_away, empty_done}
 use Rattle.log_head.proofs.empty_log.Goals as goal
 

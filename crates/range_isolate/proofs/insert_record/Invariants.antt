@@ -1,5 +1,6 @@
 -- `insert_record` opens a gap from the top down and writes the record there.
-use Rattle.model.specs.Prelude.{ℕ, ◌+◌, ◌*◌, ◌-◌, ◌≤◌, ◌<◌, arith, ◌≡◌, refl, sym, ◌∙◌, List, length, get_or, length-take-le}
+use Rattle.std.specs.Prelude.{◌+◌, ◌*◌, ◌-◌, ◌≤◌, ◌<◌, ◌≡◌}
+use Rattle.model.specs.Prelude.{ℕ, arith, refl, sym, ◌∙◌, List, length, get_or, length-take-le}
 use Rattle.model.specs.declared.{Range.Range}
 use Rattle.range_states.specs.{View.{view, spare, decode, blank, Put, Becomes, view_long}, Insert.{insert_at, length_insert_at}}
 use Rattle.range_isolate.proofs.{Shift.{shifted, shifted_none, shifted_more, shifted_put}}

@@ -1,9 +1,10 @@
 -- The second pass of `iter_filter`: the overlaps of ascending records stand together.
-use Rattle.model.specs.Prelude.{ℕ, zero, suc, ◌+◌, ◌≤◌, ◌<◌, arith, ◌≡◌, refl, sym, ap, ◌∙◌, Bool, true, false, ◌&&◌, List, [], ◌∷◌, ◌++◌}
+use Rattle.std.specs.Prelude.{◌+◌, ◌≤◌, ◌<◌, ◌≡◌, ◌&&◌, ◌∷◌, ◌++◌, if◌then◌else◌}
+use Rattle.model.specs.Prelude.{ℕ, zero, suc, arith, refl, sym, ap, ◌∙◌, Bool, true, false, List, []}
 use Rattle.model.specs.Prelude.{map, map-append, append_assoc, leb, ltb, length, get_or, take, drop, length-append, length-drop, length-map}
 use Rattle.model.specs.Prelude.{take-suc, drop-cons, get_or-drop, set_at, length-take-le, take-append-le, drop-append-le, lt-ltb, le-ltb}
 use Rattle.model.specs.Prelude.{le-leb, lt-leb}
-use Rattle.model.specs.{declared.Range.Range, Base.if◌then◌else◌, RangedStates.iter_filter}
+use Rattle.model.specs.{declared.Range.Range, RangedStates.iter_filter}
 use Rattle.range_states.specs.{View.blank, Filtering.{overlaps, clip}}
 use Rattle.range_records.specs.{declared.decisions.Scan.Scan, Passes.{count_of, begun, look_of, scanned, clipping}}
 use Rattle.range_records.proofs.Laws.Pieces.{Ascends}

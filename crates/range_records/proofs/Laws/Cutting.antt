@@ -1,9 +1,10 @@
 -- The second pass of `isolate`: the pieces are written from the last to the first, and never onto a record that is still to be read.
-use Rattle.model.specs.Prelude.{ℕ, zero, suc, ◌-◌, ◌≤◌, ◌<◌, min, max, arith, ◌≡◌, refl, sym, ap, ◌∙◌, List, [], ◌∷◌, ◌++◌, append_assoc}
+use Rattle.std.specs.Prelude.{◌-◌, ◌≤◌, ◌<◌, ◌≡◌, ◌∷◌, ◌++◌, if◌then◌else◌}
+use Rattle.model.specs.Prelude.{ℕ, zero, suc, min, max, arith, refl, sym, ap, ◌∙◌, List, [], append_assoc}
 use Rattle.model.specs.Prelude.{append-nil, eqb, eqb_suc_zero, length, get_or, take, drop, set, length-append, length-set, take-suc}
 use Rattle.model.specs.Prelude.{take-take, take-length, take-set-le, get_or-take, drop_at, set_split, length-take-le, lt-ltb, le-ltb, eq-eqb}
 use Rattle.model.specs.Prelude.{ne_eqb}
-use Rattle.model.specs.{declared.Range.Range, Base.if◌then◌else◌, RangedStates.{range, list_of, isolate}}
+use Rattle.model.specs.{declared.Range.Range, RangedStates.{range, list_of, isolate}}
 use Rattle.range_states.specs.View.{blank}
 use Rattle.range_records.specs.{declared.decisions.Piece.Piece, Passes.{begun, scanned, lower_of, cut_piece, cutting}}
 use Rattle.range_records.proofs.{Laws.Pieces.{Ascends, part, part_some, part_none, slices, pieces, pieced}, Laws.Survey.scanned_end}

@@ -1,5 +1,6 @@
 -- The second pass of `coalesce`: what is written, zeros where records were read and not written again, and what is left to read.
-use Rattle.model.specs.Prelude.{ℕ, zero, suc, ◌+◌, ◌-◌, ◌<◌, arith, ◌≡◌, refl, sym, ap, ◌∙◌, Bool, true, false, List, [], ◌∷◌, ◌++◌}
+use Rattle.std.specs.Prelude.{◌+◌, ◌-◌, ◌<◌, ◌≡◌, ◌∷◌, ◌++◌}
+use Rattle.model.specs.Prelude.{ℕ, zero, suc, arith, refl, sym, ap, ◌∙◌, Bool, true, false, List, []}
 use Rattle.model.specs.Prelude.{append_assoc, length, get_or, set, replicate, length-append, length-replicate, set_at, get_or_at, lt-ltb}
 use Rattle.model.specs.{declared.Range.Range, RangedStates.{range, joins, coalesce_from, coalesce}}
 use Rattle.range_states.specs.View.{blank}

@@ -1,6 +1,7 @@
 -- What the passes' definitions say of one turn of their loops.
-use Rattle.model.specs.Prelude.{ℕ, zero, suc, ◌+◌, ◌-◌, ◌≤◌, ◌<◌, min, max, le_trans, add-le-add, not-suc-le-zero}
-use Rattle.model.specs.Prelude.{le_of_suc-le-suc, add-one, unary_clauses, arith, ◌≡◌, refl, ap, ◌∙◌, Bool, true, false, List, [], ◌∷◌}
+use Rattle.std.specs.Prelude.{◌+◌, ◌-◌, ◌≤◌, ◌<◌, ◌≡◌, ◌∷◌}
+use Rattle.model.specs.Prelude.{ℕ, zero, suc, min, max, le_trans, add-le-add, not-suc-le-zero}
+use Rattle.model.specs.Prelude.{le_of_suc-le-suc, add-one, unary_clauses, arith, refl, ap, ◌∙◌, Bool, true, false, List, []}
 use Rattle.model.specs.Prelude.{leb, ltb, length, take, get_or, set, length-set}
 use Rattle.model.specs.{declared.Range.Range}
 use Rattle.range_states.specs.{View.blank, Filtering.{overlaps, clip}}

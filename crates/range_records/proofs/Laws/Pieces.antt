@@ -1,7 +1,8 @@
 -- The model's `isolate` piece by piece: what each record, and each gap before one, leaves.
-use Rattle.model.specs.Prelude.{ℕ, ◌≤◌, ◌<◌, min, max, arith, ◌≡◌, refl, sym, ap, true, ◌&&◌, List, [], ◌∷◌, ◌++◌, append_assoc, leb, ltb}
+use Rattle.std.specs.Prelude.{◌≤◌, ◌<◌, ◌≡◌, ◌&&◌, ◌∷◌, ◌++◌, if◌then◌else◌}
+use Rattle.model.specs.Prelude.{ℕ, min, max, arith, refl, sym, ap, true, List, [], append_assoc, leb, ltb}
 use Rattle.model.specs.Prelude.{lt-ltb, le-ltb, le-leb, lt-leb, leb-true, ltb-true}
-use Rattle.model.specs.{declared.Range.Range, Base.if◌then◌else◌}
+use Rattle.model.specs.{declared.Range.Range}
 use Rattle.model.specs.{RangedStates.{range, Cut, Rest, rest, with_run, cut_at, with_before, list_of, isolate_from, isolate}, RangeCalls.ascends}
 use Rattle.model.specs.BoolLaws.{and_both as both}
 use Rattle.range_isolate.specs.Isolation.{all_of, gap_before}

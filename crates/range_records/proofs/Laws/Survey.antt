@@ -1,7 +1,8 @@
 -- What the first pass finds: whether the records ascend, and how many of everything there are.
-use Rattle.model.specs.Prelude.{ℕ, suc, ◌+◌, ◌≤◌, ◌<◌, min, max, arith, ◌≡◌, refl, sym, ap, ◌∙◌, Bool, true, false, ◌&&◌, and-true}
-use Rattle.model.specs.Prelude.{and_assoc, List, [], ◌∷◌, leb, ltb, length, get_or, length-append, lt-ltb, le-ltb, le-leb, lt-leb}
-use Rattle.model.specs.{declared.Range.Range, Base.if◌then◌else◌, RangedStates.{range, list_of, isolate}, RangeCalls.ascends}
+use Rattle.std.specs.Prelude.{◌+◌, ◌≤◌, ◌<◌, ◌≡◌, ◌&&◌, ◌∷◌, if◌then◌else◌}
+use Rattle.model.specs.Prelude.{ℕ, suc, min, max, arith, refl, sym, ap, ◌∙◌, Bool, true, false, and-true}
+use Rattle.model.specs.Prelude.{and_assoc, List, [], leb, ltb, length, get_or, length-append, lt-ltb, le-ltb, le-leb, lt-leb}
+use Rattle.model.specs.{declared.Range.Range, RangedStates.{range, list_of, isolate}, RangeCalls.ascends}
 use Rattle.range_states.specs.{View.blank, Filtering.overlaps}
 use Rattle.range_records.specs.declared.decisions.Scan.{Scan}
 use Rattle.range_records.specs.Passes.{count_of, begun, follows_of, look_of, scanned, gaps_of, length_of, Few}

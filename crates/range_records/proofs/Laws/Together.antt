@@ -1,8 +1,9 @@
 -- The passes are the model's calls: what each answers and leaves, for every input.
-use Rattle.model.specs.Prelude.{ℕ, ◌+◌, ◌≤◌, ◌<◌, min, arith, ◌≡◌, refl, sym, ap, ◌∙◌, false, ◌||◌, not, none, some, List, ltb, eqb, length}
+use Rattle.std.specs.Prelude.{◌+◌, ◌≤◌, ◌<◌, ◌≡◌, ◌||◌, if◌then◌else◌}
+use Rattle.model.specs.Prelude.{ℕ, min, arith, refl, sym, ap, ◌∙◌, false, not, none, some, List, ltb, eqb, length}
 use Rattle.model.specs.Prelude.{take, drop, take-append-drop, length-take, length-take-le, lt-ltb, ltb-false, not-false}
 use Rattle.model.specs.declared.Refusal.TheVariants.{RangesOutOfOrder, NoFreeEntry}
-use Rattle.model.specs.{declared.{Range.Range, Refusal.Refusal, Verdict.Verdict}, Base.if◌then◌else◌, Refusals.{first_failing, refused_for}}
+use Rattle.model.specs.{declared.{Range.Range, Refusal.Refusal, Verdict.Verdict}, Refusals.{first_failing, refused_for}}
 use Rattle.model.specs.RangedStates.{list_of, isolate, iter_filter}
 use Rattle.model.specs.RangeCalls.{ascends, ranges_check, run_checks, room_checks, isolate_refusal, coalesce_refusal, filter_refusal}
 use Rattle.model.specs.{BoolLaws.{by_test, neither}, CheckLaws.{passed, checks_append, refused_first, starts_below}}

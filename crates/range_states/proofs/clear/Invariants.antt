@@ -1,5 +1,6 @@
 -- `clear` fills with blank records from `from` on.
-use Rattle.model.specs.Prelude.{ℕ, ◌+◌, ◌*◌, ◌-◌, ◌≤◌, ◌<◌, arith, ◌≡◌, refl, sym, ◌∙◌, List, ◌++◌, append_assoc, length, replicate}
+use Rattle.std.specs.Prelude.{◌+◌, ◌*◌, ◌-◌, ◌≤◌, ◌<◌, ◌≡◌, ◌++◌}
+use Rattle.model.specs.Prelude.{ℕ, arith, refl, sym, ◌∙◌, List, append_assoc, length, replicate}
 use Rattle.model.specs.Prelude.{length-append, length-replicate, length-take-le}
 use Rattle.range_states.specs.View.{view, spare, decode, blank, Put, Becomes, view_long}
 use Rattle.range_states.proofs.{Filled.{filled, filled_none, filled_more, filled_is}}

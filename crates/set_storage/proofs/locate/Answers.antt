@@ -1,5 +1,6 @@
 -- `locate`: the place is the definition's, and the count is read there.
-use Rattle.model.specs.Prelude.{arith, ◌≡◌}
+use Rattle.std.specs.Prelude.{◌≡◌}
+use Rattle.model.specs.Prelude.{arith}
 use Rattle.set_storage.specs.Part.{base_of}
 use Rattle.set_storage.proofs.locate.Goals as goal
 

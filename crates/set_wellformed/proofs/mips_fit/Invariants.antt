@@ -1,5 +1,5 @@
 -- `mips_fit` tests mip by mip; the first that does not fit decides.
-use Rattle.model.specs.Prelude.{◌-◌}
+use Rattle.std.specs.Prelude.{◌-◌}
 use Rattle.model.specs.WellFormed.{ranges_fit}
 use Rattle.set_storage.specs.Storage.{numbers_of, mip_of}
 use Rattle.set_wellformed.specs.Parts.{Testing}

@@ -1,5 +1,5 @@
 -- `ranges_fit` tests range by range; the first that does not fit decides.
-use Rattle.model.specs.Prelude.{◌-◌}
+use Rattle.std.specs.Prelude.{◌-◌}
 use Rattle.set_wellformed.proofs.Tiling.{Tiling}
 use Rattle.set_wellformed.proofs.ranges_fit.Given as goal
 

@@ -1,5 +1,6 @@
 -- `set_checked`: 15 where the entries do not fit; otherwise they are written, and the textures change.
-use Rattle.model.specs.Prelude.{◌/◌, arith, refl, false≢true, List, length}
+use Rattle.std.specs.Prelude.{◌/◌}
+use Rattle.model.specs.Prelude.{arith, refl, false≢true, List, length}
 use Rattle.model.specs.declared.{PendingTransition.PendingTransition}
 use Rattle.set_storage.specs.Stays.{both_refl}
 use Rattle.log_head.specs.{Log.head_le, Called.{Fitting, counted_fits, all_fit, room_for, wrote, not_enough, written}}

@@ -1,5 +1,6 @@
 -- `log_set`: the entries of the indices below `k` are added, in their order.
-use Rattle.model.specs.Prelude.{ℕ, ◌*◌, ◌-◌}
+use Rattle.std.specs.Prelude.{◌*◌, ◌-◌}
+use Rattle.model.specs.Prelude.{ℕ}
 use Rattle.texture_track.specs.GivenSlot.{given_entries}
 use Rattle.texture_barrier.specs.Adds.{entries_at, Adding}
 use Rattle.log_head.specs.UpTo.{up_left}

@@ -1,5 +1,5 @@
 -- `set_slots`: the slots below `k` are the model's, the others as they were.
-use Rattle.model.specs.Prelude.{◌≤◌, ◌-◌}
+use Rattle.std.specs.Prelude.{◌≤◌, ◌-◌}
 use Rattle.set_storage.specs.Stays.{OwnedBy}
 use Rattle.set_ready.specs.Named.{Within}
 use Rattle.call_join.proofs.Setting.{Setting}

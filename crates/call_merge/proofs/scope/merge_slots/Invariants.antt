@@ -1,5 +1,5 @@
 -- `merge_slots`: each lap merges one texture, and those to come read as at entry.
-use Rattle.model.specs.Prelude.{◌-◌}
+use Rattle.std.specs.Prelude.{◌-◌}
 use Rattle.call_merge.proofs.{Slots.{Merging}}
 use Rattle.call_merge.proofs.scope.merge_slots.Given as goal
 

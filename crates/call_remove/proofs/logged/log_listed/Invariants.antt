@@ -1,5 +1,6 @@
 -- `log_listed`: the entries of one position after those of the positions before it; each index is marked as listed.
-use Rattle.model.specs.Prelude.{ℕ, ◌-◌, length, get_or}
+use Rattle.std.specs.Prelude.{◌-◌}
+use Rattle.model.specs.Prelude.{ℕ, length, get_or}
 use Rattle.texture_barrier.specs.Adds.{entries_at, Adding}
 use Rattle.log_head.specs.UpTo.{up_left}
 use Rattle.call_remove.specs.Logs.{most_entries, listed_entries, entries_to}

@@ -1,5 +1,6 @@
 -- `remove_checked`: 15 where the entries do not fit; otherwise they are written, and both sets change.
-use Rattle.model.specs.Prelude.{◌/◌, arith, false≢true, List, length}
+use Rattle.std.specs.Prelude.{◌/◌}
+use Rattle.model.specs.Prelude.{arith, false≢true, List, length}
 use Rattle.model.specs.declared.{PendingTransition.PendingTransition}
 use Rattle.log_head.specs.{Log.head_le, Called.{Fitting, counted_fits, all_fit, room_for, wrote}}
 use Rattle.call_remove.specs.Logs.{removed_entries, logs_listed}

@@ -1,5 +1,6 @@
 -- `set_listed`: what is left of the list makes of the sets what all of it makes at entry.
-use Rattle.model.specs.Prelude.{◌-◌, length}
+use Rattle.std.specs.Prelude.{◌-◌}
+use Rattle.model.specs.Prelude.{length}
 use Rattle.call_remove.specs.Taken.{Taking}
 use Rattle.call_remove.proofs.taken.set_listed.Given as goal
 

@@ -1,5 +1,6 @@
 -- `set_checked`: 15 where the entries do not fit; otherwise they are written, and the texture changes.
-use Rattle.model.specs.Prelude.{◌/◌, arith, refl, false≢true, List, length}
+use Rattle.std.specs.Prelude.{◌/◌}
+use Rattle.model.specs.Prelude.{arith, refl, false≢true, List, length}
 use Rattle.model.specs.declared.{PendingTransition.PendingTransition}
 use Rattle.set_storage.specs.Stays.{both_refl}
 use Rattle.texture_merge.specs.Uses.{use_of}

@@ -1,5 +1,6 @@
 -- `merge_at` turns away for the head, the order and the room, in that order, and otherwise merges.
-use Rattle.model.specs.Prelude.{ℕ, ◌/◌, ◌<◌, ◌≡◌, sym, ap, ◌∙◌, Bool, true, List, length, not-true, not-false}
+use Rattle.std.specs.Prelude.{◌/◌, ◌<◌, ◌≡◌}
+use Rattle.model.specs.Prelude.{ℕ, sym, ap, ◌∙◌, Bool, true, List, length, not-true, not-false}
 use Rattle.model.specs.declared.LogHead.{LogHead}
 use Rattle.log_head.specs.Log.{head_within}
 use Rattle.log_merge.specs.{declared.order.Needed.Needed, Order.Needs}

@@ -1,5 +1,6 @@
 -- `part` lies in its own log, from where it begins up to the end.
-use Rattle.model.specs.Prelude.{arith, ◌≡◌, refl, length, min}
+use Rattle.std.specs.Prelude.{◌≡◌}
+use Rattle.model.specs.Prelude.{arith, refl, length, min}
 use borrow.Author.Rules.{part_to_end}
 use Rattle.log_merge.proofs.calls.part.Goals as goal
 

@@ -1,5 +1,6 @@
 -- `need_of` looks for a part of an entry, for a descent, and counts by the closed form, case by case.
-use Rattle.model.specs.Prelude.{ℕ, ◌-◌, ◌/◌, ◌%◌, arith, ◌≡◌, sym, ◌∙◌, List, length, get_or}
+use Rattle.std.specs.Prelude.{◌-◌, ◌/◌, ◌%◌, ◌≡◌}
+use Rattle.model.specs.Prelude.{ℕ, arith, sym, ◌∙◌, List, length, get_or}
 use Rattle.texture_barrier.specs.Entries.{entries_of, entries_long, blank_entry}
 use Rattle.log_merge.specs.Merge.{index_of}
 use Rattle.log_merge.proofs.Needing.{Whole, Lasts, first_cut, second_cut, first_empty, second_empty, first_descends, second_descends}

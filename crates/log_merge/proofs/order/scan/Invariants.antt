@@ -1,5 +1,5 @@
 -- `scan` looks at every entry in turn, and ends at the first descent.
-use Rattle.model.specs.Prelude.{◌-◌}
+use Rattle.std.specs.Prelude.{◌-◌}
 use Rattle.log_merge.proofs.{Scanning.{Scanning}}
 use Rattle.log_merge.proofs.order.scan.Given as goal
 

@@ -1,5 +1,6 @@
 -- `move_entry` reads seven numbers and then writes them.
-use Rattle.model.specs.Prelude.{suc, ◌+◌, arith, ◌≡◌, length-set}
+use Rattle.std.specs.Prelude.{◌+◌, ◌≡◌}
+use Rattle.model.specs.Prelude.{suc, arith, length-set}
 use Rattle.log_merge.proofs.weave.move_entry.Goals as goal
 
 pub returns : goal.returns

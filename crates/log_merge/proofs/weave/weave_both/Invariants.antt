@@ -1,5 +1,6 @@
 -- `weave_both` moves the entry that goes next, until a log is used up.
-use Rattle.model.specs.Prelude.{◌+◌, ◌-◌, length}
+use Rattle.std.specs.Prelude.{◌+◌, ◌-◌}
+use Rattle.model.specs.Prelude.{length}
 use Rattle.log_merge.proofs.Weaving.{Weaving}
 use Rattle.log_merge.proofs.weave.weave_both.Given as goal
 

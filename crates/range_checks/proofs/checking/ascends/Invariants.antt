@@ -1,5 +1,5 @@
 -- `ascends` is the definition's tests, range by range.
-use Rattle.model.specs.Prelude.{◌-◌}
+use Rattle.std.specs.Prelude.{◌-◌}
 use Rattle.range_checks.proofs.{Ascending.{Testing}}
 use Rattle.range_checks.proofs.checking.ascends.Given as goal
 

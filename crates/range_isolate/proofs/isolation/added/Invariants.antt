@@ -1,5 +1,5 @@
 -- `added` counts what the loop of `cover` would add, record by record.
-use Rattle.model.specs.Prelude.{◌-◌}
+use Rattle.std.specs.Prelude.{◌-◌}
 use Rattle.range_isolate.proofs.Counting.{Counting}
 use Rattle.range_isolate.proofs.isolation.added.Given as goal
 

@@ -1,5 +1,6 @@
 -- `cover` goes on until one of its ways out: what is left to do, from here, is what was to do from the start.
-use Rattle.model.specs.Prelude.{◌+◌, ◌*◌, ◌≤◌, arith, length}
+use Rattle.std.specs.Prelude.{◌+◌, ◌*◌, ◌≤◌}
+use Rattle.model.specs.Prelude.{arith, length}
 use Rattle.range_isolate.proofs.Covering.{cover_end, cover_before, cover_cut, cut_fits, room_gap}
 use Rattle.range_isolate.proofs.{Covering.{room_before, room_end}}
 use Rattle.range_isolate.proofs.isolation.cover.Invariants.{start_of, turn}

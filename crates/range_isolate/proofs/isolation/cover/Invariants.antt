@@ -1,5 +1,6 @@
 -- `cover` goes on until one of its ways out: what is left to do, from here, is what was to do from the start.
-use Rattle.model.specs.Prelude.{ℕ, ◌+◌, ◌-◌, ◌≤◌, ◌<◌, arith, ◌≡◌, refl, ◌∙◌, List, length, get_or}
+use Rattle.std.specs.Prelude.{◌+◌, ◌-◌, ◌≤◌, ◌<◌, ◌≡◌}
+use Rattle.model.specs.Prelude.{ℕ, arith, refl, ◌∙◌, List, length, get_or}
 use Rattle.model.specs.declared.{Range.Range}
 use Rattle.range_states.specs.View.{view, blank}
 use Rattle.range_isolate.proofs.Covering.{cover_more, cover_room, room_gap}

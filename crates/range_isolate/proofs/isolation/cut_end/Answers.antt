@@ -1,5 +1,6 @@
 -- `cut_end` leaves the record or makes two of it.
-use Rattle.model.specs.Prelude.{◌*◌, ◌+◌, ◌≤◌, length}
+use Rattle.std.specs.Prelude.{◌*◌, ◌+◌, ◌≤◌}
+use Rattle.model.specs.Prelude.{length}
 use Rattle.range_isolate.proofs.{Covering.{uncut, cut, cut_room}}
 use Rattle.std.proofs.Common.{rules}
 use Rattle.range_isolate.proofs.isolation.cut_end.Goals as goal

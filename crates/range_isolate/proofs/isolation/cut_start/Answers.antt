@@ -1,5 +1,6 @@
 -- `cut_start` leaves the record or makes two of it.
-use Rattle.model.specs.Prelude.{◌*◌, ◌+◌, ◌≤◌, length}
+use Rattle.std.specs.Prelude.{◌*◌, ◌+◌, ◌≤◌}
+use Rattle.model.specs.Prelude.{length}
 use Rattle.range_isolate.proofs.{Isolating.{start_end, start_uncut, start_cut, start_room_lem}}
 use Rattle.std.proofs.Common.{rules}
 use Rattle.range_isolate.proofs.isolation.cut_start.Goals as goal

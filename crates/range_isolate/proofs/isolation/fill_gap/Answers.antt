@@ -1,5 +1,6 @@
 -- `fill_gap` inserts a record or none.
-use Rattle.model.specs.Prelude.{◌≡◌, lt-ltb}
+use Rattle.std.specs.Prelude.{◌≡◌}
+use Rattle.model.specs.Prelude.{lt-ltb}
 use Rattle.range_isolate.proofs.{Covering.{gapped_yes, gapped_no}}
 use Rattle.range_isolate.specs.Isolation.{gap_count}
 use Rattle.std.proofs.Common.{rules}

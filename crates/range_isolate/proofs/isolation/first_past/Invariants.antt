@@ -1,5 +1,5 @@
 -- `first_past` looks at one record after another.
-use Rattle.model.specs.Prelude.{◌-◌}
+use Rattle.std.specs.Prelude.{◌-◌}
 use Rattle.range_isolate.proofs.Isolating.{Looking}
 use Rattle.range_isolate.proofs.isolation.first_past.Given as goal
 

@@ -1,5 +1,6 @@
 -- `plan_isolate` is what the run is refused for, 15, or what is told.
-use Rattle.model.specs.Prelude.{ℕ, ◌≤◌, arith, ◌≡◌, refl, sym, ◌∙◌, lt-ltb, le-ltb}
+use Rattle.std.specs.Prelude.{◌≤◌, ◌≡◌}
+use Rattle.model.specs.Prelude.{ℕ, arith, refl, sym, ◌∙◌, lt-ltb, le-ltb}
 use Rattle.model.specs.declared.Verdict.TheVariants.{Accepted}
 use Rattle.model.specs.declared.Verdict.{Verdict}
 use Rattle.range_records.specs.declared.decisions.Scan.{Scan}

@@ -1,5 +1,6 @@
 -- `cut` writes the next piece in each turn, and no more records are left to read than were.
-use Rattle.model.specs.Prelude.{arith, sym, ◌∙◌, ◌-◌, ◌≡◌, length-set}
+use Rattle.std.specs.Prelude.{◌-◌, ◌≡◌}
+use Rattle.model.specs.Prelude.{arith, sym, ◌∙◌, length-set}
 use Rattle.range_records.proofs.Laws.Loops.{cutting_none, cutting_less}
 use Rattle.range_records.proofs.strips.cut.Goals as goal
 

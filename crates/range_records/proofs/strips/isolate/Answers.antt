@@ -1,5 +1,6 @@
 -- `isolate` is its passes, and these are the model's call.
-use Rattle.model.specs.Prelude.{◌≤◌, arith, length, take, length-take}
+use Rattle.std.specs.Prelude.{◌≤◌}
+use Rattle.model.specs.Prelude.{arith, length, take, length-take}
 use Rattle.range_records.proofs.Laws.{Loops.few_under, Survey.scanned_few, Together.{isolate_fits, isolates}}
 use Rattle.range_records.proofs.strips.isolate.Goals as goal
 

@@ -1,5 +1,6 @@
 -- `join` takes one record in each turn; what is written stays behind what is read.
-use Rattle.model.specs.Prelude.{arith, sym, ◌∙◌, ◌-◌, ◌≡◌, length-set}
+use Rattle.std.specs.Prelude.{◌-◌, ◌≡◌}
+use Rattle.model.specs.Prelude.{arith, sym, ◌∙◌, length-set}
 use Rattle.range_records.proofs.Laws.Loops.{joining_none, joining_more}
 use Rattle.range_records.proofs.strips.join.Goals as goal
 

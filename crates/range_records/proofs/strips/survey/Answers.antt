@@ -1,5 +1,6 @@
 -- `survey` scans one record more in each turn, and a record adds at most one to each count.
-use Rattle.model.specs.Prelude.{arith, sym, ◌∙◌, subst, ◌+◌, ◌<◌, length}
+use Rattle.std.specs.Prelude.{◌+◌, ◌<◌}
+use Rattle.model.specs.Prelude.{arith, sym, ◌∙◌, subst, length}
 use Rattle.range_records.specs.declared.decisions.Scan.{Scan}
 use Rattle.range_records.specs.Passes.{begun, Few}
 use Rattle.range_records.proofs.Laws.Loops.{scanned_none, scanned_more, few_none, few_look}

@@ -1,5 +1,5 @@
 -- `coalesce` reads up to the first record that joins, and from there on is the pass of `Joining`.
-use Rattle.model.specs.Prelude.{◌-◌}
+use Rattle.std.specs.Prelude.{◌-◌}
 use Rattle.range_states.proofs.Joining.{Joining}
 use Rattle.range_states.proofs.coalescing.coalesce.Given as goal
 

@@ -1,5 +1,5 @@
 -- `first_join` reads on while no record joins the one before it.
-use Rattle.model.specs.Prelude.{◌-◌}
+use Rattle.std.specs.Prelude.{◌-◌}
 use Rattle.range_states.proofs.Joining.{Reading}
 use Rattle.range_states.proofs.coalescing.first_join.Given as goal
 

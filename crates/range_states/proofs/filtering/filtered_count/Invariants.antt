@@ -1,5 +1,5 @@
 -- `filtered_count` counts what is left to look at, record by record.
-use Rattle.model.specs.Prelude.{◌-◌}
+use Rattle.std.specs.Prelude.{◌-◌}
 use Rattle.range_states.proofs.Overlaps.{Counting}
 use Rattle.range_states.proofs.filtering.filtered_count.Given as goal
 

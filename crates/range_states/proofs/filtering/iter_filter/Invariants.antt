@@ -1,5 +1,5 @@
 -- `iter_filter` writes each overlap at the next record of the second run.
-use Rattle.model.specs.Prelude.{◌-◌}
+use Rattle.std.specs.Prelude.{◌-◌}
 use Rattle.range_states.proofs.Overlaps.{Writing}
 use Rattle.range_states.proofs.filtering.iter_filter.Given as goal
 

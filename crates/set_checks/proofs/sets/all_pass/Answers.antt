@@ -1,5 +1,6 @@
 -- One index more is one test more.
-use Rattle.model.specs.Prelude.{arith, ◌≡◌}
+use Rattle.std.specs.Prelude.{◌≡◌}
+use Rattle.model.specs.Prelude.{arith}
 use Rattle.set_checks.proofs.{Passing.{passes_more, passes_nothing}}
 use Rattle.set_checks.proofs.sets.all_pass.Goals as goal
 

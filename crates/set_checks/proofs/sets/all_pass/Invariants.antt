@@ -1,5 +1,6 @@
 -- One index more is one test more.
-use Rattle.model.specs.Prelude.{◌≤◌, ◌-◌, ◌≡◌, true}
+use Rattle.std.specs.Prelude.{◌≤◌, ◌-◌, ◌≡◌}
+use Rattle.model.specs.Prelude.{true}
 use Rattle.set_checks.specs.Sets.{AllPass}
 use Rattle.set_checks.proofs.sets.all_pass.Given as goal
 

@@ -1,5 +1,5 @@
 -- `check_each`: index by index; the first check that fails is told.
-use Rattle.model.specs.Prelude.{◌-◌}
+use Rattle.std.specs.Prelude.{◌-◌}
 use Rattle.model.specs.Refusals.{set_refusal}
 use Rattle.set_checks.specs.{Head.head_in, Sets.owned_refusal}
 use Rattle.set_checks.proofs.{Turns.{Left}}

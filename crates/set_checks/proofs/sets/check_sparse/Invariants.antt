@@ -1,5 +1,6 @@
 -- `check_sparse`: the flags, then the list in its order; the first check that fails is told.
-use Rattle.model.specs.Prelude.{◌-◌, length}
+use Rattle.std.specs.Prelude.{◌-◌}
+use Rattle.model.specs.Prelude.{length}
 use Rattle.model.specs.Refusals.{sparse_refusal}
 use Rattle.set_checks.specs.{Head.head_in, Sets.listed_at}
 use Rattle.set_checks.proofs.{Turns.{Left}}

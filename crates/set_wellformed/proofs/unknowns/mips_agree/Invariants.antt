@@ -1,5 +1,5 @@
 -- `mips_agree` walks mip by mip; the first where the halves differ decides.
-use Rattle.model.specs.Prelude.{◌-◌}
+use Rattle.std.specs.Prelude.{◌-◌}
 use Rattle.set_wellformed.specs.Parts.{Testing}
 use Rattle.set_wellformed.specs.Unknowns.{mip_agrees, itself}
 use Rattle.set_wellformed.proofs.unknowns.mips_agree.Given as goal

@@ -1,5 +1,5 @@
 -- `mips_known` tests mip by mip; the first with an UNKNOWN range decides.
-use Rattle.model.specs.Prelude.{◌-◌}
+use Rattle.std.specs.Prelude.{◌-◌}
 use Rattle.model.specs.Base.{every}
 use Rattle.set_storage.specs.Storage.{numbers_of, mip_of}
 use Rattle.set_wellformed.specs.{Parts.{Testing}, Unknowns.is_known}

@@ -1,5 +1,5 @@
 -- `ranges_agree` goes through both lists at once; the first two states that differ decide.
-use Rattle.model.specs.Prelude.{◌+◌, ◌-◌, ◌≤◌}
+use Rattle.std.specs.Prelude.{◌+◌, ◌-◌, ◌≤◌}
 use Rattle.range_states.specs.View.{decode}
 use Rattle.set_wellformed.proofs.Agreeing.{Walk}
 use Rattle.set_wellformed.proofs.unknowns.ranges_agree.Given as goal

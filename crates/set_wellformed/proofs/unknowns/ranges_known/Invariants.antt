@@ -1,5 +1,5 @@
 -- `ranges_known` tests range by range; the first that is UNKNOWN decides.
-use Rattle.model.specs.Prelude.{◌-◌}
+use Rattle.std.specs.Prelude.{◌-◌}
 use Rattle.set_wellformed.proofs.Known.{Knowing}
 use Rattle.set_wellformed.proofs.unknowns.ranges_known.Given as goal
 

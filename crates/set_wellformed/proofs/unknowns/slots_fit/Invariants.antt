@@ -1,5 +1,5 @@
 -- `slots_fit` tests index by index; the first that does not fit decides.
-use Rattle.model.specs.Prelude.{◌-◌}
+use Rattle.std.specs.Prelude.{◌-◌}
 use Rattle.model.specs.WellFormed.{ends_fit, slot_fits}
 use Rattle.set_storage.specs.Storage.{numbers_of, flags_of, tracker_slot}
 use Rattle.set_wellformed.specs.{Parts.{Testing}}

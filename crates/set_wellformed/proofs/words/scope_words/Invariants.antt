@@ -1,5 +1,5 @@
 -- One index more is one test more of each kind and its part of the union; what the union leaves is tested last.
-use Rattle.model.specs.Prelude.{◌≤◌, ◌-◌}
+use Rattle.std.specs.Prelude.{◌≤◌, ◌-◌}
 use Rattle.usage.specs.Gathered.{Gathered}
 use Rattle.set_storage.specs.Storage.{start_half}
 use Rattle.set_wellformed.specs.Words.{half_word, WordsAre, scope_word_proper, scope_word_plain}

@@ -1,5 +1,5 @@
 -- A union of no bit or one decides; otherwise index by index, the first that is not compatible.
-use Rattle.model.specs.Prelude.{◌-◌}
+use Rattle.std.specs.Prelude.{◌-◌}
 use Rattle.set_wellformed.specs.{Parts.{Testing}, Unknowns.itself}
 use Rattle.set_wellformed.specs.Words.{tracker_word_fits}
 use Rattle.set_wellformed.proofs.words.tracker_compatible.Given as goal

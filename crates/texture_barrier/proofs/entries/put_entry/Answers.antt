@@ -1,5 +1,6 @@
 -- `put_entry` makes seven stores, which are one entry in the view.
-use Rattle.model.specs.Prelude.{suc, ◌+◌, ◌*◌, arith, ◌≡◌}
+use Rattle.std.specs.Prelude.{◌+◌, ◌*◌, ◌≡◌}
+use Rattle.model.specs.Prelude.{suc, arith}
 use Rattle.texture_barrier.specs.Entries.{put_entry_is}
 use Rattle.texture_barrier.proofs.entries.put_entry.Goals as goal
 

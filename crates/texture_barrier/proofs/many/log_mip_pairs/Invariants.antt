@@ -1,5 +1,5 @@
 -- `log_mip_pairs` takes the mips one by one, each with its given ranges.
-use Rattle.model.specs.Prelude.{◌*◌, ◌-◌}
+use Rattle.std.specs.Prelude.{◌*◌, ◌-◌}
 use Rattle.texture_barrier.specs.Adds.{Adding}
 use Rattle.texture_barrier.specs.{Steps.to_ranges}
 use Rattle.texture_barrier.proofs.{Remaining.{mips_left}}

@@ -1,5 +1,5 @@
 -- `log_mips` takes the mips one by one, each with the same step.
-use Rattle.model.specs.Prelude.{◌*◌, ◌-◌}
+use Rattle.std.specs.Prelude.{◌*◌, ◌-◌}
 use Rattle.texture_barrier.specs.Adds.{Adding}
 use Rattle.texture_barrier.specs.{Steps.step_entries}
 use Rattle.texture_barrier.proofs.{Remaining.{mips_left}}

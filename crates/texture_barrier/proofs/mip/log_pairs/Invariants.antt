@@ -1,5 +1,5 @@
 -- `log_pairs` takes the given ranges one by one, each against all of the run.
-use Rattle.model.specs.Prelude.{◌*◌, ◌-◌}
+use Rattle.std.specs.Prelude.{◌*◌, ◌-◌}
 use Rattle.model.specs.declared.{Range.Range}
 use Rattle.texture_barrier.specs.declared.mip.Step.TheVariants.{Within}
 use Rattle.texture_barrier.specs.{Adds.{Adding}, Steps.step_entries}

@@ -1,5 +1,5 @@
 -- `log_run` takes the run's ranges one by one.
-use Rattle.model.specs.Prelude.{◌-◌}
+use Rattle.std.specs.Prelude.{◌-◌}
 use Rattle.texture_barrier.specs.{Adds.{Adding}, Steps.range_entries}
 use Rattle.texture_barrier.proofs.{Remaining.{run_left}}
 use Rattle.texture_barrier.proofs.mip.log_run.Given as goal

@@ -1,5 +1,6 @@
 -- `fresh_mips`: each lap makes the next mip anew, and after the last lap all are.
-use Rattle.model.specs.Prelude.{◌-◌, ◌≤◌, [], ◌∷◌}
+use Rattle.std.specs.Prelude.{◌-◌, ◌≤◌, ◌∷◌}
+use Rattle.model.specs.Prelude.{[]}
 use Rattle.model.specs.{Base.fine, RangedStates.range}
 use Rattle.set_storage.specs.Storage.{numbers_of}
 use Rattle.texture_merge.specs.Walks.{MipWalk}

@@ -1,5 +1,5 @@
 -- `merge_every_mips`: each lap is a step of the model's walk over the mips, up to the first conflict.
-use Rattle.model.specs.Prelude.{◌-◌, ◌≤◌}
+use Rattle.std.specs.Prelude.{◌-◌, ◌≤◌}
 use Rattle.model.specs.Texture.{merge_every}
 use Rattle.set_storage.specs.Storage.{numbers_of}
 use Rattle.texture_merge.specs.Walks.{MipWalk}

@@ -1,5 +1,5 @@
 -- `merge_mips`: each lap is a step of the model's walk over the mips of the selector, up to the first conflict.
-use Rattle.model.specs.Prelude.{◌-◌}
+use Rattle.std.specs.Prelude.{◌-◌}
 use Rattle.model.specs.{Representation.{layer_start, layer_end}}
 use Rattle.texture_mips.specs.Merge.{merge_run}
 use Rattle.texture_merge.proofs.Laps.{SelectorLap}

@@ -1,5 +1,5 @@
 -- `paint_mips`: each mip of the selector takes its state.
-use Rattle.model.specs.Prelude.{◌-◌}
+use Rattle.std.specs.Prelude.{◌-◌}
 use Rattle.model.specs.{Base.fine, Representation.{layer_start, layer_end}, RangedStates.paint}
 use Rattle.texture_merge.proofs.Laps.{SelectorLap}
 use Rattle.texture_merge.proofs.every.paint_mips.Given as goal

@@ -1,5 +1,5 @@
 -- `update_mips`: each mip of the selector takes its state, and is coalesced.
-use Rattle.model.specs.Prelude.{◌-◌}
+use Rattle.std.specs.Prelude.{◌-◌}
 use Rattle.model.specs.{Base.fine, Representation.{layer_start, layer_end}, RangedStates.{coalesce, paint}}
 use Rattle.texture_merge.proofs.Laps.{SelectorLap}
 use Rattle.texture_merge.proofs.every.update_mips.Given as goal

@@ -1,5 +1,6 @@
 -- `give_mip`: each lap gives one range, and what is left decides.
-use Rattle.model.specs.Prelude.{◌-◌, ◌≤◌, map, get_or, drop}
+use Rattle.std.specs.Prelude.{◌-◌, ◌≤◌}
+use Rattle.model.specs.Prelude.{map, get_or, drop}
 use Rattle.model.specs.Base.{passes}
 use Rattle.set_storage.specs.Storage.{numbers_of, mips_of, layers_at}
 use Rattle.range_states.specs.View.{decode}

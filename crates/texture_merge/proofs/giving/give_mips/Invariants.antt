@@ -1,5 +1,6 @@
 -- `give_mips`: each lap gives one mip, and what is left decides.
-use Rattle.model.specs.Prelude.{◌-◌, ◌≤◌, get_or, drop}
+use Rattle.std.specs.Prelude.{◌-◌, ◌≤◌}
+use Rattle.model.specs.Prelude.{get_or, drop}
 use Rattle.model.specs.{Texture.pieces_of, Base.passes}
 use Rattle.set_storage.specs.{Storage.{numbers_of, mips_of, layers_at}}
 use Rattle.texture_merge.specs.Giving.{Giving, taken, pieces_from}

@@ -1,5 +1,5 @@
 -- `learn` updates the mip range by range of the end.
-use Rattle.model.specs.Prelude.{◌-◌}
+use Rattle.std.specs.Prelude.{◌-◌}
 use Rattle.texture_mips.proofs.Learnt.{Learning}
 use Rattle.texture_mips.proofs.learning.learn.Given as goal
 

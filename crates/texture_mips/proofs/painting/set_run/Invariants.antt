@@ -1,5 +1,5 @@
 -- `set_run` is a pass that nothing stops.
-use Rattle.model.specs.Prelude.{◌-◌}
+use Rattle.std.specs.Prelude.{◌-◌}
 use Rattle.model.specs.RangedStates.{in_state}
 use Rattle.texture_mips.proofs.{Passing.{Passing}, Painted.{never}}
 use Rattle.texture_mips.proofs.painting.set_run.Given as goal

@@ -1,5 +1,5 @@
 -- `merge_run` is a pass that a conflict stops.
-use Rattle.model.specs.Prelude.{◌-◌}
+use Rattle.std.specs.Prelude.{◌-◌}
 use Rattle.texture_mips.specs.Merge.{run_stops, run_takes}
 use Rattle.texture_mips.proofs.{Passing.{Passing}}
 use Rattle.texture_mips.proofs.uniting.merge_run.Given as goal

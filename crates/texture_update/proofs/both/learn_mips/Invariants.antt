@@ -1,5 +1,5 @@
 -- `learn_mips`: each lap lets the next mip of the start learn.
-use Rattle.model.specs.Prelude.{◌-◌, ◌≤◌}
+use Rattle.std.specs.Prelude.{◌-◌, ◌≤◌}
 use Rattle.set_storage.specs.Storage.{numbers_of, start_half}
 use Rattle.texture_merge.specs.Walks.{MipWalk}
 use Rattle.texture_update.proofs.{Lessons.{lesson}}

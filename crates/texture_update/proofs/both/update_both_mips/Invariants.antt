@@ -1,5 +1,5 @@
 -- `update_both_mips`: each lap changes the next mip of the selector in both halves.
-use Rattle.model.specs.Prelude.{◌-◌}
+use Rattle.std.specs.Prelude.{◌-◌}
 use Rattle.texture_update.proofs.Turns.{Turning}
 use Rattle.texture_update.proofs.both.update_both_mips.Given as goal
 

@@ -1,5 +1,6 @@
 -- `update_from_mip`: each lap gives one range, and what is left decides.
-use Rattle.model.specs.Prelude.{◌-◌, ◌≤◌, map, drop}
+use Rattle.std.specs.Prelude.{◌-◌, ◌≤◌}
+use Rattle.model.specs.Prelude.{map, drop}
 use Rattle.range_states.specs.View.{decode}
 use Rattle.set_storage.specs.Storage.{numbers_of, ends_of}
 use Rattle.texture_merge.specs.Giving.{piece_on}

@@ -1,5 +1,6 @@
 -- `update_from_mips`: each lap gives one mip, and what is left decides.
-use Rattle.model.specs.Prelude.{◌-◌, ◌≤◌, drop}
+use Rattle.std.specs.Prelude.{◌-◌, ◌≤◌}
+use Rattle.model.specs.Prelude.{drop}
 use Rattle.model.specs.Texture.{pieces_of}
 use Rattle.set_storage.specs.{Storage.{numbers_of, mips_of, ends_of}}
 use Rattle.texture_merge.specs.Giving.{pieces_from}

@@ -1,5 +1,6 @@
 -- The entries of the two low bytes sum to one where one of sixteen bits is set.
-use Rattle.model.specs.Prelude.{ℕ, ◌+◌, ◌/◌, ◌<◌, arith, ◌∙◌, bit_and, and_le_r, List, get_or}
+use Rattle.std.specs.Prelude.{◌+◌, ◌/◌, ◌<◌}
+use Rattle.model.specs.Prelude.{ℕ, arith, ◌∙◌, bit_and, and_le_r, List, get_or}
 use Rattle.usage.specs.Ones.{CountsOnes, entry_lt, looked_up, two_bytes}
 use mir.Syntax.{w8, w64}
 use mir.Val.{Fits}
