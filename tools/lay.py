@@ -4,11 +4,10 @@
     tools/lay.py FILE...           rewrites the files
     tools/lay.py --check FILE...   names the lines over 140 characters of .rt and .antt files, and fails if there are any
 
-- Imports of a crate stand together: `use Rattle·model.specs.{Sets.{Slot, Set}, Base.Stop}`.
-- In a need's proof with a line that is too long, chains of `c .before` get a name by `let`.
+- Imports of a crate stand together: `use Rattle.model.specs.{Sets.{Slot, Set}, Base.Stop}`.
 - A line over 140 characters is broken: an import into two, a signature at its arrows, a comment between words, a term where the fewest
-  brackets are open. rt fmt lays a bracketed list that is broken one element a line, so a break inside one comes last. A chain of
-  `.before` is never broken: what is too long still needs a name by hand.
+  brackets are open. rt fmt lays a bracketed list that is broken one element a line, so a break inside one comes last. What cannot be
+  broken needs a name by hand.
 """
 import re
 import sys
@@ -21,7 +20,7 @@ OPEN, CLOSE = "([{⌜", ")]}⌝"
 
 # ---- Imports
 
-IMPORT = re.compile(r"^use (Rattle·\w+(?:·specs\.specs|·proofs\.proofs|\.specs))\.(.*\})$")
+IMPORT = re.compile(r"^use (Rattle\.\w+\.(?:specs|proofs))\.(.*\})$")
 
 
 def items(text):
@@ -88,62 +87,13 @@ def grouped(lines):
     if at is None:
         return lines
     out = []
-    for crate in sorted(crates, key=lambda c: not c.startswith("Rattle·model")):
+    for crate in sorted(crates, key=lambda c: not c.startswith("Rattle.model.")):
         modules = crates[crate]
         if "Prelude" in modules:
             out += import_lines(crate, [("Prelude", modules.pop("Prelude"))])
         if modules:
             out += import_lines(crate, [(m, modules[m]) for m in sorted(modules, key=lambda m: not m.startswith("declared"))])
     return kept[:at] + out + kept[at:]
-
-
-# ---- Chains of `.before`
-
-NEED = re.compile(r"^(\S+ (?:t )?c(?: κs)?) =(.*)$")  # of a cycle of calls it takes `t` first
-CHAIN = re.compile(r"(?<![\w·-])c((?: \.before){3,})(?: \.([^\s()\[\]{},;]+))?")
-
-
-def chain_names(text):
-    """Chains by their length, named after what is read at their end; none where some have names already."""
-    if all(len(line) <= WIDTH for line in text.split("\n")) or re.search(r"let \S+ =\s+\(?c \.before", text):
-        return {}
-    found = {}
-    for m in CHAIN.finditer(text):
-        found.setdefault(m[1].count(".before"), []).append(m[2])
-    names, taken = {}, set(re.findall(r"\blet (\S+)", text))
-    for length in sorted(found):
-        read = [r for r in found[length] if r] or ["place"]
-        name = "at-entry" if {"pre", "args"} & set(read) else "at-" + read[0]
-        while name in taken:
-            name += "′"
-        taken.add(name)
-        names[length] = name
-    return names
-
-
-def with_names(head, body, names):
-    """A need whose chains have names: the shorter ones first, each from the one before it."""
-    lets, last, reached = "", "c", 0
-    for length, name in sorted(names.items()):
-        one = "let %s = %s in" % (name, last + " .before" * (length - reached))
-        lets += (" " if lets and len(lets.split("\n")[-1]) + len(one) < WIDTH - 4 else "\n") + one
-        last, reached = name, length
-    read = lambda c: names.get(c[1].count(".before"), "c" + c[1]) + (" ." + c[2] if c[2] else "")
-    body = [CHAIN.sub(read, line) for line in body if line]
-    return [head + " ="] + ["    " + l for l in lets.strip().split("\n")] + [l if l.startswith(" ") else "    " + l for l in body]
-
-
-def named(lines):
-    out, i = [], 0
-    while i < len(lines):
-        m, j = NEED.match(lines[i]), i + 1
-        while j < len(lines) and lines[j].startswith(" "):
-            j += 1
-        text = "\n".join(lines[i:j])
-        names = chain_names(text) if m and "λ c" not in text else {}
-        out += with_names(m[1], [m[2].strip()] + lines[i + 1:j], names) if names else lines[i:j]
-        i = j
-    return out
 
 
 # ---- Long lines
@@ -266,7 +216,7 @@ def flowing(lines):
 
 
 def laid(text):
-    lines = flowing(named(grouped(text.split("\n"))))
+    lines = flowing(grouped(text.split("\n")))
     return "\n".join(part for line in lines for part in broken(line))
 
 

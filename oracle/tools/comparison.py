@@ -36,7 +36,7 @@ def arguments():
     parser.add_argument("--self-test", action="store_true", help="break rules one at a time; each must be reported")
     chosen = parser.parse_args()
     if chosen.program and not shutil.which(chosen.program):
-        parser.error(f"there is no program {chosen.program}; if it is the proved one, `rt check replay` writes it")
+        parser.error(f"there is no program {chosen.program}; if it is the proved one, `rt run <stdin` in crates/replay writes it")
     return chosen
 
 

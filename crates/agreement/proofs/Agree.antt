@@ -1,24 +1,23 @@
 -- Demand 3, from sets that are good: what holds of one texture in a scope and in a tracker is handed to the lifting of LiftCalls, for every
 -- list of calls.
-use Rattle.std.specs.Prelude.{◌-◌, ◌+◌, ◌≤◌, ◌<◌, ◌≡◌, ◌∷◌, if◌then◌else◌}
-use Rattle.model.specs.Prelude.{ℕ, zero, suc, arith, refl, sym, ap, ◌∙◌, Bool, true, false, and-eq-true_iff}
-use Rattle.model.specs.Prelude.{false≢true, Option, none, some, Option_map, [], append-nil, List, map, eqb, bit_and, bit_or, replicate}
-use Rattle.model.specs.Prelude.{get_or, eqb-true, not-false, le-leb, lt-ltb}
+use Rattle.model.specs.Prelude.{ℕ, zero, suc, arith, refl, sym, ap, ◌∙◌, Bool, true, false, and-eq-true_iff, false≢true, Option, none, some}
+use Rattle.model.specs.Prelude.{Option_map, [], append-nil, List, map, eqb, bit_and, bit_or, replicate, get_or, eqb-true, not-false, le-leb}
+use Rattle.model.specs.Prelude.{lt-ltb}
 use Rattle.model.specs.declared.{Extent.Extent, InvalidUse.InvalidUse, Selector.Selector, UsageFlags.UsageFlags}
 use Rattle.model.specs.{Base.{ruled, or_keep, passes}, Representation.{is_full, Ends, full}}
 use Rattle.model.specs.{Sets.{Head, outside, Slot, Set, Tracker, Opening}, Refusals.{texture_checks, selector_checks, single_refusal}}
 use Rattle.model.specs.Texture.{Held, single, many, Given, given_single, given_many, from_use, from_held, ranged, Entry, merge, invalid_use}
 use Rattle.model.specs.{Texture.{spread_piece, fresh_mips}, Subresources.everywhere, BoolLaws.{neither, by_test, and_left}}
 use Rattle.model.specs.{CheckLaws.{inside, Passed, selector_within, single_passed}, Flags.{meets, is_bit, apart, flags_fit}}
-use Rattle.model.specs.Calls.{Answer, done, refused, in_conflict, CallResult, Call, call_merge_single, call_merge_usage_scope, call_set_single}
-use Rattle.model.specs.Calls.{call_set_from_usage_scope, call_set_from_tracker, call_set_and_remove_sparse, Sets, step, newly}
-use Rattle.model.specs.StateRules.{Move, invalid_state, unite}
+use Rattle.model.specs.Calls.{Answer, done, refused, in_conflict, CallResult, Call, call_merge_single, call_merge_usage_scope}
+use Rattle.model.specs.Calls.{call_set_single, call_set_from_usage_scope, call_set_from_tracker, call_set_and_remove_sparse, Sets, step}
+use Rattle.model.specs.{Calls.newly, StateRules.{Move, invalid_state, unite}}
+use Rattle.std.specs.Prelude.{◌-◌, ◌+◌, ◌≤◌, ◌<◌, ◌≡◌, ◌∷◌, if◌then◌else◌}
 use Rattle.usage.specs.BitLaws.{and_or}
 use Rattle.agreement.specs.Grid.{Named, grid, named_use, named_all, tab, named_row, Grid, SubresourceConflict, grid_barrier}
 use Rattle.agreement.specs.Shared.{first_of, grid_of, seen, seen_slot, itself, seen_answer, Shares, Agree, grid_ends, grid_scope}
 use Rattle.agreement.specs.Shared.{grid_tracker, to_grids, entries_at, grid_at}
-use Rattle.agreement.proofs.GridLaws.{map_everywhere, grid_map, grid_everywhere}
-use Rattle.agreement.proofs.RulesAgree.{update_rule}
+use Rattle.agreement.proofs.{GridLaws.{map_everywhere, grid_map, grid_everywhere}, RulesAgree.update_rule}
 use Rattle.agreement.proofs.TextureLaws.{Measured, Fit, Gives, gives_one, gives_place, gives_set, inserted, merged}
 use Rattle.agreement.proofs.TrackerLaws.{Known, Clear, ClearHeld, ClearGiven, UnknownNonzero, KnownEnd, FitEnds, KnownO, KnownGiven}
 use Rattle.agreement.proofs.{TrackerLaws.{clear_known, updated, inserted_ends, insert_clear}, BarrierLaws.{logged, at_most_one}}

@@ -1,21 +1,21 @@
 -- No strict assertion fires in any of the six calls on well-formed sets.
-use Rattle.std.specs.Prelude.{◌+◌, ◌≤◌, ◌≡◌, ◌&&◌, ◌∷◌, if◌then◌else◌}
-use Rattle.model.specs.Prelude.{ℕ, suc, arith, refl, Bool, true, false, not, Option, none, some, List, [], map}
-use Rattle.model.specs.Prelude.{eqb, length, get_elem?, List_get_D_map, not-false, lt-ltb, ltb-true}
+use Rattle.model.specs.Prelude.{ℕ, suc, arith, refl, Bool, true, false, not, Option, none, some, List, [], map, eqb, length, get_elem?}
+use Rattle.model.specs.Prelude.{List_get_D_map, not-false, lt-ltb, ltb-true}
 use Rattle.model.specs.declared.{Extent.Extent, Refusal.Refusal, Selector.Selector, UsageFlags.UsageFlags}
 use Rattle.model.specs.{Base.{every, each, each_at, All}, Representation.Ends}
 use Rattle.model.specs.Sets.{Numbers, Slot, Set, Tracker, head_of, own_extent, empty_slot, slot_at}
 use Rattle.model.specs.Refusals.{owned_checks, sparse_checks, single_refusal, set_refusal, sparse_refusal}
-use Rattle.model.specs.Calls.{no_ends, Call, call_merge_single, call_merge_usage_scope, call_set_single, call_set_from_usage_scope, call_set_from_tracker}
-use Rattle.model.specs.{Calls.{call_set_and_remove_sparse, Sets}, Texture.{Held, Given, ranged, from_use, from_held}, BoolLaws.{by_test, both}}
-use Rattle.model.specs.{ListLaws.{all_left, all_right, elem_of}, CheckLaws.{passed, Passed}}
+use Rattle.model.specs.Calls.{no_ends, Call, call_merge_single, call_merge_usage_scope, call_set_single, call_set_from_usage_scope}
+use Rattle.model.specs.{Calls.{call_set_from_tracker, call_set_and_remove_sparse, Sets}, Texture.{Held, Given, ranged, from_use, from_held}}
+use Rattle.model.specs.{BoolLaws.{by_test, both}, ListLaws.{all_left, all_right, elem_of}, CheckLaws.{passed, Passed}}
+use Rattle.std.specs.Prelude.{◌+◌, ◌≤◌, ◌≡◌, ◌&&◌, ◌∷◌, if◌then◌else◌}
 use Rattle.agreement.specs.{Grid.{Grid, Named, named_use, named_all, grid}, Shared.{grid_of, grid_ends, entries_at, grid_at}}
 use Rattle.agreement.specs.WellFormedSets.{Word, GivenWord}
 use Rattle.agreement.specs.Asserts.{scope_asserts, tracker_asserts, in_bounds, unless_refused, each_owned, set_asserts, listed_in_bounds}
 use Rattle.agreement.specs.{Asserts.{sparse_asserts, if_there, if_both, call_asserts}, Fits.{SlotFits, SetFits, SetsFit}}
 use Rattle.agreement.proofs.{SlotLaws.{slot_fits_lem, At, single_at, flags_same, each_owned_lem}, LiftTracker.each_listed}
-use Rattle.agreement.proofs.WellLaws.{FitW, FitEW, GivesW, PairsW, scopes_well, trackers_well, fit_out, ends_out, well_good}
-use Rattle.agreement.proofs.WellLaws.{WellTracker, WellScope, TakenW, tracker_after, scope_after}
+use Rattle.agreement.proofs.WellLaws.{FitW, FitEW, GivesW, PairsW, scopes_well, trackers_well, fit_out, ends_out, well_good, WellTracker}
+use Rattle.agreement.proofs.WellLaws.{WellScope, TakenW, tracker_after, scope_after}
 use Rattle.agreement.proofs.AssertLaws.{asserts_fit, insert_holds, mip_holds, spread_holds}
 
 -- ---- one index of a scope, and of a tracker

@@ -1,25 +1,23 @@
 -- No strict assertion about pieces, states and UNKNOWN fires where a well-formed texture is inserted, merged or updated.
-use Rattle.std.specs.Prelude.{◌-◌, ◌+◌, ◌≤◌, ◌<◌, ◌≡◌, ◌&&◌, ◌∷◌, ◌++◌, if◌then◌else◌}
-use Rattle.model.specs.Prelude.{ℕ, zero, suc, ℕ_discrete, arith, refl, sym, ap, ◌∙◌, true, not, Bool, false}
-use Rattle.model.specs.Prelude.{none, some, List, [], map, append_assoc, append-nil, leb, eqb, length, replicate}
-use Rattle.model.specs.Prelude.{length-replicate, length-append, take, drop, take-append-drop, length-take, length-drop, le-leb, lt-ltb}
-use Rattle.model.specs.Prelude.{eqb-false, ne_eqb}
+use Rattle.model.specs.Prelude.{ℕ, zero, suc, ℕ_discrete, arith, refl, sym, ap, ◌∙◌, true, not, Bool, false, none, some, List, [], map}
+use Rattle.model.specs.Prelude.{append_assoc, append-nil, leb, eqb, length, replicate, length-replicate, length-append, take, drop}
+use Rattle.model.specs.Prelude.{take-append-drop, length-take, length-drop, le-leb, lt-ltb, eqb-false, ne_eqb}
 use Rattle.model.specs.{declared.{Extent.Extent, Range.Range, UsageFlags.UsageFlags}, Base.{every, each_at, zip₂, All, AllO}}
 use Rattle.model.specs.{Flags.incompatible, Representation.{select, mip_start, mip_end, layer_start, layer_end, full, in_mips, Ends}}
 use Rattle.model.specs.{StateRules.invalid_state, RangedStates.{layer_states, coalesce, isolate, paint, Tiles}}
 use Rattle.model.specs.Texture.{Held, single, many, Given, given_single, given_many, Piece, on_mips, learn_all, met_by}
 use Rattle.model.specs.ListLaws.{all_every, all_left, all_right, all_join, first_of_lem, zip_append, all_replicate, all_map}
 use Rattle.model.specs.{BoolLaws.{both, by_test}, RangeLaws.{tiles_le, isolate_cuts, tiles_length}}
+use Rattle.std.specs.Prelude.{◌-◌, ◌+◌, ◌≤◌, ◌<◌, ◌≡◌, ◌&&◌, ◌∷◌, ◌++◌, if◌then◌else◌}
 use Rattle.agreement.specs.{Grid.{Named, tab, named_row}, Shared.grid_of}
-use Rattle.agreement.specs.Asserts.{piece_inside, insert_asserts, mip_asserts, spread_asserts, learn_asserts, learn_all_asserts, none_unknown}
-use Rattle.agreement.specs.Asserts.{pieces_assert, single_asserts, start_asserts}
-use Rattle.agreement.proofs.PaintLaws.{painted_states, split_left, split_right}
-use Rattle.agreement.proofs.{MergeLaws.Tiled, TextureLaws.{Measured, Fit, Gives, gives_one, gives_place, gives_set}}
-use Rattle.agreement.proofs.UpdateLaws.{map_at, step_two, step_ends, step_starts, ends_of, starts_of, twos, twos_ok, twos_ends}
-use Rattle.agreement.proofs.UpdateLaws.{twos_starts, Two, Pair, pair, view, Ok, full_length, after, update_one_lem, update_one}
-use Rattle.agreement.specs.Fits.{StateFits, HeldFits, unknowns}
-use Rattle.agreement.proofs.{TrackerLaws.{Known, KnownAll}, WellStates.NamedFit}
-use Rattle.agreement.proofs.{WellLaws.{ranges_of, FitEW}, GridLaws.thirds, LogRoom.{PieceIn, pieces_in}}
+use Rattle.agreement.specs.Asserts.{piece_inside, insert_asserts, mip_asserts, spread_asserts, learn_asserts, learn_all_asserts}
+use Rattle.agreement.specs.{Asserts.{none_unknown, pieces_assert, single_asserts, start_asserts}, Fits.{StateFits, HeldFits, unknowns}}
+use Rattle.agreement.proofs.{PaintLaws.{painted_states, split_left, split_right}, MergeLaws.Tiled}
+use Rattle.agreement.proofs.TextureLaws.{Measured, Fit, Gives, gives_one, gives_place, gives_set}
+use Rattle.agreement.proofs.UpdateLaws.{map_at, step_two, step_ends, step_starts, ends_of, starts_of, twos, twos_ok, twos_ends, twos_starts}
+use Rattle.agreement.proofs.UpdateLaws.{Two, Pair, pair, view, Ok, full_length, after, update_one_lem, update_one}
+use Rattle.agreement.proofs.{TrackerLaws.{Known, KnownAll}, WellStates.NamedFit, WellLaws.{ranges_of, FitEW}, GridLaws.thirds}
+use Rattle.agreement.proofs.LogRoom.{PieceIn, pieces_in}
 
 -- ---- a state is named where its piece lies
 tab_at : {A : Type 0} (P : A → Type 0) (f : ℕ → A) (k n j : ℕ) → All P (tab f k n) → k ≤ j → j < k + n → P (f j)
@@ -40,7 +38,8 @@ PieceFits p q = StateFits p q.state
 abbrev mip_pieces : ℕ → List Range → List Piece
 mip_pieces k s = map (λ (r : Range). record { selector = select k (suc k) r.start r.end; state = r.state }) s
 
-pieces_of : (p : UsageFlags) (sh : Extent) (k : ℕ) (ss : List (List Range)) → Tiled sh ss → NamedFit p (map (map some) (map layer_states ss))
+pieces_of : (p : UsageFlags) (sh : Extent) (k : ℕ) (ss : List (List Range)) → Tiled sh ss
+    → NamedFit p (map (map some) (map layer_states ss))
     → All (PieceFits p) (each_at mip_pieces k ss)
 pieces_of p sh k [] t f = tt
 pieces_of p sh k (s ∷ ss) t f =

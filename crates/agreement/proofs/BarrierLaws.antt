@@ -1,16 +1,15 @@
 -- One texture in a tracker: the log's entries that hold a subresource are the grid's transition of it.
-use Rattle.std.specs.Prelude.{◌-◌, ◌+◌, ◌≤◌, ◌<◌, ◌≡◌, ◌&&◌, ◌∷◌, ◌++◌, if◌then◌else◌}
-use Rattle.model.specs.Prelude.{ℕ, zero, suc, min, max, add-zero, add-suc, suc-add, zero-add, dec_le, dec_lt, arith}
-use Rattle.model.specs.Prelude.{refl, sym, ap, ◌∙◌, Bool, true, false, and-false, and-eq-true_iff, Option, none, some, List, []}
-use Rattle.model.specs.Prelude.{map, append-nil, leb, ltb, replicate, length, length-replicate, get_or, get_or-replicate}
-use Rattle.model.specs.Prelude.{List_get_D_append, List_get_D_eq_default, get_or-append-add, le-leb, lt-ltb, lt-leb, le-ltb, leb-true, ltb-true}
-use Rattle.model.specs.Prelude.{ltb-false}
-use Rattle.model.specs.declared.{Extent.Extent, Range.Range, Selector.Selector, UsageFlags.UsageFlags}
-use Rattle.model.specs.{Base.{each, each_at, zip₂}, Representation.{select, full, in_mips, holds}, StateRules.{Move, move_of}}
+use Rattle.model.specs.Prelude.{ℕ, zero, suc, min, max, add-zero, add-suc, suc-add, zero-add, dec_le, dec_lt, arith, refl, sym, ap, ◌∙◌}
+use Rattle.model.specs.Prelude.{Bool, true, false, and-false, and-eq-true_iff, Option, none, some, List, [], map, append-nil, leb, ltb}
+use Rattle.model.specs.Prelude.{replicate, length, length-replicate, get_or, get_or-replicate, List_get_D_append, List_get_D_eq_default}
+use Rattle.model.specs.Prelude.{get_or-append-add, le-leb, lt-ltb, lt-leb, le-ltb, leb-true, ltb-true, ltb-false}
+use Rattle.model.specs.{declared.{Extent.Extent, Range.Range, Selector.Selector, UsageFlags.UsageFlags}, Base.{each, each_at, zip₂}}
+use Rattle.model.specs.{Representation.{select, full, in_mips, holds}, StateRules.{Move, move_of}}
 use Rattle.model.specs.RangedStates.{iter_filter, layer_states, Tiles}
 use Rattle.model.specs.Texture.{Held, single, many, Given, given_single, given_many, Piece, Entry, entry, mip_entries, barrier, pieces_of}
 use Rattle.model.specs.{Subresources.everywhere, ListLaws.{all_at, all_get_d, all_weak, map_replicate, each_append}}
 use Rattle.model.specs.{BoolLaws.{by_test, by_lt}, RangeLaws.{tiles_le, tiles_length}}
+use Rattle.std.specs.Prelude.{◌-◌, ◌+◌, ◌≤◌, ◌<◌, ◌≡◌, ◌&&◌, ◌∷◌, ◌++◌, if◌then◌else◌}
 use Rattle.agreement.specs.{Grid.{Named, tab, band, named_row, grid_barrier}, Shared.{grid_of, to_list, entries_at, grid_at}}
 use Rattle.agreement.proofs.{FilterLaws.{held, held_state, held_filter}, RulesAgree.{rule_move, rule_log, log_rule}, MergeLaws.Tiled}
 use Rattle.agreement.proofs.Passes.{piece_at, own_mip, other_mip}
@@ -132,7 +131,8 @@ held_some : (w : ℕ) (f : ℕ → List Move) (l : ℕ) (s : List Range) → Til
 held_some w f l s t =
     let c = tiles_length s 0 w t in
     by_lt l w
-    (λ k. let z : l - 0 ≡ l = omega arith in rw (get_d_some (layer_states s) l 0 (omega arith), held_state f l s 0 w 0 t (omega arith) k, z))
+    (λ k. let z : l - 0 ≡ l = omega arith in
+    rw (get_d_some (layer_states s) l 0 (omega arith), held_state f l s 0 w 0 t (omega arith) k, z))
     (λ k. rw (held_after f l s 0 w t k, some_out (layer_states s) l (omega arith)))
 
 rows_some : (ts : List (List Range)) (m : ℕ)
@@ -276,7 +276,8 @@ piece_log p mask q k s = if in_mips q.selector k
     then mip_entries (λ cur. move_of p.unknown mask cur q.state) k (iter_filter q.selector.layers.start.0
     q.selector.layers.end.0 s) else []
 
-off_piece : (p : UsageFlags) (mask l : ℕ) (q : Piece) (m k : ℕ) (s : List Range) → (m ≡ k → ⊥) → entries_at m l (piece_log p mask q k s) ≡ []
+off_piece : (p : UsageFlags) (mask l : ℕ) (q : Piece) (m k : ℕ) (s : List Range) → (m ≡ k → ⊥)
+    → entries_at m l (piece_log p mask q k s) ≡ []
 off_piece p mask l q m k s h =
     by_test (λ (x : List Entry). entries_at m l x ≡ []) (in_mips q.selector k)
     (λ b. off_ranges m k l (λ cur. move_of p.unknown mask cur q.state)

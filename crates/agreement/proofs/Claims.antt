@@ -1,6 +1,6 @@
--- What is proved, in one place: each claim is a statement with the name of its proof. To trust it, read crate `model`, and here Grid (01's
--- grid), Shared (what the two representations share), WellFormedSets, LogBound, Layers, Asserts and WebGpu; the other modules hold proofs
--- alone.
+-- What is proved, in one place: each claim is a statement with the name of its proof. To trust it, read crate `model`, and the
+-- specs/ of this one: Grid (01's grid), Shared (what the two representations share), WellFormedSets, LogBound, Layers, Asserts and WebGpu;
+-- the other modules hold proofs alone.
 use Rattle.std.specs.Prelude.{◌≤◌, ◌<◌, ◌≡◌, ◌↔◌, ◌||◌, ◌∷◌}
 use Rattle.model.specs.Prelude.{ℕ, true, false, Option, none, some, List, map, [], length, get_elem?}
 use Rattle.model.specs.declared.Refusal.TheVariants.{NoFreeEntry}

@@ -1,20 +1,18 @@
 -- A single merge conflicts just where the uses of some named subresource, with the given one, do not fit.
-use Rattle.std.specs.Prelude.{◌≤◌, ◌<◌, ◌≡◌, ◌&&◌, ◌||◌, ◌∷◌, ◌++◌, if◌then◌else◌}
-use Rattle.model.specs.Prelude.{ℕ, zero, suc, arith, refl, sym, ap, ◌∙◌, Bool, true, false, not, and-eq-true_iff}
-use Rattle.model.specs.Prelude.{false≢true, Option, none, some, Option_map, List, [], map, leb, ltb, eqb, bit_or, or_zero_r}
-use Rattle.model.specs.Prelude.{replicate, get_or, get_or-replicate, List_get_D_map, leb-true, ltb-true, le-leb, lt-ltb, not-true}
+use Rattle.model.specs.Prelude.{ℕ, zero, suc, arith, refl, sym, ap, ◌∙◌, Bool, true, false, not, and-eq-true_iff, false≢true, Option, none}
+use Rattle.model.specs.Prelude.{some, Option_map, List, [], map, leb, ltb, eqb, bit_or, or_zero_r, replicate, get_or, get_or-replicate}
+use Rattle.model.specs.Prelude.{List_get_D_map, leb-true, ltb-true, le-leb, lt-ltb, not-true}
 use Rattle.model.specs.declared.{Extent.Extent, Selector.Selector, UsageFlags.UsageFlags}
-use Rattle.model.specs.{Base.{Stop, ruled, or_keep, onward, walk₂, All, AllO}, Flags.incompatible}
-use Rattle.model.specs.{Representation.{in_mips, holds, full}, Sets.{Slot, Set, head_of, slot_at}, Refusals.{selector_checks, single_refusal}}
+use Rattle.model.specs.{Base.{Stop, ruled, or_keep, onward, walk₂, All, AllO}, Flags.incompatible, Representation.{in_mips, holds, full}}
+use Rattle.model.specs.{Sets.{Slot, Set, head_of, slot_at}, Refusals.{selector_checks, single_refusal}}
 use Rattle.model.specs.{Calls.{Indexed, answer, merge_single}, ListLaws.{all_join, all_get_d, all_both}, BoolLaws.by_test}
 use Rattle.model.specs.CheckLaws.{Passed, selector_within, SinglePassed, single_passed}
-use Rattle.agreement.specs.{Grid.{SubresourceConflict, without, single_union, many_union, named_use}, WellFormedSets.Word}
-use Rattle.agreement.specs.LogBound.{one_if}
+use Rattle.std.specs.Prelude.{◌≤◌, ◌<◌, ◌≡◌, ◌&&◌, ◌||◌, ◌∷◌, ◌++◌, if◌then◌else◌}
+use Rattle.agreement.specs.{Grid.{SubresourceConflict, without, single_union, many_union, named_use}, WellFormedSets.Word, LogBound.one_if}
 use Rattle.agreement.specs.WebGpu.{History, Histories, uses_fit, one_use, hand_use, take_state, take_states, history_merge, histories}
-use Rattle.agreement.specs.WebGpu.{no_history, Names, InConflict, Unfit}
+use Rattle.agreement.specs.{WebGpu.{no_history, Names, InConflict, Unfit}, Fits.SetFits}
 use Rattle.agreement.proofs.{WellStates.use_all, FitLaws.{UseFits, union_of, fits_union}}
 use Rattle.agreement.proofs.HistoryLaws.{Tied, Clear, TiedHeld, joined_union, without_clear, use_state, one_use_lem, hand_all_lem}
-use Rattle.agreement.specs.Fits.{SetFits}
 use Rattle.agreement.proofs.{SlotLaws.slot_fits_lem, GridLaws.{GridAll, all_of}, BarrierLaws.everywhere_at}
 use Rattle.agreement.proofs.LogRoom.{use_named, named_at, is_named}
 use Rattle.usage.specs.BitLaws.{and_or}

@@ -1,14 +1,13 @@
 -- The claims of CallsAgree and LogRoom for each of the six calls by itself, on what it is handed.
-use Rattle.std.specs.Prelude.{◌≤◌, ◌≡◌, ◌&&◌, ◌∷◌}
 use Rattle.model.specs.Prelude.{ℕ, true, Option, List, []}
 use Rattle.model.specs.{declared.{Extent.Extent, Selector.Selector}, Sets.{Set, Tracker, capacity}, Refusals.tracker_index}
 use Rattle.model.specs.Calls.{call_merge_single, call_merge_usage_scope, call_set_single, call_set_from_usage_scope, call_set_from_tracker}
-use Rattle.model.specs.Calls.{call_set_and_remove_sparse, merge_single, merge_usage_scope, set_single, set_from_usage_scope, set_from_tracker}
-use Rattle.model.specs.{Calls.{set_and_remove_sparse, Sets, step}, Texture.{Held, ranged}, WellFormed.{scope_fits, tracker_fits}}
-use Rattle.model.specs.BoolLaws.{and_left, and_right}
+use Rattle.model.specs.Calls.{call_set_and_remove_sparse, merge_single, merge_usage_scope, set_single, set_from_usage_scope}
+use Rattle.model.specs.{Calls.{set_from_tracker, set_and_remove_sparse, Sets, step}, Texture.{Held, ranged}}
+use Rattle.model.specs.{WellFormed.{scope_fits, tracker_fits}, BoolLaws.{and_left, and_right}}
+use Rattle.std.specs.Prelude.{◌≤◌, ◌≡◌, ◌&&◌, ◌∷◌}
 use Rattle.agreement.specs.{WellFormedSets.Word, LogBound.{entries, owned_states}}
-use Rattle.agreement.proofs.CallsAgree.{call_keeps}
-use Rattle.agreement.proofs.LogRoom.{owned_few, capacity_few}
+use Rattle.agreement.proofs.{CallsAgree.call_keeps, LogRoom.{owned_few, capacity_few}}
 
 -- the sets that a call is handed, and no others
 abbrev handed : List (Set Held) → List (Tracker Held) → Sets ranged
@@ -24,13 +23,15 @@ module _ (s : Set Held) (fits : scope_fits s ≡ true) where
   pub merge_usage_scope_fits : (g : Set Held) → scope_fits g ≡ true → scope_fits (merge_usage_scope ranged s g).after ≡ true
   unfolding step
   merge_usage_scope_fits g e =
-      and_left _ (scope_fits g && true) (and_left _ true (call_keeps (call_merge_usage_scope 0 1) (handed (s ∷ g ∷ []) []) tt (rw (fits, e))))
+      and_left _ (scope_fits g && true)
+      (and_left _ true (call_keeps (call_merge_usage_scope 0 1) (handed (s ∷ g ∷ []) []) tt (rw (fits, e))))
 
 module _ (t : Tracker Held) (fits : tracker_fits t ≡ true) where
   pub set_single_fits : (i : ℕ) (sh : Extent) (sel : Selector) (st : ℕ) → Word st
       → tracker_fits (set_single ranged t i sh sel st).after ≡ true
   unfolding step
-  set_single_fits i sh sel st w = and_left _ true (call_keeps (call_set_single 0 (tracker_index i) sh sel st) (handed [] (t ∷ [])) w (rw fits))
+  set_single_fits i sh sel st w =
+      and_left _ true (call_keeps (call_set_single 0 (tracker_index i) sh sel st) (handed [] (t ∷ [])) w (rw fits))
 
   pub set_from_usage_scope_fits : (g : Set Held) → scope_fits g ≡ true → tracker_fits (set_from_usage_scope ranged t g).after ≡ true
   unfolding step
@@ -45,7 +46,8 @@ module _ (t : Tracker Held) (fits : tracker_fits t ≡ true) where
 
   -- into the tracker, and out of the scope
   pub sparse_fits : (s : Set Held) → scope_fits s ≡ true → (is : List ℕ)
-      → (tracker_fits (set_and_remove_sparse ranged t s is).after.0 ≡ true) × (scope_fits (set_and_remove_sparse ranged t s is).after.1 ≡ true)
+      → (tracker_fits (set_and_remove_sparse ranged t s is).after.0 ≡ true)
+      × (scope_fits (set_and_remove_sparse ranged t s is).after.1 ≡ true)
   unfolding step
   sparse_fits s e is =
       let h = call_keeps (call_set_and_remove_sparse 0 0 is) (handed (s ∷ []) (t ∷ [])) tt (rw (fits, e)) in

@@ -1,13 +1,12 @@
 -- Uses fit just where their union is compatible; and the usage flags' rule beside WebGPU's own.
-use Rattle.std.specs.Prelude.{◌<◌, ◌≡◌, ◌&&◌, ◌||◌, ◌∷◌, ◌++◌}
-use Rattle.model.specs.Prelude.{ℕ, arith, refl, sym, ap, ◌∙◌, Bool, true, false, not, and-eq-true_iff, List, []}
-use Rattle.model.specs.Prelude.{map, eqb, bit_and, bit_or, or_zero_l, or_zero_r, or_comm, or_self, or_lt, eqb-true, eqb-false, eq-eqb}
-use Rattle.model.specs.Prelude.{ne_eqb}
+use Rattle.model.specs.Prelude.{ℕ, arith, refl, sym, ap, ◌∙◌, Bool, true, false, not, and-eq-true_iff, List, [], map, eqb, bit_and, bit_or}
+use Rattle.model.specs.Prelude.{or_zero_l, or_zero_r, or_comm, or_self, or_lt, eqb-true, eqb-false, eq-eqb, ne_eqb}
 use Rattle.model.specs.{declared.UsageFlags.UsageFlags, Base.{every, All}, Flags.{meets, one_bit, incompatible}}
-use Rattle.agreement.specs.WebGpu.{Renders, Usage, input, constant, storage, storage_read, attachment, attachment_read, reads}
-use Rattle.agreement.specs.WebGpu.{is_storage, is_attachment, one_element, compatible_list, same_bit, uses_fit}
-use Rattle.usage.specs.BitLaws.{and_or, or_zero, or_assoc, in_one_bit}
+use Rattle.std.specs.Prelude.{◌<◌, ◌≡◌, ◌&&◌, ◌||◌, ◌∷◌, ◌++◌}
 use Rattle.std.specs.Int.Count.{ones_in}
+use Rattle.agreement.specs.WebGpu.{Renders, Usage, input, constant, storage, storage_read, attachment, attachment_read, reads, is_storage}
+use Rattle.agreement.specs.WebGpu.{is_attachment, one_element, compatible_list, same_bit, uses_fit}
+use Rattle.usage.specs.BitLaws.{and_or, or_zero, or_assoc, in_one_bit}
 
 -- a use as it passes the checks: of sixteen bits, nonzero, without UNKNOWN
 pub record UseFits (p : UsageFlags) (st : ℕ) : Type 0 where
@@ -59,7 +58,8 @@ same_union s (x ∷ us) e =
     rw (eqb-true x s h.0, ← or_assoc s s (union_of us), or_self s) (same_union s us h.1)
 
 -- where the union meets EXCLUSIVE, the uses are one same bit just where the union has one bit
-same_bit_lem : (p : UsageFlags) (us : List ℕ) → All (UseFits p) us → meets (union_of us) p.exclusive ≡ true → same_bit us ≡ one_bit (union_of us)
+same_bit_lem : (p : UsageFlags) (us : List ℕ) → All (UseFits p) us → meets (union_of us) p.exclusive ≡ true
+    → same_bit us ≡ one_bit (union_of us)
 same_bit_lem p [] t e = absurd (let d : ◌≡◌ {A = ℕ} 0 1 = cc in omega arith)
 same_bit_lem p (s ∷ us) t e = go (one_bit (bit_or s (union_of us))) refl
   where

@@ -1,22 +1,21 @@
 -- Scopes with their histories: their states are the grid's, and each subresource's state less UNKNOWN is the union of the uses that it has
 -- taken.
-use Rattle.std.specs.Prelude.{◌-◌, ◌+◌, ◌*◌, ◌/◌, ◌%◌, ◌≡◌, ◌∷◌, ◌++◌, if◌then◌else◌}
-use Rattle.model.specs.Prelude.{ℕ, suc, arith, refl, sym, ap, ap₂, ◌∙◌, Bool, true, false, false≢true}
-use Rattle.model.specs.Prelude.{Option, none, some, Option_map, List, [], map, eqb, and_step, or_step, and_le_r, bit_and, bit_or}
-use Rattle.model.specs.Prelude.{and_comm, and_self, or_zero_r, get_or, eqb-true, not-false}
+use Rattle.model.specs.Prelude.{ℕ, suc, arith, refl, sym, ap, ap₂, ◌∙◌, Bool, true, false, false≢true, Option, none, some, Option_map, List}
+use Rattle.model.specs.Prelude.{[], map, eqb, and_step, or_step, and_le_r, bit_and, bit_or, and_comm, and_self, or_zero_r, get_or, eqb-true}
+use Rattle.model.specs.Prelude.{not-false}
 use Rattle.model.specs.declared.{Extent.Extent, Selector.Selector, UsageFlags.UsageFlags}
-use Rattle.model.specs.{Base.{Stop, ruled, or_keep, onward, walk₂, All, AllO}, Flags.{incompatible, flags_fit}}
-use Rattle.model.specs.{Representation.Ends, Sets.Head, Refusals.single_refusal, StateRules.less, ListLaws.all_join, BoolLaws.by_test₂}
-use Rattle.model.specs.CheckLaws.{single_passed}
+use Rattle.model.specs.{Base.{Stop, ruled, or_keep, onward, walk₂, All, AllO}, Flags.{incompatible, flags_fit}, Representation.Ends}
+use Rattle.model.specs.{Sets.Head, Refusals.single_refusal, StateRules.less, ListLaws.all_join, BoolLaws.by_test₂, CheckLaws.single_passed}
+use Rattle.std.specs.Prelude.{◌-◌, ◌+◌, ◌*◌, ◌/◌, ◌%◌, ◌≡◌, ◌∷◌, ◌++◌, if◌then◌else◌}
 use Rattle.agreement.specs.Grid.{Grid, Named, SubresourceConflict, without, single_union, many_union, unite_state, unite_states, named_or}
 use Rattle.agreement.specs.{Grid.{named_use, named_all, grid_insert, grid_merge, grid_barrier, grid_update, grid}, Shared.grid_at}
 use Rattle.agreement.specs.WellFormedSets.{Word}
 use Rattle.agreement.specs.WebGpu.{History, Histories, HandedIn, one_use, hand_use, hand_all, history_insert, take_state, take_states}
 use Rattle.agreement.specs.WebGpu.{history_merge, states_of, named, bare, histories}
-use Rattle.agreement.proofs.{WalkLaws.Sim, RulesAgree.less_without}
-use Rattle.agreement.proofs.{LiftScope.Textures, LiftTracker.Tracks, WellStates.{FlagFacts, walk₂_all, use_all, sure_flags}}
-use Rattle.agreement.proofs.{FitLaws.{UseFits, union_of, union_append}, BarrierLaws.at_most_one}
-use Rattle.agreement.proofs.{GridLaws.{GridAll, grid_map, grid_everywhere, grid_square, grid_back}, Agree.full_grid}
+use Rattle.agreement.proofs.{WalkLaws.Sim, RulesAgree.less_without, LiftScope.Textures, LiftTracker.Tracks}
+use Rattle.agreement.proofs.{WellStates.{FlagFacts, walk₂_all, use_all, sure_flags}, FitLaws.{UseFits, union_of, union_append}}
+use Rattle.agreement.proofs.{BarrierLaws.at_most_one, GridLaws.{GridAll, grid_map, grid_everywhere, grid_square, grid_back}}
+use Rattle.agreement.proofs.Agree.{full_grid}
 use Rattle.usage.specs.BitLaws.{and_or, or_zero, or_half, or_odd}
 use Rattle.std.proofs.Math.Arith.{bin_ind}
 
@@ -267,7 +266,8 @@ use_state h i sh sel st w e =
     let c = (single_passed h i sh sel st e).state in
     record { nonzero = c.nonzero; word = w; known = eqb-true (bit_and st h.flags.unknown) 0 (not-false _ c.known) }
 
-pub hand_all_lem : (P : ℕ → Type 0) (Q : History → Type 0) → ((x : ℕ) → P x → Q (one_use x)) → (g : List (List (Option ℕ))) → GridAll (AllO P) g
+pub hand_all_lem : (P : ℕ → Type 0) (Q : History → Type 0) → ((x : ℕ) → P x → Q (one_use x))
+    → (g : List (List (Option ℕ))) → GridAll (AllO P) g
     → GridAll (AllO Q) (map (map (Option_map one_use)) g)
 hand_all_lem P Q h g t = grid_map (AllO P) (AllO Q) (Option_map one_use) one g t
   where
@@ -288,7 +288,8 @@ hand_there g t = grid_map There There (Option_map one_use) one g t
     one none t = absurd (t refl)
     one (some x) t = some_there (one_use x)
 
-use_there : (sh : Extent) (sel : Option Selector) (st : ℕ) → (named_use sh sel st).single ≡ true → GridAll There (named_use sh sel st).states
+use_there : (sh : Extent) (sel : Option Selector) (st : ℕ) → (named_use sh sel st).single ≡ true
+    → GridAll There (named_use sh sel st).states
 use_there sh none st e = grid_everywhere There sh (some st) (some_there st)
 use_there sh (some q) st e = rw (full_grid sh q st e) (grid_everywhere There sh (some st) (some_there st))
 

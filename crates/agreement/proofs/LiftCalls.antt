@@ -1,13 +1,12 @@
 -- From one texture to any list of calls on any sets, for any two representations.
-use Rattle.std.specs.Prelude.{◌≤◌, ◌≡◌, ◌∷◌, ◌++◌, if◌then◌else◌}
-use Rattle.model.specs.Prelude.{ℕ, arith, refl, ap, ◌∙◌, true, Option, none, some, Option_map, List, [], map, eqb}
-use Rattle.model.specs.Prelude.{length, set, get_elem?}
+use Rattle.model.specs.Prelude.{ℕ, arith, refl, ap, ◌∙◌, true, Option, none, some, Option_map, List, [], map, eqb, length, set, get_elem?}
 use Rattle.model.specs.{declared.{Extent.Extent, Refusal.Refusal, UsageFlags.UsageFlags}, Base.{each, All, AllO}}
 use Rattle.model.specs.{Representation.{Representation, Ends}, Sets.{Set, Tracker, Opening, open_set, open_tracker}, Refusals.opens}
-use Rattle.model.specs.Calls.{Answer, CallResult, Call, call_merge_single, call_merge_usage_scope, call_set_single, call_set_from_usage_scope}
-use Rattle.model.specs.Calls.{call_set_from_tracker, call_set_and_remove_sparse, Sets, step, newly, into, with_scopes, with_trackers, nothing, with₁}
-use Rattle.model.specs.{Calls.{with₂, set_and_remove_sparse}, StateRules.Move, BoolLaws.by_test₂}
-use Rattle.model.specs.ListLaws.{all_set, all_elem, elem_map, set_map}
+use Rattle.model.specs.Calls.{Answer, CallResult, Call, call_merge_single, call_merge_usage_scope, call_set_single}
+use Rattle.model.specs.Calls.{call_set_from_usage_scope, call_set_from_tracker, call_set_and_remove_sparse, Sets, step, newly, into}
+use Rattle.model.specs.{Calls.{with_scopes, with_trackers, nothing, with₁, with₂, set_and_remove_sparse}, StateRules.Move}
+use Rattle.model.specs.{BoolLaws.by_test₂, ListLaws.{all_set, all_elem, elem_map, set_map}}
+use Rattle.std.specs.Prelude.{◌≤◌, ◌≡◌, ◌∷◌, ◌++◌, if◌then◌else◌}
 use Rattle.agreement.specs.{Shared.{after_calls, of_index}, Fits.SetFits}
 use Rattle.agreement.proofs.SlotLaws.{image_set, image_ends, image_tracker, open_image, open_fits}
 use Rattle.agreement.proofs.LiftScope.{Textures, Matches, map_answer, single_sim, scope_sim}
@@ -128,7 +127,8 @@ module _ (K L : Representation) (v : Extent → K.Held → L.Held) (cl : K.Confl
     -- with one set, and with two
     with_one : {A B : Type 0} (P : A → Type 0) (F : A → B) (k : Sets K) (l : List A) (n : ℕ) (r : A → ResultK) (u : B → ResultL) → Good k
         → All P l
-        → ((x : A) → P x → Stepped (r x) (u (F x))) → Stepped (with₁ K k (get_elem? l n) r) (with₁ L (image_sets k) (get_elem? (map F l) n) u)
+        → ((x : A) → P x → Stepped (r x) (u (F x)))
+        → Stepped (with₁ K k (get_elem? l n) r) (with₁ L (image_sets k) (get_elem? (map F l) n) u)
     with_one {A} P F k l n r u t w h = rw (elem_map F l n) (go (get_elem? l n) (all_elem P l n w))
       where
         go : (o : Option A) → AllO P o → Stepped (with₁ K k o r) (with₁ L (image_sets k) (Option_map F o) u)
@@ -139,7 +139,8 @@ module _ (K L : Representation) (v : Extent → K.Held → L.Held) (cl : K.Confl
         (n : ℕ) (l' : List C) (n' : ℕ)
         (r : A → C → ResultK) (u : B → D → ResultL) → Good k → All P l → All Q l'
         → ((x : A) (y : C) → P x → Q y → Stepped (r x y) (u (F x) (G y)))
-        → Stepped (with₂ K k (get_elem? l n) (get_elem? l' n') r) (with₂ L (image_sets k) (get_elem? (map F l) n) (get_elem? (map G l') n') u)
+        → Stepped (with₂ K k (get_elem? l n) (get_elem? l' n') r) (with₂ L (image_sets k)
+        (get_elem? (map F l) n) (get_elem? (map G l') n') u)
     with_two {A} {B} {C} {D} P Q F G k l n l' n' r u t w w' h =
         rw (elem_map F l n, elem_map G l' n') (go (get_elem? l n) (get_elem? l' n') (all_elem P l n w) (all_elem Q l' n' w'))
       where

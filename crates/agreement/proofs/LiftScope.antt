@@ -1,11 +1,11 @@
 -- From one texture to the sets of any two representations: where the rules for a texture agree, the two merges do.
-use Rattle.std.specs.Prelude.{◌≡◌, ◌∷◌}
 use Rattle.model.specs.Prelude.{ℕ, suc, refl, ap, ◌∙◌, true, Option, none, some, Option_map, List, [], set}
 use Rattle.model.specs.{declared.{Extent.Extent, Selector.Selector, UsageFlags.UsageFlags}, Base.{Stop, walk₂, All}, Flags.flags_fit}
 use Rattle.model.specs.{Representation.Representation, Sets.{Numbers, Slot, Set, Head, head_of, slot_at, with_slots}}
 use Rattle.model.specs.Refusals.{single_refusal, set_refusal}
-use Rattle.model.specs.Calls.{owning, Indexed, Answer, done, refused, in_conflict, answer, CallResult, merge_slot, merge_given, merge_single}
-use Rattle.model.specs.{Calls.merge_usage_scope, BoolLaws.by_test₂, ListLaws.set_map}
+use Rattle.model.specs.Calls.{owning, Indexed, Answer, done, refused, in_conflict, answer, CallResult, merge_slot, merge_given}
+use Rattle.model.specs.{Calls.{merge_single, merge_usage_scope}, BoolLaws.by_test₂, ListLaws.set_map}
+use Rattle.std.specs.Prelude.{◌≡◌, ◌∷◌}
 use Rattle.agreement.specs.{Shared.grid_slots, Fits.{SlotFits, SetFits}}
 use Rattle.agreement.proofs.WalkLaws.{Sim, Sims, onward_sim, onward_all, walk_length}
 use Rattle.agreement.proofs.SlotLaws.{unless_by₂, image_slot, image_set, extents_image, slot_image, slot_fits_lem, put_slots, put_slot, At}

@@ -1,15 +1,15 @@
 -- From one texture to the trackers of any two representations: the four tracker calls, with the transitions of each subresource.
-use Rattle.std.specs.Prelude.{◌≤◌, ◌≡◌, ◌∷◌, ◌++◌}
-use Rattle.model.specs.Prelude.{ℕ, zero, suc, arith, refl, sym, ap, ◌∙◌, Bool, true, false, false≢true, true≢false, Option, none}
-use Rattle.model.specs.Prelude.{some, List, [], append-nil, eqb, leb, length, get_or, set, List_get_D_map, get_or-set_other, eqb-true}
-use Rattle.model.specs.Prelude.{not-false, ne_eqb, lt-leb, leb-false}
+use Rattle.model.specs.Prelude.{ℕ, zero, suc, arith, refl, sym, ap, ◌∙◌, Bool, true, false, false≢true, true≢false, Option, none, some}
+use Rattle.model.specs.Prelude.{List, [], append-nil, eqb, leb, length, get_or, set, List_get_D_map, get_or-set_other, eqb-true, not-false}
+use Rattle.model.specs.Prelude.{ne_eqb, lt-leb, leb-false}
 use Rattle.model.specs.declared.{Extent.Extent, Refusal.Refusal, Selector.Selector, UsageFlags.UsageFlags}
 use Rattle.model.specs.{Base.{each, over₂, each_at₂, All}, Flags.flags_fit, Representation.{Representation, Ends}}
 use Rattle.model.specs.Sets.{Numbers, Slot, Set, Tracker, Head, head_of, own_extent, empty_slot, slot_at, with_slots, with_tracker}
 use Rattle.model.specs.Refusals.{sparse_checks, texture_checks, owned_checks, single_refusal, set_refusal, sparse_refusal}
-use Rattle.model.specs.Calls.{owning, Indexed, Answer, done, refused, CallResult, set_slot, log_slot, set_single, set_given, log_given, set_from}
-use Rattle.model.specs.{Calls.{sparse_all, set_and_remove_sparse, no_ends}, StateRules.Move, BoolLaws.{by_test, by_test₂, by_eq}}
+use Rattle.model.specs.Calls.{owning, Indexed, Answer, done, refused, CallResult, set_slot, log_slot, set_single, set_given, log_given}
+use Rattle.model.specs.{Calls.{set_from, sparse_all, set_and_remove_sparse, no_ends}, StateRules.Move, BoolLaws.{by_test, by_test₂, by_eq}}
 use Rattle.model.specs.{ListLaws.{all_weak, all_left, all_right, set_map, each_append}, CheckLaws.{Passed, passed, same_flags_lem}}
+use Rattle.std.specs.Prelude.{◌≤◌, ◌≡◌, ◌∷◌, ◌++◌}
 use Rattle.agreement.specs.{Shared.{of_index, grid_slots}, Fits.{SlotFits, SetFits}}
 use Rattle.agreement.proofs.SlotLaws.{unless_by₂, image_slot, image_set, image_ends, image_tracker, extents_image, slot_image, no_owner}
 use Rattle.agreement.proofs.SlotLaws.{slot_fits_lem, put_slots, put_slot, At, texture_at, single_at, flags_same, each_owned_lem}

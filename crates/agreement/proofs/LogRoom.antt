@@ -1,30 +1,29 @@
 -- The entries that one call adds are no more than the subresources that it names, nor than those that its tracker owns, so a log with a
 -- free entry for each never refuses it.
-use Rattle.std.specs.Prelude.{◌+◌, ◌*◌, ◌≤◌, ◌<◌, ◌≡◌, ◌&&◌, ◌∷◌, ◌++◌, if◌then◌else◌}
-use Rattle.model.specs.Prelude.{ℕ, zero, suc, le_trans, zero-add, mul-le-mul, mul_assoc, suc-mul, ℕ_discrete, arith}
-use Rattle.model.specs.Prelude.{refl, ◌∙◌, sym, ap, Bool, true, false, and-eq-true_iff, false≢true, true≢false, Option, none}
-use Rattle.model.specs.Prelude.{some, List, [], map, ltb, eqb, length, get_or, set, get_elem?, length-append, length-map, le-leb}
-use Rattle.model.specs.Prelude.{lt-ltb, ltb-true, eq-eqb, ne_eqb, le-ltb}
+use Rattle.model.specs.Prelude.{ℕ, zero, suc, le_trans, zero-add, mul-le-mul, mul_assoc, suc-mul, ℕ_discrete, arith, refl, ◌∙◌, sym, ap}
+use Rattle.model.specs.Prelude.{Bool, true, false, and-eq-true_iff, false≢true, true≢false, Option, none, some, List, [], map, ltb, eqb}
+use Rattle.model.specs.Prelude.{length, get_or, set, get_elem?, length-append, length-map, le-leb, lt-ltb, ltb-true, eq-eqb, ne_eqb, le-ltb}
 use Rattle.model.specs.declared.Refusal.TheVariants.{NoFreeEntry}
 use Rattle.model.specs.declared.{Extent.Extent, InvalidUse.InvalidUse, Range.Range, Selector.Selector, UsageFlags.UsageFlags}
-use Rattle.model.specs.{Base.{each_at₂, zip₂, All}, Representation.{select, full, in_mips, holds, Ends}}
-use Rattle.model.specs.{StateRules.{Move, move_of}, RangedStates.{iter_filter, Tiles}}
+use Rattle.model.specs.{Base.{each_at₂, zip₂, All}, Representation.{select, full, in_mips, holds, Ends}, StateRules.{Move, move_of}}
+use Rattle.model.specs.RangedStates.{iter_filter, Tiles}
 use Rattle.model.specs.Texture.{Held, single, many, Given, given_single, given_many, Piece, Entry, entry, mip_entries, barrier, ranged}
 use Rattle.model.specs.{Texture.{from_use, from_held}, ListLaws.{all_each, all_each_at, elem_of}, BoolLaws.{by_test, by_test₂}}
 use Rattle.model.specs.{RangeLaws.tiles_le, Sets.{Numbers, Slot, Set, Tracker, head_of, empty_slot, slot_at, capacity}}
 use Rattle.model.specs.Refusals.{single_refusal, set_refusal, sparse_refusal, check}
-use Rattle.model.specs.Calls.{Indexed, CallResult, set_slot, log_slot, set_single, log_given, set_from, no_ends, sparse_all, set_and_remove_sparse}
-use Rattle.model.specs.Calls.{Call, call_merge_single, call_merge_usage_scope, call_set_single, call_set_from_usage_scope, call_set_from_tracker}
-use Rattle.model.specs.Calls.{call_set_and_remove_sparse, Sets, into, with₁, with₂, with_scopes, with_trackers, merge_single, merge_usage_scope}
-use Rattle.model.specs.{Calls.{step, Answer, done, refused, in_conflict}, CheckLaws.{selector_within, single_passed}}
+use Rattle.model.specs.Calls.{Indexed, CallResult, set_slot, log_slot, set_single, log_given, set_from, no_ends, sparse_all}
+use Rattle.model.specs.Calls.{set_and_remove_sparse, Call, call_merge_single, call_merge_usage_scope, call_set_single}
+use Rattle.model.specs.Calls.{call_set_from_usage_scope, call_set_from_tracker, call_set_and_remove_sparse, Sets, into, with₁, with₂}
+use Rattle.model.specs.Calls.{with_scopes, with_trackers, merge_single, merge_usage_scope, step, Answer, done, refused, in_conflict}
+use Rattle.model.specs.CheckLaws.{selector_within, single_passed}
 use Rattle.model.specs.Log.{Log, pending_of, pending, head_check, unless_logged, refusal_of, added, logging}
+use Rattle.std.specs.Prelude.{◌+◌, ◌*◌, ◌≤◌, ◌<◌, ◌≡◌, ◌&&◌, ◌∷◌, ◌++◌, if◌then◌else◌}
 use Rattle.agreement.specs.Grid.{Named, Grid, named_transition, grid_barrier, named_use, named_all, grid, tab, named_row}
 use Rattle.agreement.specs.{Shared.{entries_at, grid_of, grid_ends, to_list, grid_at}, WellFormedSets.{Word, GivenWord, well_formed}}
 use Rattle.agreement.specs.LogBound.{sum_from, one_if, count_states, all_states, entries, slot_states, owned_states, listed, listed_states}
 use Rattle.agreement.specs.LogBound.{of_scope, of_tracker, named_states, owned_of, tracker_capacity, capacity_of}
-use Rattle.agreement.proofs.TextureLaws.{Measured, Fit, Gives, gives_place, gives_set}
 use Rattle.agreement.specs.Fits.{SlotFits, SetFits, SetsFit, EndsFit}
-use Rattle.agreement.proofs.BarrierLaws.{lookup_place, or_none, at_most_one}
+use Rattle.agreement.proofs.{TextureLaws.{Measured, Fit, Gives, gives_place, gives_set}, BarrierLaws.{lookup_place, or_none, at_most_one}}
 use Rattle.agreement.proofs.{SlotLaws.{unless_by, slot_fits_lem, At, single_at, flags_same, each_owned_lem}, LiftTracker.each_listed}
 use Rattle.agreement.proofs.WellLaws.{FitW, FitEW, PairsW, trackers_well, well_good, WellTracker, WellScope, TakenW, tracker_after}
 use Rattle.agreement.proofs.{WellLaws.scope_after, CallsAgree.sets_to, OwnRefusals.own_refusals}
@@ -338,7 +337,8 @@ both_owned [] xs = omega arith
 both_owned (s ∷ l) [] = omega arith
 both_owned (s ∷ l) (x ∷ xs) = let ih = both_owned l xs in go ih x.owned
   where
-    go : both_states l xs ≤ owned_states l → (b : Bool) → (if b then slot_states s else 0) + both_states l xs ≤ slot_states s + owned_states l
+    go : both_states l xs ≤ owned_states l → (b : Bool)
+        → (if b then slot_states s else 0) + both_states l xs ≤ slot_states s + owned_states l
     go ih true = omega arith
     go ih false = omega arith
 
@@ -438,7 +438,8 @@ few_entries (call_merge_usage_scope n m) k word well =
     by_test (Within 0 0) (eqb n m) (λ e. (omega arith, omega arith))
     (λ e. elem_of WellScope k.scopes n (λ o. Within 0 0 (with₂ ranged k o (get_elem? k.scopes m) f)) g (omega arith, omega arith)
     (λ s q. elem_of WellScope k.scopes m (λ o. Within 0 0 (with₂ ranged k (some s) o f)) g (omega arith, omega arith)
-    (λ x r. unless_by (Within 0 0) (set_refusal (head_of s) (head_of x)) (λ r. (omega arith, omega arith)) (λ e. (omega arith, omega arith)))))
+    (λ x r. unless_by (Within 0 0) (set_refusal (head_of s) (head_of x)) (λ r. (omega arith, omega arith))
+    (λ e. (omega arith, omega arith)))))
 few_entries (call_set_single n i sh sel st) k word well =
     elem_of WellTracker k.trackers n (λ o. Within (count_states sh (holds sel)) (of_tracker o)
     (with₁ ranged k o (λ t. into ranged (set_single ranged t i.0 sh sel st) (λ x. with_trackers ranged k (set k.trackers n x)))))

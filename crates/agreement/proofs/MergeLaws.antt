@@ -1,12 +1,12 @@
 -- One use merged into a Many texture: the ranges and the grid's subresources go the same way.
-use Rattle.std.specs.Prelude.{◌-◌, ◌+◌, ◌≤◌, ◌<◌, ◌≡◌, ◌∷◌, ◌++◌, if◌then◌else◌}
-use Rattle.model.specs.Prelude.{ℕ, zero, suc, arith, refl, ◌∙◌, Bool, true, false, Option, none, some, Option_map}
-use Rattle.model.specs.Prelude.{List, [], replicate, length, length-replicate, replicate-append-replicate}
+use Rattle.model.specs.Prelude.{ℕ, zero, suc, arith, refl, ◌∙◌, Bool, true, false, Option, none, some, Option_map, List, [], replicate}
+use Rattle.model.specs.Prelude.{length, length-replicate, replicate-append-replicate}
 use Rattle.model.specs.declared.{Extent.Extent, InvalidUse.InvalidUse, Range.Range, UsageFlags.UsageFlags}
-use Rattle.model.specs.Base.{Stop, fine, stopped, ruled, and_then, onward, walk, walk₂, All}
-use Rattle.model.specs.{Representation.{select, in_mips}, StateRules.unite_known, RangedStates.{Cut, isolate, in_state, layer_states, Tiles}}
+use Rattle.model.specs.{Base.{Stop, fine, stopped, ruled, and_then, onward, walk, walk₂, All}, Representation.{select, in_mips}}
+use Rattle.model.specs.{StateRules.unite_known, RangedStates.{Cut, isolate, in_state, layer_states, Tiles}}
 use Rattle.model.specs.Texture.{Piece, invalid_use, merge_range, merge_mip, settled}
 use Rattle.model.specs.RangeLaws.{Same, coalesce_same, Cuts, isolate_cuts, tiles_le, states_append, tiles_append, tiles_length}
+use Rattle.std.specs.Prelude.{◌-◌, ◌+◌, ◌≤◌, ◌<◌, ◌≡◌, ◌∷◌, ◌++◌, if◌then◌else◌}
 use Rattle.agreement.specs.{Grid.{SubresourceConflict, unite_state, band, named_row}, Shared.first_of}
 use Rattle.agreement.proofs.WalkLaws.{join_stop, walk_append, RunsOf, row_parts_of, unnamed_of}
 

@@ -1,15 +1,16 @@
 -- None of the six calls refuses with 1 to 5, 14 or 15: 1 to 3 are of an opening, 4, 5 and 15 of what a call is handed, and 14 is of the
 -- calls on ranges.
-use Rattle.std.specs.Prelude.{◌≡◌, ◌∷◌, ◌++◌}
 use Rattle.model.specs.Prelude.{ℕ, suc, refl, subst, false, Option, none, some, List, [], eqb, get_elem?, get_or}
 use Rattle.model.specs.declared.{Extent.Extent, Refusal.Refusal, Selector.Selector, UsageFlags.UsageFlags}
-use Rattle.model.specs.{Base.{each, each_at, walk₂, All}, Representation.{Representation, Ends}, Sets.{Set, Tracker, Head, head_of, slot_at}}
-use Rattle.model.specs.Refusals.{Check, first_failing, number_of, texture_checks, selector_checks, state_checks, owned_checks, sparse_checks}
-use Rattle.model.specs.Refusals.{single_refusal, set_refusal, sparse_refusal}
+use Rattle.model.specs.{Base.{each, each_at, walk₂, All}, Representation.{Representation, Ends}}
+use Rattle.model.specs.Sets.{Set, Tracker, Head, head_of, slot_at}
+use Rattle.model.specs.Refusals.{Check, first_failing, number_of, texture_checks, selector_checks, state_checks, owned_checks}
+use Rattle.model.specs.Refusals.{sparse_checks, single_refusal, set_refusal, sparse_refusal}
 use Rattle.model.specs.Calls.{Indexed, Answer, done, refused, in_conflict, answer, CallResult, unless, Result, Sets, into, with₁, with₂}
-use Rattle.model.specs.Calls.{Call, call_merge_single, call_merge_usage_scope, call_set_single, call_set_from_usage_scope, call_set_from_tracker}
-use Rattle.model.specs.{Calls.{call_set_and_remove_sparse, merge_slot, merge_given, set_from, sparse_all, step}, ListLaws.all_join}
-use Rattle.model.specs.BoolLaws.{by_test}
+use Rattle.model.specs.Calls.{Call, call_merge_single, call_merge_usage_scope, call_set_single, call_set_from_usage_scope}
+use Rattle.model.specs.Calls.{call_set_from_tracker, call_set_and_remove_sparse, merge_slot, merge_given, set_from, sparse_all, step}
+use Rattle.model.specs.{ListLaws.all_join, BoolLaws.by_test}
+use Rattle.std.specs.Prelude.{◌≡◌, ◌∷◌, ◌++◌}
 use Rattle.agreement.specs.LogBound.{listed}
 
 abbrev Own : Refusal → Type 0

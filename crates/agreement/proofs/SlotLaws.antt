@@ -1,14 +1,15 @@
 -- A set slot by slot: what the checks tell of an index, what holds of every slot, and the set seen through a view of what its slots hold.
-use Rattle.std.specs.Prelude.{◌+◌, ◌≡◌, ◌∷◌}
-use Rattle.model.specs.Prelude.{ℕ, suc, zero-add, add-suc, suc-add, add-zero, refl, sym, ap, ◌∙◌, true, false, false≢true, Option}
-use Rattle.model.specs.Prelude.{none, some, List, [], map, length, length-set, length-replicate, replicate, get_or, set, List_get_D_map}
+use Rattle.model.specs.Prelude.{ℕ, suc, zero-add, add-suc, suc-add, add-zero, refl, sym, ap, ◌∙◌, true, false, false≢true, Option, none}
+use Rattle.model.specs.Prelude.{some, List, [], map, length, length-set, length-replicate, replicate, get_or, set, List_get_D_map}
 use Rattle.model.specs.Prelude.{not-false}
 use Rattle.model.specs.{declared.{Extent.Extent, Refusal.Refusal, Selector.Selector, UsageFlags.UsageFlags}, Base.{each_at, All}}
 use Rattle.model.specs.Representation.{Ends}
-use Rattle.model.specs.Sets.{Numbers, Slot, Set, Tracker, Head, Opening, head_of, own_extent, empty_slot, slot_at, outside, with_slots, open_set}
-use Rattle.model.specs.{Refusals.{texture_checks, owned_checks, single_refusal, set_refusal, opens}, Calls.{CallResult, unless, turned_away}}
-use Rattle.model.specs.{BoolLaws.neither, ListLaws.{all_weak, all_left, all_right, all_get_d, all_set, all_replicate, map_replicate}}
+use Rattle.model.specs.Sets.{Numbers, Slot, Set, Tracker, Head, Opening, head_of, own_extent, empty_slot, slot_at, outside, with_slots}
+use Rattle.model.specs.{Sets.open_set, Refusals.{texture_checks, owned_checks, single_refusal, set_refusal, opens}}
+use Rattle.model.specs.{Calls.{CallResult, unless, turned_away}, BoolLaws.neither}
+use Rattle.model.specs.ListLaws.{all_weak, all_left, all_right, all_get_d, all_set, all_replicate, map_replicate}
 use Rattle.model.specs.CheckLaws.{Passed, passed, inside, own_extent_lem, same_flags_lem, single_passed}
+use Rattle.std.specs.Prelude.{◌+◌, ◌≡◌, ◌∷◌}
 use Rattle.agreement.specs.{Shared.grid_slots, Fits.{ExtentFits, SlotFits, SetFits}}
 use Rattle.agreement.proofs.OpeningLaws.{opened_numbers, opened_fits}
 

@@ -1,15 +1,14 @@
 -- One texture in a scope: the ranged model's insert and merge are the grid's.
-use Rattle.std.specs.Prelude.{◌-◌, ◌+◌, ◌≤◌, ◌<◌, ◌≡◌, ◌∷◌, ◌++◌, if◌then◌else◌}
-use Rattle.model.specs.Prelude.{ℕ, zero, suc, dec_lt, arith, refl, sym, ap, ◌∙◌, Bool, true, false, Option, none}
-use Rattle.model.specs.Prelude.{some, Option_map, List, [], map, append-nil, replicate, length, length-replicate, length-append}
-use Rattle.model.specs.Prelude.{length-map, le-leb, lt-ltb, lt-leb}
+use Rattle.model.specs.Prelude.{ℕ, zero, suc, dec_lt, arith, refl, sym, ap, ◌∙◌, Bool, true, false, Option, none, some, Option_map, List}
+use Rattle.model.specs.Prelude.{[], map, append-nil, replicate, length, length-replicate, length-append, length-map, le-leb, lt-ltb, lt-leb}
 use Rattle.model.specs.declared.{Extent.Extent, InvalidUse.InvalidUse, Range.Range, Selector.Selector, UsageFlags.UsageFlags}
 use Rattle.model.specs.Base.{each_at, Stop, fine, stopped, ruled, or_keep, and_then, passes, onward, walk, walk₂, zip₂, All}
 use Rattle.model.specs.{Representation.{select, full, in_mips}, StateRules.{unite, unite_known}}
 use Rattle.model.specs.RangedStates.{range, coalesce, paint, layer_states, Tiles}
-use Rattle.model.specs.Texture.{Held, single, many, Given, given_single, given_many, Piece, invalid_use, pieces_of, on_mips, fresh_mips, paint_all}
-use Rattle.model.specs.{Texture.{insert, merge_mip, merge_every, spread_piece, merge}, Subresources.everywhere}
+use Rattle.model.specs.Texture.{Held, single, many, Given, given_single, given_many, Piece, invalid_use, pieces_of, on_mips, fresh_mips}
+use Rattle.model.specs.{Texture.{paint_all, insert, merge_mip, merge_every, spread_piece, merge}, Subresources.everywhere}
 use Rattle.model.specs.{ListLaws.{all_join, all_replicate, map_replicate}, BoolLaws.{by_test, by_test₂}, RangeLaws.tiles_length}
+use Rattle.std.specs.Prelude.{◌-◌, ◌+◌, ◌≤◌, ◌<◌, ◌≡◌, ◌∷◌, ◌++◌, if◌then◌else◌}
 use Rattle.agreement.specs.Grid.{Named, SubresourceConflict, unite_state, unite_states, tab, named_row, named_or, grid_insert, grid_merge}
 use Rattle.agreement.specs.Shared.{first_of, grid_of}
 use Rattle.agreement.proofs.{WalkLaws.{Sim, lockstep, walk_length}, PaintLaws.{paint_states, painted_states}}

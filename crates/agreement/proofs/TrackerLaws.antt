@@ -1,21 +1,20 @@
 -- One texture in a tracker: what holds of it, and that insert and update keep it and are the grid's.
-use Rattle.std.specs.Prelude.{◌-◌, ◌≡◌, ◌∷◌, if◌then◌else◌}
-use Rattle.model.specs.Prelude.{ℕ, zero, suc, arith, refl, sym, ap, ◌∙◌, true, false, Option, none, some, List, [], map}
-use Rattle.model.specs.Prelude.{append-nil, eqb, bit_and, and_self, replicate, length, length-replicate, length-map, ne_eqb, eqb-false}
+use Rattle.model.specs.Prelude.{ℕ, zero, suc, arith, refl, sym, ap, ◌∙◌, true, false, Option, none, some, List, [], map, append-nil, eqb}
+use Rattle.model.specs.Prelude.{bit_and, and_self, replicate, length, length-replicate, length-map, ne_eqb, eqb-false}
 use Rattle.model.specs.declared.{Extent.Extent, InvalidUse.InvalidUse, Range.Range, UsageFlags.UsageFlags}
 use Rattle.model.specs.{Base.{zip₂, zip₃, Stop, fine, passes, walk, All}, Representation.{in_mips, Ends}, StateRules.end_after}
 use Rattle.model.specs.RangedStates.{range, coalesce, paint, layer_states, Tiles}
-use Rattle.model.specs.Texture.{Held, single, many, Given, given_single, given_many, Piece, fresh_mips, spread_end, learn_all, update_all, update}
-use Rattle.model.specs.{Texture.insert, Subresources.everywhere, ListLaws.{all_replicate, all_map}, BoolLaws.by_test}
+use Rattle.model.specs.Texture.{Held, single, many, Given, given_single, given_many, Piece, fresh_mips, spread_end, learn_all, update_all}
+use Rattle.model.specs.{Texture.{update, insert}, Subresources.everywhere, ListLaws.{all_replicate, all_map}, BoolLaws.by_test}
 use Rattle.model.specs.RangeLaws.{tiles_length}
+use Rattle.std.specs.Prelude.{◌-◌, ◌≡◌, ◌∷◌, if◌then◌else◌}
 use Rattle.agreement.specs.{Grid.{Named, unite_state, named_or, grid_insert}, Shared.grid_of}
 use Rattle.agreement.proofs.{PaintLaws.{painted_states, learned, learn_states}, RulesAgree.{rule_end, rule_start}}
 use Rattle.agreement.proofs.{MergeLaws.{Tiled, row_united}, PieceLaws.Pass}
 use Rattle.agreement.proofs.TextureLaws.{Measured, Fit, Gives, gives_one, gives_place, gives_set, many_pass, fills, all_same, all_cur}
 use Rattle.agreement.proofs.TextureLaws.{mips_states, mips_tiled, walk_fine, grids_length, inserted}
-use Rattle.agreement.proofs.UpdateLaws.{Dims, updated_pairs, update_many, update_single, twos, twos_ends, twos_starts, ends_of}
-use Rattle.agreement.proofs.UpdateLaws.{starts_of, run_all, Two, Ok}
-use Rattle.agreement.proofs.GridLaws.{all_of, grid_map, grid_everywhere, grid_zip, grid_walks}
+use Rattle.agreement.proofs.UpdateLaws.{Dims, updated_pairs, update_many, update_single, twos, twos_ends, twos_starts, ends_of, starts_of}
+use Rattle.agreement.proofs.{UpdateLaws.{run_all, Two, Ok}, GridLaws.{all_of, grid_map, grid_everywhere, grid_zip, grid_walks}}
 
 -- ---- what holds
 abbrev pub Known : ℕ → ℕ → Type 0
@@ -395,7 +394,8 @@ unfolding insert
 insert_clear p sh (given_single st) c = c
 insert_clear p sh (given_many qs) c = tt
 
-insert_ends : (p : UsageFlags) (sh : Extent) (a c : Given) (b d : Named) → KnownGiven p a d → grid_of sh (insert p sh c) ≡ grid_insert p sh d
+insert_ends : (p : UsageFlags) (sh : Extent) (a c : Given) (b d : Named) → KnownGiven p a d
+    → grid_of sh (insert p sh c) ≡ grid_insert p sh d
     → KnownEnd p (insert p sh a) (grid_of sh (insert p sh c)).states
 unfolding insert
 insert_ends p sh (given_single st) c b d k e = rw e (insert_known p.unknown d.states k)

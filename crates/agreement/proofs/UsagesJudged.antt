@@ -1,21 +1,23 @@
 -- The WebGPU rule after every list of calls: single merges conflict just where the uses of some named subresource do not fit, and the same
 -- in the specification's own usages.
-use Rattle.std.specs.Prelude.{◌≡◌, ◌↔◌, ◌||◌, ◌∷◌, ◌++◌}
-use Rattle.model.specs.Prelude.{ℕ, zero, suc, arith, refl, sym, ap, ◌∙◌, subst, true, false≢true, Option, none, some}
-use Rattle.model.specs.Prelude.{Option_map, List, [], map, bit_and, get_elem?, get_or}
+use Rattle.model.specs.Prelude.{ℕ, zero, suc, arith, refl, sym, ap, ◌∙◌, subst, true, false≢true, Option, none, some, Option_map, List, []}
+use Rattle.model.specs.Prelude.{map, bit_and, get_elem?, get_or}
 use Rattle.model.specs.{declared.{Extent.Extent, Selector.Selector, UsageFlags.UsageFlags}, Sets.{Set, Head, head_of, Opening, slot_at}}
 use Rattle.model.specs.Refusals.{tracker_index, single_refusal}
-use Rattle.model.specs.Calls.{Answer, done, refused, in_conflict, Call, call_merge_single, Sets, step, newly, merge_single, call_merge_usage_scope}
-use Rattle.model.specs.{Calls.{call_set_single, call_set_from_usage_scope, call_set_from_tracker, call_set_and_remove_sparse}, Texture.{ranged, Held}}
+use Rattle.model.specs.Calls.{Answer, done, refused, in_conflict, Call, call_merge_single, Sets, step, newly, merge_single}
+use Rattle.model.specs.Calls.{call_merge_usage_scope, call_set_single, call_set_from_usage_scope, call_set_from_tracker}
+use Rattle.model.specs.{Calls.call_set_and_remove_sparse, Texture.{ranged, Held}}
 use Rattle.model.specs.{ListLaws.{elem_map, all_weak, all_join, all_elem, all_get_d}, Base.{Stop, or_keep, every, All, AllO}}
 use Rattle.model.specs.{BoolLaws.by_test, Flags.{meets, one_bit}}
+use Rattle.std.specs.Prelude.{◌≡◌, ◌↔◌, ◌||◌, ◌∷◌, ◌++◌}
+use Rattle.std.specs.Int.Count.{ones_in}
 use Rattle.agreement.specs.Grid.{grid, Grid, SubresourceConflict, named_or, named_use, single_union, many_union, grid_barrier}
 use Rattle.agreement.specs.Shared.{grid_scope, to_grids, grid_of, first_of, entries_at, grid_at, after_calls, itself}
 use Rattle.agreement.specs.WellFormedSets.{Word, GivenWord}
-use Rattle.agreement.specs.WebGpu.{Histories, histories, InConflict, Unfit, History, HandedIn, named, states_of, hand_use}
-use Rattle.agreement.specs.WebGpu.{history_insert, take_states, history_merge, MergeGiven, Usage, input, constant, storage, storage_read}
-use Rattle.agreement.specs.WebGpu.{attachment, attachment_read, reads, is_attachment, compatible_list, uses_fit, Renders, bench_flags}
-use Rattle.agreement.specs.WebGpu.{bench_bit, wgpu_flags, Storing, write_only, read_write, atomic, storing_bit, Attaching, color_target}
+use Rattle.agreement.specs.WebGpu.{Histories, histories, InConflict, Unfit, History, HandedIn, named, states_of, hand_use, history_insert}
+use Rattle.agreement.specs.WebGpu.{take_states, history_merge, MergeGiven, Usage, input, constant, storage, storage_read, attachment}
+use Rattle.agreement.specs.WebGpu.{attachment_read, reads, is_attachment, compatible_list, uses_fit, Renders, bench_flags, bench_bit}
+use Rattle.agreement.specs.WebGpu.{wgpu_flags, Storing, write_only, read_write, atomic, storing_bit, Attaching, color_target}
 use Rattle.agreement.specs.WebGpu.{depth_stencil_write, attaching_bit, wgpu_bit, no_history, uses_at, Rendered, GivenUsage, NotCompatible}
 use Rattle.agreement.specs.Fits.{SetFits}
 use Rattle.agreement.proofs.{GridLaws.{GridAll, grid_map}, TrackerLaws.FitEnds, BarrierLaws.at_most_one}
@@ -23,9 +25,8 @@ use Rattle.agreement.proofs.{SlotLaws.{image_set, head_image, slot_fits_lem}, Li
 use Rattle.agreement.proofs.LiftCalls.{Words, Good, image_sets, stepped, ran}
 use Rattle.agreement.proofs.{Agree.{FitS, GivesC, Pairs, scope_facts, tracker_facts, one_step, no_word, WordP}, WellStates.use_all}
 use Rattle.agreement.proofs.{WellLaws.all_words, FitLaws.flags_rule}
-use Rattle.agreement.proofs.HistoryLaws.{TiedHeld, TiedGiven, AnyEnds, SameHanded, plain_view, history_scopes, history_trackers}
-use Rattle.agreement.proofs.{HistoryLaws.{blank_of, takes_keep, hand_all_lem, pass_all}, ConflictLaws.conflict_unfit}
-use Rattle.std.specs.Int.Count.{ones_in}
+use Rattle.agreement.proofs.HistoryLaws.{TiedHeld, TiedGiven, AnyEnds, SameHanded, plain_view, history_scopes, history_trackers, blank_of}
+use Rattle.agreement.proofs.{HistoryLaws.{takes_keep, hand_all_lem, pass_all}, ConflictLaws.conflict_unfit}
 
 abbrev same : SubresourceConflict → SubresourceConflict
 same c = c
@@ -67,7 +68,8 @@ module _ (os ts : List Opening) (cs : List Call) (w : All GivenWord cs) where
 
   histories_answer : (c : Call) → Words Word Word c → map_answer same (step histories c KT).answer ≡ (step grid c KS).answer
   histories_answer c word =
-      (stepped histories grid plain_view same Word Word TiedHeld AnyEnds TiedGiven SameHanded grid_at grid_at history_scopes history_trackers c
+      (stepped histories grid plain_view same Word Word TiedHeld AnyEnds TiedGiven SameHanded grid_at grid_at
+      history_scopes history_trackers c
       KT word run_histories.0).answer
       ∙ ap (λ (k : Sets grid). (step grid c k).answer) run_histories.1
 
@@ -115,7 +117,8 @@ module _ (os ts : List Opening) (cs : List Call) (w : All GivenWord cs) where
           unlike : (x : Set Grid) → none ≡ some x → ⊥
           unlike x e = let h : ◌≡◌ {A = ℕ} 0 1 = cc in omega arith
       go (some s) q =
-          let z : some (image_set plain_view s) ≡ some (grid_scope r) = rw q at both in let y : image_set plain_view s ≡ grid_scope r = cc in
+          let z : some (image_set plain_view s) ≡ some (grid_scope r) = rw q at both in
+          let y : image_set plain_view s ≡ grid_scope r = cc in
           (s, q, sym (head_image plain_view s) ∙ ap head_of y ∙ head_image grid_of r)
 
   pub uses_judged : (n i : ℕ) (sh : Extent) (sel : Option Selector) (st : ℕ) → Word st → (r : Set Held) → get_elem? KR.scopes n ≡ some r

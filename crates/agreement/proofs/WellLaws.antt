@@ -1,21 +1,20 @@
 -- Every call keeps every set well formed.
-use Rattle.std.specs.Prelude.{◌-◌, ◌≡◌, ◌∷◌}
-use Rattle.model.specs.Prelude.{ℕ, arith, refl, sym, ap, ◌∙◌, subst, Option, none, List, [], map, eqb, bit_and, replicate}
-use Rattle.model.specs.Prelude.{eqb-true, eqb-false, not-false, ne_eqb}
+use Rattle.model.specs.Prelude.{ℕ, arith, refl, sym, ap, ◌∙◌, subst, Option, none, List, [], map, eqb, bit_and, replicate, eqb-true}
+use Rattle.model.specs.Prelude.{eqb-false, not-false, ne_eqb}
 use Rattle.model.specs.{declared.{Extent.Extent, Range.Range, Selector.Selector, UsageFlags.UsageFlags}, Representation.Ends}
 use Rattle.model.specs.{Sets.{Set, Tracker, Head, Opening}, Refusals.single_refusal}
-use Rattle.model.specs.Calls.{Call, call_merge_single, call_merge_usage_scope, call_set_single, call_set_from_usage_scope, call_set_from_tracker}
-use Rattle.model.specs.{Calls.{call_set_and_remove_sparse, Sets, step, newly}, RangedStates.{layer_states, Tiles}}
+use Rattle.model.specs.Calls.{Call, call_merge_single, call_merge_usage_scope, call_set_single, call_set_from_usage_scope}
+use Rattle.model.specs.{Calls.{call_set_from_tracker, call_set_and_remove_sparse, Sets, step, newly}, RangedStates.{layer_states, Tiles}}
 use Rattle.model.specs.{Texture.{Held, single, many, Given, ranged}, Subresources.everywhere}
-use Rattle.model.specs.{ListLaws.{all_weak, all_right, all_join, all_left, all_replicate, first_of_lem, unlike_lists}, CheckLaws.single_passed}
-use Rattle.model.specs.Base.{All}
+use Rattle.model.specs.ListLaws.{all_weak, all_right, all_join, all_left, all_replicate, first_of_lem, unlike_lists}
+use Rattle.model.specs.{CheckLaws.single_passed, Base.All}
+use Rattle.std.specs.Prelude.{◌-◌, ◌≡◌, ◌∷◌}
 use Rattle.agreement.specs.{Grid.{Grid, Named, grid, named_or}, Shared.{first_of, grid_of, entries_at, grid_at}}
-use Rattle.agreement.specs.WellFormedSets.{Word, GivenWord}
+use Rattle.agreement.specs.{WellFormedSets.{Word, GivenWord}, Fits.{StateFits, MipFits, HeldFits, unknowns, EndsFit, SetFits, SetsFit}}
 use Rattle.agreement.proofs.TextureLaws.{Measured, Fit}
-use Rattle.agreement.proofs.TrackerLaws.{Known, KnownAll, KnownEnd, FitEnds, ClearHeld, clear_known, UnknownNonzero}
-use Rattle.agreement.proofs.{SlotLaws.fits_weak, LiftScope.Textures, LiftTracker.{Tracks, t₁, s₁, Taken}}
-use Rattle.agreement.proofs.{LiftCalls.{Words, stepped, opened}, Agree.{FitS, GivesC, Pairs, scope_facts, tracker_facts}}
-use Rattle.agreement.specs.Fits.{StateFits, MipFits, HeldFits, unknowns, EndsFit, SetFits, SetsFit}
+use Rattle.agreement.proofs.{TrackerLaws.{Known, KnownAll, KnownEnd, FitEnds, ClearHeld, clear_known, UnknownNonzero}, SlotLaws.fits_weak}
+use Rattle.agreement.proofs.{LiftScope.Textures, LiftTracker.{Tracks, t₁, s₁, Taken}, LiftCalls.{Words, stepped, opened}}
+use Rattle.agreement.proofs.Agree.{FitS, GivesC, Pairs, scope_facts, tracker_facts}
 use Rattle.agreement.proofs.WellStates.{FlagFacts, sure_flags, StatesFit, NamedFit, merge_fits, insert_fits, update_end_fits}
 use Rattle.agreement.proofs.WellStates.{update_start_fits, grid_alike, use_fits_lem, pass_fits, insert_back}
 use Rattle.agreement.proofs.GridLaws.{GridAll, grid_everywhere}
@@ -281,7 +280,8 @@ all_words = all_weak GivenWord (Words Word Word) words
 -- each of the six calls, on any well-formed sets
 pub call_keeps_well_formed : (c : Call) (k : Sets ranged) → GivenWord c → SetsFit k → SetsFit (step ranged c k).after
 call_keeps_well_formed c k w f =
-    good_well (step ranged c k).after (stepped ranged grid grid_of first_of Word Word FitW FitEW GivesW PairsW entries_at grid_at scopes_well
+    good_well (step ranged c k).after
+    (stepped ranged grid grid_of first_of Word Word FitW FitEW GivesW PairsW entries_at grid_at scopes_well
     trackers_well c k (words c w) (well_good k f)).good
 
 pub opened_well_formed : (scopes trackers : List Opening) → SetsFit (newly ranged scopes trackers)

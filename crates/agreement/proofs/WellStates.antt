@@ -1,20 +1,18 @@
 -- The rules for one subresource keep its state well formed, and so do the grid's merge, insert and update.
-use Rattle.std.specs.Prelude.{◌-◌, ◌<◌, ◌≡◌, ◌&&◌, ◌∷◌, if◌then◌else◌}
-use Rattle.model.specs.Prelude.{ℕ, zero, suc, arith, refl, sym, ◌∙◌, Bool, true, false, not, and-eq-true_iff, Option}
-use Rattle.model.specs.Prelude.{none, some, List, [], map, ltb, eqb, bit_and, bit_or, or_lt, replicate, eqb-true, eqb-false, ltb-true}
-use Rattle.model.specs.Prelude.{not-true, not-false}
+use Rattle.model.specs.Prelude.{ℕ, zero, suc, arith, refl, sym, ◌∙◌, Bool, true, false, not, and-eq-true_iff, Option, none, some, List, []}
+use Rattle.model.specs.Prelude.{map, ltb, eqb, bit_and, bit_or, or_lt, replicate, eqb-true, eqb-false, ltb-true, not-true, not-false}
 use Rattle.model.specs.declared.{Extent.Extent, Selector.Selector, UsageFlags.UsageFlags}
 use Rattle.model.specs.Base.{Stop, ruled, or_keep, walk₂, zip₂, zip₃, All, AllO}
 use Rattle.model.specs.{Flags.{incompatible, meets, one_bit, is_bit, apart, flags_fit}, Representation.in_mips, StateRules.less}
 use Rattle.model.specs.{ListLaws.{all_join, all_replicate, unlike_lists}, BoolLaws.by_test}
+use Rattle.std.specs.Prelude.{◌-◌, ◌<◌, ◌≡◌, ◌&&◌, ◌∷◌, if◌then◌else◌}
+use Rattle.std.specs.Int.Count.{ones_in}
 use Rattle.agreement.specs.Grid.{Grid, Named, SubresourceConflict, without, single_union, many_union, end_state, start_state, unite_state}
-use Rattle.agreement.specs.Grid.{unite_states, named_end, named_start, named_or, grid_merge, grid_insert, tab, named_row, named_use, named_all}
-use Rattle.agreement.specs.Fits.{StateFits, unknowns}
+use Rattle.agreement.specs.Grid.{unite_states, named_end, named_start, named_or, grid_merge, grid_insert, tab, named_row, named_use}
+use Rattle.agreement.specs.{Grid.named_all, Fits.{StateFits, unknowns}, Decides.no_meet}
 use Rattle.agreement.proofs.{WalkLaws.onward_all, RulesAgree.less_without}
 use Rattle.agreement.proofs.GridLaws.{GridAll, grid_map, grid_everywhere, grid_zip, grid_back}
-use Rattle.agreement.specs.Decides.{no_meet}
 use Rattle.usage.specs.BitLaws.{and_or, or_zero, split_bits, bit_nonzero, bits_apart}
-use Rattle.std.specs.Int.Count.{ones_in}
 
 -- ---- usage flags that open
 pub record FlagFacts (p : UsageFlags) : Type 0 where
@@ -243,7 +241,8 @@ use_all P sh (some q) st h = all_tab (All (AllO P)) (named_row sh q st) 0 sh.mip
     (all_replicate _ (some st) (q.layers.end.0 - q.layers.start.0) h) (all_replicate _ none (sh.layers - q.layers.end.0) tt)))
     (λ b. all_replicate _ none sh.layers tt))
 
-pub use_fits_lem : (p : UsageFlags) (sh : Extent) (sel : Option Selector) (st : ℕ) → StateFits p st → NamedFit p (named_use sh sel st).states
+pub use_fits_lem : (p : UsageFlags) (sh : Extent) (sel : Option Selector) (st : ℕ) → StateFits p st
+    → NamedFit p (named_use sh sel st).states
 use_fits_lem p sh sel st h = use_all (StateFits p) sh sel st h
 
 pub pass_fits : (p : UsageFlags) (s : Grid) → StatesFit p s.states → NamedFit p (named_all s).states

@@ -1,15 +1,15 @@
 -- The strict assertions of the Rust's texture.rs that the six calls reach, as tests over the ranged model; numbers in comments are lines of
 -- texture.rs. (range.rs asserts in its tests alone.) Each test says at least what the assertion says wherever a call reaches it.
-use Rattle.std.specs.Prelude.{◌&&◌, ◌∷◌, if◌then◌else◌}
 use Rattle.model.specs.Prelude.{ℕ, suc, Bool, true, false, not, Option, none, some, List, [], leb, ltb, eqb, length, get_elem?}
-use Rattle.model.specs.declared.{Extent.Extent, Range.Range, Refusal.Refusal, Selector.Selector, UsageFlags.UsageFlags}
-use Rattle.model.specs.{Base.{every}, Representation.{mip_start, mip_end, layer_start, layer_end, full, Ends}}
+use Rattle.model.specs.{declared.{Extent.Extent, Range.Range, Refusal.Refusal, Selector.Selector, UsageFlags.UsageFlags}, Base.every}
+use Rattle.model.specs.Representation.{mip_start, mip_end, layer_start, layer_end, full, Ends}
 use Rattle.model.specs.{Sets.{Slot, Set, Tracker, head_of, slot_at}, Refusals.{single_refusal, set_refusal, sparse_refusal}}
-use Rattle.model.specs.Calls.{no_ends, sparse_one, Sets, Call, call_merge_single, call_merge_usage_scope, call_set_single, call_set_from_usage_scope}
-use Rattle.model.specs.{Calls.{call_set_from_tracker, call_set_and_remove_sparse}, StateRules.invalid_state}
+use Rattle.model.specs.Calls.{no_ends, sparse_one, Sets, Call, call_merge_single, call_merge_usage_scope, call_set_single}
+use Rattle.model.specs.{Calls.{call_set_from_usage_scope, call_set_from_tracker, call_set_and_remove_sparse}, StateRules.invalid_state}
 use Rattle.model.specs.RangedStates.{coalesce, isolate, paint}
 use Rattle.model.specs.Texture.{Held, single, many, Given, given_single, given_many, Piece, on_mips, learn, learn_held, met_by, from_held}
 use Rattle.model.specs.Texture.{from_use, ranged}
+use Rattle.std.specs.Prelude.{◌&&◌, ◌∷◌, if◌then◌else◌}
 
 -- ---- `from_selector_state_iter`: the full range starts at 0 (94, 95), no selector ends past it (100, 101), no state is invalid (105)
 abbrev pub piece_inside : UsageFlags → Selector → Piece → Bool

@@ -1,14 +1,14 @@
 -- The test of a well-formed set (model, WellFormed) decides the records that the proofs go by (Fits): both directions, for scopes and for
 -- trackers.
-use Rattle.std.specs.Prelude.{◌≤◌, ◌<◌, ◌≡◌, ◌∷◌}
-use Rattle.model.specs.Prelude.{ℕ, arith, refl, sym, Bool, true, false, not, and-eq-true_iff, List, [], map, eqb}
-use Rattle.model.specs.Prelude.{bit_and, eqb-true, eqb-false, ltb-true, not-true, not-false, eq-eqb, ne_eqb, lt-ltb, le-ltb}
+use Rattle.model.specs.Prelude.{ℕ, arith, refl, sym, Bool, true, false, not, and-eq-true_iff, List, [], map, eqb, bit_and, eqb-true}
+use Rattle.model.specs.Prelude.{eqb-false, ltb-true, not-true, not-false, eq-eqb, ne_eqb, lt-ltb, le-ltb}
 use Rattle.model.specs.{declared.{Extent.Extent, Range.Range, UsageFlags.UsageFlags}, Flags.meets, Representation.Ends}
 use Rattle.model.specs.{Sets.{Numbers, Slot, Set, Tracker, outside}, Refusals.extent_outside, RangedStates.Tiles}
 use Rattle.model.specs.{Texture.{Held, single, many}, Subresources.subresources}
-use Rattle.model.specs.WellFormed.{state_fits, single_fits, ranges_fit, held_fits, same_test, all₂, same_unknown, ends_fit, slot_fits, set_fits}
-use Rattle.model.specs.{WellFormed.{scope_fits, tracker_fits}, ListLaws.{every_all, all_every}}
+use Rattle.model.specs.WellFormed.{state_fits, single_fits, ranges_fit, held_fits, same_test, all₂, same_unknown, ends_fit, slot_fits}
+use Rattle.model.specs.{WellFormed.{set_fits, scope_fits, tracker_fits}, ListLaws.{every_all, all_every}}
 use Rattle.model.specs.{BoolLaws.{by_test, neither, both, and_left, and_right, false_not}, CheckLaws.inside, Base.All}
+use Rattle.std.specs.Prelude.{◌≤◌, ◌<◌, ◌≡◌, ◌∷◌}
 use Rattle.agreement.specs.Shared.{grid_of}
 use Rattle.agreement.specs.Fits.{StateFits, SingleFits, MipFits, HeldFits, unknowns, EndsFit, ExtentFits, SlotFits, SetFits}
 

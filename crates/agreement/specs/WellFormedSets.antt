@@ -1,10 +1,10 @@
 -- Well-formed sets of the ranged model, by model's tests of a scope and of a tracker (01: sound), and calls whose given state has sixteen
 -- bits.
-use Rattle.std.specs.Prelude.{◌<◌, ◌&&◌}
 use Rattle.model.specs.Prelude.{ℕ, Bool}
 use Rattle.model.specs.Base.{every}
-use Rattle.model.specs.Calls.{Sets, Call, call_merge_single, call_merge_usage_scope, call_set_single, call_set_from_usage_scope, call_set_from_tracker}
-use Rattle.model.specs.{Calls.call_set_and_remove_sparse, Texture.ranged, WellFormed.{scope_fits, tracker_fits}}
+use Rattle.model.specs.Calls.{Sets, Call, call_merge_single, call_merge_usage_scope, call_set_single, call_set_from_usage_scope}
+use Rattle.model.specs.{Calls.{call_set_from_tracker, call_set_and_remove_sparse}, Texture.ranged, WellFormed.{scope_fits, tracker_fits}}
+use Rattle.std.specs.Prelude.{◌<◌, ◌&&◌}
 
 -- every scope and every tracker is well formed
 abbrev pub well_formed : Sets ranged → Bool

@@ -14,11 +14,12 @@
 // In the picture of docs/ARCHITECTURE.md it joins the ranged model with the grid and with the WebGPU rule; the crates of code are proved
 // equal to the ranged model, and carry these claims over to it.
 //
-// Reading order, in specs/: Grid, Shared, WellFormedSets, LogBound, Layers, Asserts and WebGpu are definitions, and Claims is every
-// statement with the name of its proof. Below them are proofs alone, from the ground up, as Lib lists them: walks and grids (WalkLaws,
-// GridLaws); the ranges of one mip (PaintLaws, FilterLaws); one texture (RulesAgree to BarrierLaws); sets and calls, for any two
-// representations, and demand 3 (Fits to Agree); well-formed sets (WellStates to OwnRefusals); the log (LogRoom, EachCall); assertions
-// (AssertLaws, AssertCalls); WebGPU (FitLaws to UsagesJudged). Laws of tests, lists, checks and ranges are crate `model`'s.
+// Reading order: in specs/ the definitions, Grid, Shared, WellFormedSets, LogBound, Layers, Asserts and WebGpu, and what it is for a set to
+// fit, with its test (Fits, Decides); in proofs/ first Claims, every statement with the name of its proof. The rest of proofs/, from the
+// ground up: walks and grids (WalkLaws, GridLaws); the ranges of one mip (PaintLaws, FilterLaws); one texture (RulesAgree to BarrierLaws);
+// sets and calls, for any two representations, and demand 3 (OpeningLaws to Agree); well-formed sets (WellStates to OwnRefusals); the log
+// (LogRoom, EachCall); assertions (AssertLaws, AssertCalls); WebGPU (FitLaws to UsagesJudged). Laws of tests, lists, checks and ranges are
+// crate `model`'s.
 //
 // must-fail/ holds wrong rules, one edit each, that the proofs refuse.
 #![tactic(auto)]

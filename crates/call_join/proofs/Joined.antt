@@ -1,14 +1,14 @@
 -- `set_from` and the calls: from what the code found and changed to the contract.
-use Rattle.std.specs.Prelude.{◌/◌, ◌≤◌, ◌≡◌}
 use Rattle.model.specs.Prelude.{ℕ, refl, sym, ap, subst, ◌∙◌, Bool, true, Option, none, some, List, length, get_or}
 use Rattle.model.specs.{declared.{InvalidUse.InvalidUse, LogHead.LogHead, Refusal.Refusal, Answered.Answered}, Base.{each_at₂, over₂}}
 use Rattle.model.specs.{Representation.Ends, Log.pending, Sets.{Head, Tracker, capacity, Slot, with_tracker, head_of}, Refusals.set_refusal}
 use Rattle.model.specs.Calls.{CallResult, Indexed, done, unless, set_from, set_given, log_given, set_from_usage_scope, set_from_tracker}
-use Rattle.model.specs.{Texture.{Held, Entry, from_held, ranged}, WellFormed.{scope_fits, tracker_fits, well_formed_scope, well_formed_tracker}}
-use Rattle.model.specs.BoolLaws.{and_left}
+use Rattle.model.specs.Texture.{Held, Entry, from_held, ranged}
+use Rattle.model.specs.{WellFormed.{scope_fits, tracker_fits, well_formed_scope, well_formed_tracker}, BoolLaws.and_left}
+use Rattle.std.specs.Prelude.{◌/◌, ◌≤◌, ◌≡◌}
 use Rattle.agreement.proofs.{LogRoom.entries_written, EachCall.{set_from_usage_scope_room, set_from_tracker_room}}
-use Rattle.set_storage.specs.Storage.{numbers_of, flags_of, start_half, end_half, held_of, slot_with, scope_of, tracker_of, list_from, mask_at}
-use Rattle.set_storage.specs.{Storage.textures_at, Stays.OwnedBy}
+use Rattle.set_storage.specs.Storage.{numbers_of, flags_of, start_half, end_half, held_of, slot_with, scope_of, tracker_of, list_from}
+use Rattle.set_storage.specs.{Storage.{mask_at, textures_at}, Stays.OwnedBy}
 use Rattle.set_checks.specs.{Head.{head_in, tracker_head, head_is}, Sets.SetTold, Passed.set_passed}
 use Rattle.set_ready.specs.Tested.{TrackerTested}
 use Rattle.texture_track.specs.{Tracked.{Tracked, Changes, away_own, changes_tracked}, GivenSlot.{pair_of, pass_start, pass_end}}
@@ -33,7 +33,8 @@ module _ (t s e : List ℕ) (from to : ℕ) (g a b : List ℕ) where
   }
 
   -- its refusal, by what the checks read
-  call_is : (o : Option Refusal) → set_refusal (head_in t) (head_in g) ≡ o → join_call t s e from to g a b ≡ unless o (tracker_of t s e) passing
+  call_is : (o : Option Refusal) → set_refusal (head_in t) (head_in g) ≡ o
+      → join_call t s e from to g a b ≡ unless o (tracker_of t s e) passing
   unfolding tracker_of
   call_is o z =
       ap (λ (h : Head). unless (set_refusal h (head_of (given_of from to g a b))) (tracker_of t s e) passing) (tracker_head t s e)

@@ -1,7 +1,7 @@
 -- `log_set`: what the loop asks for, and that the entries of every index are the model's.
-use Rattle.std.specs.Prelude.{◌≤◌, ◌<◌, ◌≡◌, if◌then◌else◌}
 use Rattle.model.specs.Prelude.{ℕ, arith, refl, Bool, true, false, List, get_or, []}
-use Rattle.model.specs.{Base.{each_at₂}, Calls.{log_given, log_slot}, Log.{pending, pending_of}, Texture.ranged}
+use Rattle.model.specs.{Base.each_at₂, Calls.{log_given, log_slot}, Log.{pending, pending_of}, Texture.ranged}
+use Rattle.std.specs.Prelude.{◌≤◌, ◌<◌, ◌≡◌, if◌then◌else◌}
 use Rattle.set_storage.specs.Storage.{flags_of, extent_of, owned_of, slot_with, tracker_of, mask_at, textures_at, tracker_slot}
 use Rattle.texture_barrier.specs.Adds.{entries_at}
 use Rattle.set_ready.specs.{Half.tracker_texture, Given.given_at}
@@ -43,7 +43,9 @@ entries_model {t} {s} {e} {from} {to} {g} {a} {b} w =
     (λ x h k. go x (owned_of g x)) (λ x h k. rw (not_past w x k h))
   where
     go : (x : ℕ) (o : Bool)
-        → pending (if o then log_slot ranged (flags_of t) (get_or t mask_at 0) (extent_of g x) (given_at from g a x) x (tracker_slot t s e x)
-        else []) ≡ entries_at x (if o then end_entries (flags_of t) (get_or t mask_at 0) (extent_of g x) (given_at from g a x) t e x else [])
+        → pending (if o then log_slot ranged (flags_of t) (get_or t mask_at 0) (extent_of g x) (given_at from
+        g a x) x (tracker_slot t s e x)
+        else []) ≡ entries_at x (if o then end_entries (flags_of t) (get_or t mask_at 0) (extent_of g x) (given_at from g a x) t e x
+        else [])
     go x true = slot_pending (flags_of t) (get_or t mask_at 0) (extent_of g x) (given_at from g a x) x (tracker_slot t s e x)
     go x false = refl

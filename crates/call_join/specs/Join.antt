@@ -1,11 +1,11 @@
 -- A whole given set and a tracker: what the test and the checks have shown, and the contracts of the loops over every index.
-use Rattle.std.specs.Prelude.{◌≤◌, ◌<◌, ◌≡◌}
 use Rattle.model.specs.Prelude.{ℕ, refl, sym, ◌∙◌, true, List, get_or}
 use Rattle.model.specs.{declared.{InvalidUse.InvalidUse, UsageFlags.UsageFlags, PendingTransition.PendingTransition}, Base.over₂}
 use Rattle.model.specs.{Representation.Ends, Sets.{Slot, Set, Tracker, with_tracker}, Calls.{CallResult, set_given, set_from}}
 use Rattle.model.specs.Texture.{Held, Entry, ranged}
-use Rattle.set_storage.specs.Storage.{numbers_of, flags_of, extent_of, owned_of, start_half, end_half, set_with, tracker_of, mask_at, textures_at}
-use Rattle.set_storage.specs.{Storage.table_indices, Stays.{OwnedBy, TrackerFrame}, Frames.Measured}
+use Rattle.std.specs.Prelude.{◌≤◌, ◌<◌, ◌≡◌}
+use Rattle.set_storage.specs.Storage.{numbers_of, flags_of, extent_of, owned_of, start_half, end_half, set_with, tracker_of, mask_at}
+use Rattle.set_storage.specs.{Storage.{textures_at, table_indices}, Stays.{OwnedBy, TrackerFrame}, Frames.Measured}
 use Rattle.texture_barrier.specs.Adds.{entries_at}
 use Rattle.set_checks.specs.Passed.{SetPassed}
 use Rattle.agreement.specs.Fits.{ExtentFits}

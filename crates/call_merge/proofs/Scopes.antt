@@ -1,8 +1,8 @@
 -- `merge_usage_scope`: from what the code found to the contract.
-use Rattle.std.specs.Prelude.{◌≡◌}
 use Rattle.model.specs.Prelude.{ℕ, ap, ◌∙◌, Bool, true, Option, none, some, List}
 use Rattle.model.specs.{declared.{UsageFlags.UsageFlags, Refusal.Refusal, Outcome.Outcome}, Sets.{Head, head_of}, Refusals.set_refusal}
 use Rattle.model.specs.{Calls.{unless, merge_usage_scope}, Texture.ranged}
+use Rattle.std.specs.Prelude.{◌≡◌}
 use Rattle.set_storage.specs.{Storage.{flags_of, scope_of}, Stays.{OwnedBy, keeps_more}}
 use Rattle.set_checks.specs.{Head.{head_in, scope_head}, Sets.SetTold, Passed.set_passed}
 use Rattle.set_ready.specs.Tested.{ScopeTested}
@@ -14,7 +14,8 @@ use Rattle.model.specs.declared.Verdict.TheVariants as verdict
 -- ---- The model's call
 module _ (t r g l : List ℕ) where
   merge_is : (o : Option Refusal) → set_refusal (head_in t) (head_in g) ≡ o
-      → merge_usage_scope ranged (scope_of t r) (scope_of g l) ≡ unless o (scope_of t r) (walked t r (merged_slots (scope_of t r).flags t r g l))
+      → merge_usage_scope ranged (scope_of t r) (scope_of g l)
+      ≡ unless o (scope_of t r) (walked t r (merged_slots (scope_of t r).flags t r g l))
   merge_is o e =
       let done = walked t r (merged_slots (scope_of t r).flags t r g l) in
       ap (λ (h : Head). unless (set_refusal h (head_of (scope_of g l))) (scope_of t r) done) (scope_head t r)

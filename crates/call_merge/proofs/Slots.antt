@@ -1,10 +1,10 @@
 -- The walk of `merge_slots` over the textures of a given scope: the scope on the way, what a lap asks for, and what it leaves.
-use Rattle.std.specs.Prelude.{◌+◌, ◌≤◌, ◌<◌, ◌≡◌}
 use Rattle.model.specs.Prelude.{ℕ, arith, refl, sym, ap, subst, ◌∙◌, Bool, true, false, Option, none, some, List, get_or}
 use Rattle.model.specs.{declared.{UsageFlags.UsageFlags, InvalidUse.InvalidUse}, Base.{Stop, fine}, Refusals.tracker_index}
 use Rattle.model.specs.{Sets.{Numbers, Slot}, Calls.{Indexed, answer, merge_given}, Log.outcome_of, Texture.{Held, ranged}}
-use Rattle.set_storage.specs.Storage.{numbers_of, flags_of, extent_of, owned_of, start_half, held_of, slot_with, scope_of, list_from, textures_at}
-use Rattle.set_storage.specs.{Storage.scope_slot, Stays.{OnlyOwned, OwnedBy, keeps_refl, keeps_then, keeps_more, ScopeFrame}}
+use Rattle.std.specs.Prelude.{◌+◌, ◌≤◌, ◌<◌, ◌≡◌}
+use Rattle.set_storage.specs.Storage.{numbers_of, flags_of, extent_of, owned_of, start_half, held_of, slot_with, scope_of, list_from}
+use Rattle.set_storage.specs.{Storage.{textures_at, scope_slot}, Stays.{OnlyOwned, OwnedBy, keeps_refl, keeps_then, keeps_more, ScopeFrame}}
 use Rattle.texture_merge.specs.{declared.Stopped.Stopped, declared.Stopped.TheVariants.{Nowhere, At}}
 use Rattle.set_ready.specs.Given.{HalfGiven, owned_given}
 use Rattle.set_ready.specs.Half.{HalfReady, HeadStays, scope_keeps, numbers_stay, flags_stay, measured_stays, scope_still}
@@ -28,7 +28,8 @@ start p t r g l = record { within = omega arith; slots = walked_start (λ j l. a
 
 -- what a walk gives that leaves these textures, and the view then
 walk_gives : {named : ℕ → Type 0} {w : Stop (Indexed InvalidUse) (List (Slot Held))} {o : Option (Indexed InvalidUse)} {t₀ r₀ t r : List ℕ}
-    → w ≡ record { value = list_from (scope_slot t r) 0 (get_or t₀ textures_at 0); conflict = o } → ScopeFrame named (numbers_of t₀) t₀ r₀ t r
+    → w ≡ record { value = list_from (scope_slot t r) 0 (get_or t₀ textures_at 0); conflict = o }
+    → ScopeFrame named (numbers_of t₀) t₀ r₀ t r
     → SlotsMerged named w t₀ r₀ (outcome_of (answer o)) t r
 unfolding scope_of
 walk_gives {named} {o = o} {t₀} {r₀} {t} {r} e f =
@@ -97,7 +98,8 @@ module _ {p : UsageFlags} {t₀ r₀ g l : List ℕ} {k : ℕ} {t r : List ℕ} 
           absurd (let w : ◌≡◌ {A = ℕ} 0 1 = cc in omega arith)
 
       pub stop : {c : InvalidUse} → x ≡ At c
-          → SlotsMerged (OwnedBy g) (merged_slots p t₀ r₀ g l) t₀ r₀ (outcome.Conflict (record { index = tracker_index k; found = c })) t' r'
+          → SlotsMerged (OwnedBy g) (merged_slots p t₀ r₀ g l) t₀ r₀ (outcome.Conflict
+          (record { index = tracker_index k; found = c })) t' r'
       unfolding scope_of
       stop {c} e =
           let b = (q.passed.each k h (is_owned (owned_of g k) refl e)).texture in

@@ -1,8 +1,8 @@
 -- THE CONTRACT of a merge into a scope: the answer, and the content of what was lent.
-use Rattle.std.specs.Prelude.{◌≡◌}
 use Rattle.model.specs.Prelude.{ℕ, Bool, true, List}
-use Rattle.model.specs.{declared.{InvalidUse.InvalidUse, Outcome.Outcome}, Sets.Set, Calls.CallResult, Log.{is_refused, outcome_of, merging}}
-use Rattle.model.specs.Texture.{Held, Entry}
+use Rattle.model.specs.{declared.{InvalidUse.InvalidUse, Outcome.Outcome}, Sets.Set, Calls.CallResult}
+use Rattle.model.specs.{Log.{is_refused, outcome_of, merging}, Texture.{Held, Entry}}
+use Rattle.std.specs.Prelude.{◌≡◌}
 use Rattle.set_storage.specs.{Storage.{numbers_of, scope_of}, Stays.ScopeFrame}
 use Rattle.set_ready.specs.Named.{Within}
 

@@ -1,15 +1,16 @@
 -- The view of a table that was written by opening: no index is owned, and each state is UNINITIALIZED.
-use Rattle.std.specs.Prelude.{◌≤◌, ◌<◌, ◌≡◌, ◌&&◌, ◌∷◌, if◌then◌else◌}
-use Rattle.model.specs.Prelude.{ℕ, zero, suc, arith, refl, sym, ap, ◌∙◌, Bool, true, not, false≢true, Option, none}
-use Rattle.model.specs.Prelude.{List, [], eqb, ltb, length, get_or, set, replicate, drop, length-set, length-drop, length-replicate}
-use Rattle.model.specs.Prelude.{get_or-replicate, get_or-set_same, get_or-set_other, ext_get_or, sets-eq, eq-eqb}
-use Rattle.model.specs.{declared.{UsageFlags.UsageFlags, Refusal.Refusal, Outcome.Outcome}}
-use Rattle.model.specs.{Flags.{is_bit, meets, apart, flags_fit}, Sets.{Numbers, Opening, empty_slot, open_set, open_tracker}}
+use Rattle.model.specs.Prelude.{ℕ, zero, suc, arith, refl, sym, ap, ◌∙◌, Bool, true, not, false≢true, Option, none, List, [], eqb, ltb}
+use Rattle.model.specs.Prelude.{length, get_or, set, replicate, drop, length-set, length-drop, length-replicate, get_or-replicate}
+use Rattle.model.specs.Prelude.{get_or-set_same, get_or-set_other, ext_get_or, sets-eq, eq-eqb}
+use Rattle.model.specs.{declared.{UsageFlags.UsageFlags, Refusal.Refusal, Outcome.Outcome}, Flags.{is_bit, meets, apart, flags_fit}}
+use Rattle.model.specs.Sets.{Numbers, Opening, empty_slot, open_set, open_tracker}
 use Rattle.model.specs.{Refusals.{first_failing, opening_refusal, accepted, opens}, Log.verdict, Texture.single}
 use Rattle.model.specs.BoolLaws.{and_left, and_right, by_eq, by_lt}
-use Rattle.set_storage.specs.Storage.{numbers_of, flags_of, start_half, end_half, held_of, ends_of, slot_with, scope_of, tracker_of, list_from}
-use Rattle.set_storage.specs.Storage.{textures_at, mip_limit_at, layer_limit_at, exclusive_at, uninitialized_at, complex_at, unknown_at, mask_at}
-use Rattle.set_storage.specs.{Storage.{owned_at, mips_at, layers_at, state_at, table_length}, Lists.{list_long, list_at}, Slots.held_single}
+use Rattle.std.specs.Prelude.{◌≤◌, ◌<◌, ◌≡◌, ◌&&◌, ◌∷◌, if◌then◌else◌}
+use Rattle.set_storage.specs.Storage.{numbers_of, flags_of, start_half, end_half, held_of, ends_of, slot_with, scope_of, tracker_of}
+use Rattle.set_storage.specs.Storage.{list_from, textures_at, mip_limit_at, layer_limit_at, exclusive_at, uninitialized_at, complex_at}
+use Rattle.set_storage.specs.Storage.{unknown_at, mask_at, owned_at, mips_at, layers_at, state_at, table_length}
+use Rattle.set_storage.specs.{Lists.{list_long, list_at}, Slots.held_single}
 use Rattle.call_open.specs.Open.{asked, headed, cleared_at, cleared, TableOpened}
 use Rattle.agreement.proofs.OpeningLaws.{opened_numbers, opened_fits}
 use Rattle.set_wellformed.proofs.Numbers.{numbers_in_lem}
@@ -23,7 +24,8 @@ module _ (l : List ℕ) (u k : ℕ) where
   at_other : (x : ℕ) → (x ≡ owned_at k → ⊥) → (x ≡ mips_at k → ⊥) → (x ≡ layers_at k → ⊥) → (x ≡ state_at start_half k → ⊥)
       → (x ≡ state_at end_half k → ⊥) → get_or (cleared_at l u k) x 0 ≡ get_or l x 0
   at_other x a b c d e =
-      get_or-set_other (set (set (set (set l (owned_at k) 0) (mips_at k) 0) (layers_at k) 0) (state_at start_half k) u) (state_at end_half k) x u 0 e
+      get_or-set_other (set (set (set (set l (owned_at k) 0) (mips_at k) 0) (layers_at k) 0)
+      (state_at start_half k) u) (state_at end_half k) x u 0 e
       ∙ get_or-set_other (set (set (set l (owned_at k) 0) (mips_at k) 0) (layers_at k) 0) (state_at start_half k) x u 0 d
       ∙ get_or-set_other (set (set l (owned_at k) 0) (mips_at k) 0) (layers_at k) x 0 0 c
       ∙ get_or-set_other (set l (owned_at k) 0) (mips_at k) x 0 0 b
@@ -31,18 +33,21 @@ module _ (l : List ℕ) (u k : ℕ) where
 
   module _ (h : k < 64) (n : length l ≡ table_length) where
     at_end : get_or (cleared_at l u k) (state_at end_half k) 0 ≡ u
-    at_end = get_or-set_same (set (set (set (set l (owned_at k) 0) (mips_at k) 0) (layers_at k) 0) (state_at start_half k) u) (state_at end_half k) u
+    at_end = get_or-set_same (set (set (set (set l (owned_at k) 0) (mips_at k) 0) (layers_at k) 0) (state_at start_half k) u)
+        (state_at end_half k) u
         0 (simp length-set (omega arith))
 
     at_start : get_or (cleared_at l u k) (state_at start_half k) 0 ≡ u
     at_start =
-        get_or-set_other (set (set (set (set l (owned_at k) 0) (mips_at k) 0) (layers_at k) 0) (state_at start_half k) u) (state_at end_half k)
+        get_or-set_other (set (set (set (set l (owned_at k) 0) (mips_at k) 0) (layers_at k) 0)
+        (state_at start_half k) u) (state_at end_half k)
         (state_at start_half k) u 0 (λ z. omega arith)
         ∙ get_or-set_same (set (set (set l (owned_at k) 0) (mips_at k) 0) (layers_at k) 0) (state_at start_half k) u 0
         (simp length-set (omega arith))
 
     -- the words of ownership and extent: the halves' words are written after them
-    low : (x : ℕ) → x < start_half → get_or (cleared_at l u k) x 0 ≡ get_or (set (set (set l (owned_at k) 0) (mips_at k) 0) (layers_at k) 0) x 0
+    low : (x : ℕ) → x < start_half
+        → get_or (cleared_at l u k) x 0 ≡ get_or (set (set (set l (owned_at k) 0) (mips_at k) 0) (layers_at k) 0) x 0
     low x q =
         get_or-set_other (set (set (set (set l (owned_at k) 0) (mips_at k) 0) (layers_at k) 0) (state_at start_half k) u)
         (state_at end_half k) x u 0 (λ z. omega arith)
@@ -62,7 +67,8 @@ module _ (l : List ℕ) (u k : ℕ) where
     at_owned =
         low (owned_at k) (omega arith)
         ∙ get_or-set_other (set (set l (owned_at k) 0) (mips_at k) 0) (layers_at k) (owned_at k) 0 0 (λ z. omega arith)
-        ∙ get_or-set_other (set l (owned_at k) 0) (mips_at k) (owned_at k) 0 0 (λ z. omega arith) ∙ get_or-set_same l (owned_at k) 0 0 (omega arith)
+        ∙ get_or-set_other (set l (owned_at k) 0) (mips_at k) (owned_at k) 0 0 (λ z. omega arith)
+        ∙ get_or-set_same l (owned_at k) 0 0 (omega arith)
 
 -- ---- all of them
 cleared_long : (t : List ℕ) (u n : ℕ) → length (cleared t u n) ≡ length t
@@ -104,7 +110,8 @@ flags_apart p e z =
     false≢true (rw (eq-eqb p.uninitialized p.complex z) at differ)
 
 -- ---- the view
-module _ (t : List ℕ) (n m w : ℕ) (p : UsageFlags) (mask : ℕ) (long : length t ≡ table_length) (few : n ≤ 64) (fit : flags_fit p ≡ true) where
+module _ (t : List ℕ) (n m w : ℕ) (p : UsageFlags) (mask : ℕ) (long : length t ≡ table_length) (few : n ≤ 64)
+    (fit : flags_fit p ≡ true) where
   abbrev h : List ℕ
   h = headed t n m w p mask
 

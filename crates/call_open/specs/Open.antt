@@ -1,8 +1,8 @@
 -- What opening asks for, answers and writes.
-use Rattle.std.specs.Prelude.{◌/◌, ◌≡◌, ◌∷◌, if◌then◌else◌}
 use Rattle.model.specs.Prelude.{ℕ, zero, suc, min, true, List, [], length, set, sets}
 use Rattle.model.specs.{declared.{UsageFlags.UsageFlags, Outcome.Outcome}, Sets.{Opening, open_set, open_tracker}}
 use Rattle.model.specs.{Refusals.{opening_refusal, opens}, Log.verdict, Texture.single}
+use Rattle.std.specs.Prelude.{◌/◌, ◌≡◌, ◌∷◌, if◌then◌else◌}
 use Rattle.set_storage.specs.Storage.{scope_of, tracker_of, end_half, layers_at, mips_at, owned_at, start_half, state_at, table_length}
 
 -- what a caller asks to open
@@ -16,7 +16,8 @@ headed t n m w p mask = sets t 0 (n ∷ m ∷ w ∷ p.exclusive ∷ p.uninitiali
 
 -- index k: not owned, no extent, in the state u
 abbrev pub cleared_at : List ℕ → ℕ → ℕ → List ℕ
-cleared_at t u k = set (set (set (set (set t (owned_at k) 0) (mips_at k) 0) (layers_at k) 0) (state_at start_half k) u) (state_at end_half k) u
+cleared_at t u k = set (set (set (set (set t (owned_at k) 0) (mips_at k) 0) (layers_at k) 0)
+    (state_at start_half k) u) (state_at end_half k) u
 
 -- the first k indices cleared
 unfoldable pub cleared : List ℕ → ℕ → ℕ → List ℕ

@@ -1,12 +1,12 @@
 -- The sparse call: from what the code found and changed to the contract.
-use Rattle.std.specs.Prelude.{◌*◌, ◌/◌, ◌≤◌, ◌<◌, ◌≡◌, ◌∷◌}
-use Rattle.model.specs.Prelude.{ℕ, mul-le-mul, arith, refl, sym, ap, subst, ◌∙◌, Bool, true, and-eq-true_iff, []}
-use Rattle.model.specs.Prelude.{Option, none, some, List, length}
+use Rattle.model.specs.Prelude.{ℕ, mul-le-mul, arith, refl, sym, ap, subst, ◌∙◌, Bool, true, and-eq-true_iff, [], Option, none, some, List}
+use Rattle.model.specs.Prelude.{length}
 use Rattle.model.specs.declared.Refusal.TheVariants.{NoFreeEntry}
 use Rattle.model.specs.declared.{InvalidUse.InvalidUse, LogHead.LogHead, Refusal.Refusal, Answered.Answered}
 use Rattle.model.specs.{Sets.{capacity, Head, Set, Tracker, head_of}, Refusals.sparse_refusal}
 use Rattle.model.specs.{Calls.{CallResult, unless, sparse_all, set_and_remove_sparse}, Log.pending, Texture.{Held, Entry, ranged}}
 use Rattle.model.specs.WellFormed.{scope_fits, tracker_fits, well_formed_scope, well_formed_tracker}
+use Rattle.std.specs.Prelude.{◌*◌, ◌/◌, ◌≤◌, ◌<◌, ◌≡◌, ◌∷◌}
 use Rattle.set_storage.specs.{Storage.{numbers_of, scope_of, tracker_of}, Stays.both_refl}
 use Rattle.agreement.specs.LogBound.{entries}
 use Rattle.agreement.proofs.{LogRoom.entries_written, EachCall.sparse_room}
@@ -40,11 +40,13 @@ BothResult = CallResult InvalidUse (List Entry) Both
 
 -- by what its checks tell
 call_is : (t s e g r is : List ℕ) (o : Option Refusal) → sparse_refusal (head_in t) (head_in g) is ≡ o
-    → set_and_remove_sparse ranged (tracker_of t s e) (scope_of g r) is ≡ unless o (sets_of t s e g r) (sparse_all ranged is (sets_of t s e g r))
+    → set_and_remove_sparse ranged (tracker_of t s e) (scope_of g r) is
+    ≡ unless o (sets_of t s e g r) (sparse_all ranged is (sets_of t s e g r))
 call_is t s e g r is o z =
     ap (λ (h : Head). unless (sparse_refusal h (head_of (scope_of g r)) is) (sets_of t s e g r) (sparse_all ranged is (sets_of t s e g r)))
     (tracker_head t s e)
-    ∙ ap (λ (h : Head). unless (sparse_refusal (head_in t) h is) (sets_of t s e g r) (sparse_all ranged is (sets_of t s e g r))) (scope_head g r)
+    ∙ ap (λ (h : Head). unless (sparse_refusal (head_in t) h is) (sets_of t s e g r)
+    (sparse_all ranged is (sets_of t s e g r))) (scope_head g r)
     ∙ ap (λ (y : Option Refusal). unless y (sets_of t s e g r) (sparse_all ranged is (sets_of t s e g r))) z
 
 -- what the test shows of a tracker
@@ -86,7 +88,8 @@ module _ {t s e g r is : List ℕ} (tracker : TrackerTested t s e) (scope : Scop
 
   -- 15, or done
   pub call_done : {fits : Bool} {h : LogHead} {l : List ℕ} {x : Answered} {t' s' e' g' l' : List ℕ} → fits ≡ true
-      → head_within (length l / 7) h ≡ true → Removes is (removed_entries t e g r is) (sets_after t s e g r is) h t s e g r l x t' s' e' g' l'
+      → head_within (length l / 7) h ≡ true
+      → Removes is (removed_entries t e g r is) (sets_after t s e g r is) h t s e g r l x t' s' e' g' l'
       → Removed is fits (set_and_remove_sparse ranged (tracker_of t s e) (scope_of g r) is) h t s e g r l x t' s' e' g' l'
   call_done {fits} {h} {l} {x} {t'} {s'} {e'} {g'} {l'} f k c =
       subst (λ (y : BothResult). Removed is fits y h t s e g r l x t' s' e' g' l') (sym (call_is t s e g r is none told.is))

@@ -1,10 +1,10 @@
 -- The transitions of the listed textures that a scope owns: what is asked for, and that they are the model's.
-use Rattle.std.specs.Prelude.{◌<◌, ◌≡◌, if◌then◌else◌}
 use Rattle.model.specs.Prelude.{ℕ, arith, refl, ap, ◌∙◌, Bool, true, false, List, length, get_or, take, []}
-use Rattle.model.specs.{declared.{UsageFlags.UsageFlags, PendingTransition.PendingTransition}, Representation.Ends}
-use Rattle.model.specs.{Sets.{Slot, empty_slot}, Calls.{no_ends, log_slot, sparse_all}, Log.{pending, pending_of}, Texture.{Held, Entry, ranged}}
-use Rattle.set_storage.specs.Storage.{flags_of, extent_of, owned_of, start_half, scope_of, tracker_of, mask_at, textures_at, tracker_slot, scope_slot}
-use Rattle.set_storage.specs.Lists.{list_at}
+use Rattle.model.specs.{declared.{UsageFlags.UsageFlags, PendingTransition.PendingTransition}, Representation.Ends, Sets.{Slot, empty_slot}}
+use Rattle.model.specs.{Calls.{no_ends, log_slot, sparse_all}, Log.{pending, pending_of}, Texture.{Held, Entry, ranged}}
+use Rattle.std.specs.Prelude.{◌<◌, ◌≡◌, if◌then◌else◌}
+use Rattle.set_storage.specs.Storage.{flags_of, extent_of, owned_of, start_half, scope_of, tracker_of, mask_at, textures_at, tracker_slot}
+use Rattle.set_storage.specs.{Storage.scope_slot, Lists.list_at}
 use Rattle.texture_barrier.specs.Adds.{entries_at}
 use Rattle.agreement.specs.LogBound.{listed}
 use Rattle.set_checks.specs.Passed.{SparsePassed}
@@ -73,13 +73,15 @@ module _ {t s e g r is : List ℕ} (tested : TrackerTested t s e) (scope : Scope
       go : (o : Bool) → owned_of g (get_or is k 0) ≡ o
           → pending (if o then log_slot ranged (flags_of t) (get_or t mask_at 0) (extent_of g (get_or is k 0)) (given_at start_half g r
           (get_or is k 0)) (get_or is k 0) (into (sets_of t s e g r) (get_or is k 0)) else [])
-          ≡ entries_at (get_or is k 0) (if o then end_entries (flags_of t) (get_or t mask_at 0) (extent_of g (get_or is k 0)) (given_at start_half g r
+          ≡ entries_at (get_or is k 0) (if o
+          then end_entries (flags_of t) (get_or t mask_at 0) (extent_of g (get_or is k 0)) (given_at start_half g r
           (get_or is k 0)) t e (get_or is k 0) else [])
       go true o =
           ap (λ (x : Slot (Ends Held)).
           pending (log_slot ranged (flags_of t) (get_or t mask_at 0) (extent_of g (get_or is k 0)) (given_at start_half g r (get_or is k 0))
           (get_or is k 0) x)) (into_is t s e g r (get_or is k 0) (passed.each k h o).texture)
-          ∙ slot_pending (flags_of t) (get_or t mask_at 0) (extent_of g (get_or is k 0)) (given_at start_half g r (get_or is k 0)) (get_or is k 0)
+          ∙ slot_pending (flags_of t) (get_or t mask_at 0) (extent_of g (get_or is k 0)) (given_at start_half g r
+          (get_or is k 0)) (get_or is k 0)
           (tracker_slot t s e (get_or is k 0))
       go false o = refl
 
@@ -96,6 +98,7 @@ module _ {t s e g r is : List ℕ} (tested : TrackerTested t s e) (scope : Scope
           → pending (taken_log (sets_of t s e g r) (get_or is k 0))
           ≡ entries_at (get_or is k 0) (given_entries (flags_of t) (get_or t mask_at 0) t e start_half g r (get_or is k 0))
           → (if b then [] else pending (taken_log (sets_of t s e g r) (get_or is k 0)))
-          ≡ entries_at (get_or is k 0) (if b then [] else given_entries (flags_of t) (get_or t mask_at 0) t e start_half g r (get_or is k 0))
+          ≡ entries_at (get_or is k 0) (if b then []
+          else given_entries (flags_of t) (get_or t mask_at 0) t e start_half g r (get_or is k 0))
       go k true e = refl
       go k false e = e

@@ -1,9 +1,8 @@
 -- Lists of indices, each of which counts once: whether one was listed before, and what a list makes.
+use Rattle.model.specs.Prelude.{ℕ, zero, suc, arith, refl, sym, ap, ◌∙◌, inl, inr, Bool, true, false, false≢true, List, [], append_assoc}
+use Rattle.model.specs.Prelude.{append-nil, eqb, length, get_or, take, drop, take-suc, drop-cons, drop-length, eqb-true, eqb-false}
+use Rattle.model.specs.{Base.each, ListLaws.each_append}
 use Rattle.std.specs.Prelude.{◌≤◌, ◌<◌, ◌≡◌, ◌⊎◌, ◌∷◌, ◌++◌, if◌then◌else◌}
-use Rattle.model.specs.Prelude.{ℕ, zero, suc, arith, refl, sym, ap, ◌∙◌, inl, inr, Bool, true, false, false≢true, List}
-use Rattle.model.specs.Prelude.{[], append_assoc, append-nil, eqb, length, get_or, take, drop, take-suc, drop-cons, drop-length}
-use Rattle.model.specs.Prelude.{eqb-true, eqb-false}
-use Rattle.model.specs.{Base.{each}, ListLaws.each_append}
 use Rattle.agreement.specs.LogBound.{listed}
 use Rattle.log_head.specs.UpTo.{up_to}
 
@@ -46,7 +45,8 @@ once_at f is k = if listed (get_or is k 0) (take k is) then [] else f (get_or is
 
 module _ {A : Type 0} (f : ℕ → List A) (is : List ℕ) where
   -- position k first
-  once_next : (k : ℕ) → k < length is → each_once f (take k is) (drop k is) ≡ once_at f is k ++ each_once f (take (suc k) is) (drop (suc k) is)
+  once_next : (k : ℕ) → k < length is
+      → each_once f (take k is) (drop k is) ≡ once_at f is k ++ each_once f (take (suc k) is) (drop (suc k) is)
   unfolding each_once
   once_next k h = rw (drop-cons is k 0 h, take-suc is k 0 h)
 

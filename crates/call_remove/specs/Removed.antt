@@ -1,12 +1,13 @@
 -- THE CONTRACT of the sparse call: the answer, and the content of what was lent; and what it is check by check.
-use Rattle.std.specs.Prelude.{◌/◌, ◌≤◌, ◌≡◌, ◌&&◌}
 use Rattle.model.specs.Prelude.{ℕ, refl, sym, ap, ◌∙◌, Bool, true, false, false≢true, List, length}
 use Rattle.model.specs.declared.Refusal.TheVariants.{NotWellFormed, LogTooShort}
 use Rattle.model.specs.declared.{Answered.Answered, InvalidUse.InvalidUse, LogHead.LogHead, PendingTransition.PendingTransition}
 use Rattle.model.specs.{declared.Refusal.Refusal, Sets.{Set, Tracker}, Calls.{CallResult, done, set_and_remove_sparse}}
 use Rattle.model.specs.{Log.{is_refused, pending}, Texture.{Held, Entry, ranged}, BoolLaws.by_lt}
+use Rattle.std.specs.Prelude.{◌/◌, ◌≤◌, ◌≡◌, ◌&&◌}
 use Rattle.set_storage.specs.Storage.{numbers_of, scope_of, tracker_of}
-use Rattle.set_storage.specs.{Lent.{LentScope, LentTracker, scope_in, tracker_in, scope_test, tracker_test}, Stays.{TrackerFrame, both_refl}}
+use Rattle.set_storage.specs.Lent.{LentScope, LentTracker, scope_in, tracker_in, scope_test, tracker_test}
+use Rattle.set_storage.specs.Stays.{TrackerFrame, both_refl}
 use Rattle.set_ready.specs.Named.{Within}
 use Rattle.log_head.specs.{Log.{head_within, refused_with}, Called.{Called, Changed, changed}}
 use Rattle.texture_track.specs.Tracked.{Same}
@@ -50,7 +51,8 @@ module _ {is : List ℕ} {fits : Bool} {m : CallResult InvalidUse (List Entry) B
   away_unfit z = away (called.away_unfit (refl, (refl, (refl, refl))) z)
 
   -- 5
-  pub away_short : fits ≡ true → head_within (length l / 7) h ≡ false → Removed is fits m h t s e g r l (refused_with LogTooShort h) t s e g l
+  pub away_short : fits ≡ true → head_within (length l / 7) h ≡ false
+      → Removed is fits m h t s e g r l (refused_with LogTooShort h) t s e g l
   away_short f z = away (called.away_short (refl, (refl, (refl, refl))) f z)
 
   -- 6 to 9

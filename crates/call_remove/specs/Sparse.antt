@@ -1,10 +1,10 @@
 -- The model's sparse call: what one listed index leaves of the sets, and its log from the sets at entry.
-use Rattle.std.specs.Prelude.{◌≡◌, ◌⊎◌, ◌∷◌, ◌++◌, if◌then◌else◌}
-use Rattle.model.specs.Prelude.{ℕ, zero, suc, ℕ_discrete, refl, ap, ◌∙◌, inl, inr, Bool, true, false, false≢true, List, []}
-use Rattle.model.specs.Prelude.{get_or, set, get_or-set_other}
+use Rattle.model.specs.Prelude.{ℕ, zero, suc, ℕ_discrete, refl, ap, ◌∙◌, inl, inr, Bool, true, false, false≢true, List, [], get_or, set}
+use Rattle.model.specs.Prelude.{get_or-set_other}
 use Rattle.model.specs.{declared.InvalidUse.InvalidUse, Representation.Ends, Sets.{Slot, empty_slot, slot_at}}
 use Rattle.model.specs.{Calls.{Indexed, CallResult, log_slot, no_ends, sparse_one, sparse_all}, Texture.{Held, Entry, from_held, ranged}}
 use Rattle.model.specs.BoolLaws.{by_test, by_test₂}
+use Rattle.std.specs.Prelude.{◌≡◌, ◌⊎◌, ◌∷◌, ◌++◌, if◌then◌else◌}
 use Rattle.agreement.specs.LogBound.{listed}
 use Rattle.call_remove.specs.{Removed.Both, Once.{not_listed, is_listed, each_once}}
 
@@ -105,7 +105,8 @@ module _ {was ts : Both} {seen : List ℕ} (q : Took was seen ts) (i : ℕ) wher
       go false e = rw (q.flags, q.mask, q.into_same i e, q.given_same i e)
 
 -- the log of what is left of the list
-log_from : (was : Both) (is seen : List ℕ) (ts : Both) → Took was seen ts → (sparse_all ranged is ts).log ≡ each_once (taken_log was) seen is
+log_from : (was : Both) (is seen : List ℕ) (ts : Both) → Took was seen ts
+    → (sparse_all ranged is ts).log ≡ each_once (taken_log was) seen is
 unfolding each_once
 log_from was [] seen ts q = refl
 log_from was (i ∷ is) seen ts q = rw (took_log q i, log_from was is (seen ++ (i ∷ [])) (next ts i) (took_more q i))

@@ -29,7 +29,8 @@ pub fn remove_checked(
     head: LogHead,
 ) -> Answered
     requires listing { Listing table.old starts.old ends.old given.old lent.now indices.now }
-    requires indices_len_bound { length (removed_entries table.old ends.old given.old lent.now indices.now) ≤ capacity (numbers_of table.old) }
+    requires indices_len_bound { length (removed_entries table.old ends.old given.old lent.now indices.now)
+        ≤ capacity (numbers_of table.old) }
     requires indices_len_bound_2 { length (removed_entries table.old ends.old given.old lent.now indices.now) ≤ most_entries }
     requires head_value { head_within (length log.old / 7) head ≡ true }
     requires log_len_bound { length log.old < 18446744073709551616 }

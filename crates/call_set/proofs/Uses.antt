@@ -1,12 +1,13 @@
 -- `set_checked` and `set_single_lem`: from what the code found, wrote and changed to the contract.
-use Rattle.std.specs.Prelude.{◌/◌, ◌≤◌, ◌<◌, ◌≡◌}
 use Rattle.model.specs.Prelude.{ℕ, refl, sym, ap, subst, ◌∙◌, Bool, true, Option, none, some, List, length, get_or, set}
 use Rattle.model.specs.declared.Selection.TheVariants.{Part}
 use Rattle.model.specs.declared.{Extent.Extent, InvalidUse.InvalidUse, LogHead.LogHead, Selector.Selector, UsageFlags.UsageFlags}
 use Rattle.model.specs.{declared.{Refusal.Refusal, Answered.Answered}, Representation.{Ends, is_full}}
-use Rattle.model.specs.{WellFormed.{tracker_fits, well_formed_tracker}, Sets.{capacity, Head, Slot, Tracker, slot_at, empty_slot, with_tracker}}
-use Rattle.model.specs.{Refusals.single_refusal, Calls.{CallResult, done, unless, set_slot, log_slot, set_single, no_ends}, Log.pending}
+use Rattle.model.specs.WellFormed.{tracker_fits, well_formed_tracker}
+use Rattle.model.specs.{Sets.{capacity, Head, Slot, Tracker, slot_at, empty_slot, with_tracker}, Refusals.single_refusal}
+use Rattle.model.specs.{Calls.{CallResult, done, unless, set_slot, log_slot, set_single, no_ends}, Log.pending}
 use Rattle.model.specs.{Texture.{Held, Given, Entry, from_use, ranged}, BoolLaws.and_left}
+use Rattle.std.specs.Prelude.{◌/◌, ◌≤◌, ◌<◌, ◌≡◌}
 use Rattle.agreement.proofs.{LogRoom.entries_written, EachCall.set_single_room}
 use Rattle.set_storage.specs.{Lists.list_at, Storage.{numbers_of, flags_of, tracker_of, mask_at, textures_at, tracker_slot}}
 use Rattle.set_storage.specs.Stays.{Only, both_more}
@@ -24,7 +25,8 @@ module _ (t s e : List ℕ) (i : ℕ) (sh : Extent) (g : Given) where
   pub used : {h : LogHead} {l l' : List ℕ} {x : Answered} {t' s' e' : List ℕ} → BothReady t s e i sh
       → SlotSet (Only i) t s e i (set_slot ranged (flags_of t) sh g g (tracker_slot t s e i)) t' s' e'
       → (tracker_of t' s' e' ≡ used_tracker t s e i sh g
-      → Changed (tracker_of t s e) (tracker_of t' s' e') (Same t s e t' s' e') (used_entries t s e i sh g) (used_tracker t s e i sh g) h l x l')
+      → Changed (tracker_of t s e) (tracker_of t' s' e') (Same t s e t' s' e') (used_entries t s e i sh g)
+      (used_tracker t s e i sh g) h l x l')
       → Changes (Only i) (used_entries t s e i sh g) (used_tracker t s e i sh g) h t s e l x t' s' e' l'
   used x q c = record {
     change = c (tracker_view x.start.measured q);
@@ -76,12 +78,14 @@ module _ {t s e : List ℕ} {i : ℕ} {sh : Extent} {q : Selector} {st : ℕ} {f
       → Tracked (Only i) fits (set_single ranged (tracker_of t s e) i sh q st) h t s e l x t' s' e' l'
   single_done {x} {t'} {s'} {e'} {l'} g z w c =
       let n = z.is in
-      let m : set_single ranged (tracker_of t s e) i sh q st ≡ passing t s e i sh q st (flags_of t) (get_or t mask_at 0) (tracker_slot t s e i) =
+      let m : set_single ranged (tracker_of t s e) i sh q st
+      ≡ passing t s e i sh q st (flags_of t) (get_or t mask_at 0) (tracker_slot t s e i) =
       call_is t s e i sh q st none n ∙ read_here t s e i sh q st (texture_passed t i sh (use_passed t i sh (Part q) st n).0).texture in
       let d : Changes (Only i) (used_entries t s e i sh (from_use sh (some q) st)) (used_tracker t s e i sh (from_use sh (some q) st)) h t
       s e l x t' s' e' l' = rw w c in
       subst (λ (y : CallResult InvalidUse (List Entry) (Tracker Held)). Tracked (Only i) fits y h t s e l x t' s' e' l') (sym m)
-      (changes_tracked f k refl (rw (slot_pending (flags_of t) (get_or t mask_at 0) sh (from_use sh (some q) st) i (tracker_slot t s e i)) d))
+      (changes_tracked f k refl
+      (rw (slot_pending (flags_of t) (get_or t mask_at 0) sh (from_use sh (some q) st) i (tracker_slot t s e i)) d))
 
 -- no more entries than the tracker has subresources
 pub single_few : (t s e : List ℕ) {i : ℕ} {sh : Extent} {q : Selector} {st : ℕ} (room : ℕ) (room₂ : ℕ)
@@ -91,7 +95,8 @@ pub single_few : (t s e : List ℕ) {i : ℕ} {sh : Extent} {q : Selector} {st :
 unfolding tracker_of
 single_few t s e {i} {sh} {q} {st} room room₂ f b z g w =
     let n = z.is in
-    let m : set_single ranged (tracker_of t s e) i sh q st ≡ passing t s e i sh q st (flags_of t) (get_or t mask_at 0) (tracker_slot t s e i) =
+    let m : set_single ranged (tracker_of t s e) i sh q st
+    ≡ passing t s e i sh q st (flags_of t) (get_or t mask_at 0) (tracker_slot t s e i) =
     call_is t s e i sh q st none n ∙ read_here t s e i sh q st (texture_passed t i sh (use_passed t i sh (Part q) st n).0).texture in
     let d = set_single_room (tracker_of t s e) (and_left (tracker_fits (tracker_of t s e)) _ (and_left _ _ f)) i sh q st b in
     let k : length (pending (set_single ranged (tracker_of t s e) i sh q st).log) ≤ capacity (numbers_of t) =

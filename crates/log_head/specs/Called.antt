@@ -1,13 +1,13 @@
 -- THE CONTRACT of a call that logs, over any view X of the sets that it is lent; and what it is check by check.
-use Rattle.std.specs.Prelude.{◌+◌, ◌*◌, ◌/◌, ◌≤◌, ◌<◌, ◌≡◌}
 use Rattle.model.specs.Prelude.{ℕ, arith, refl, sym, ap, ◌∙◌, Bool, true, false, false≢true, List, length}
 use Rattle.model.specs.declared.Refusal.TheVariants.{NotWellFormed, LogTooShort, NoFreeEntry}
 use Rattle.model.specs.declared.{Answered.Answered, InvalidUse.InvalidUse, LogHead.LogHead, PendingTransition.PendingTransition}
-use Rattle.model.specs.{declared.Refusal.Refusal, Calls.{done, CallResult}, Log.{Logged, is_refused, added, pending, logging}, Texture.Entry}
-use Rattle.model.specs.BoolLaws.{by_lt}
+use Rattle.model.specs.{declared.Refusal.Refusal, Calls.{done, CallResult}, Log.{Logged, is_refused, added, pending, logging}}
+use Rattle.model.specs.{Texture.Entry, BoolLaws.by_lt}
+use Rattle.std.specs.Prelude.{◌+◌, ◌*◌, ◌/◌, ◌≤◌, ◌<◌, ◌≡◌}
 use Rattle.texture_barrier.specs.{Entries.Added, Adds.{Adds, adds_added}}
-use Rattle.log_head.specs.Log.{log_of, Logs, head_within, refused_with, moved_on, head_le, lent_is, staying, unfit, too_short}
-use Rattle.log_head.specs.Log.{own_refusal, too_few, logged_on, log_stays, log_moves}
+use Rattle.log_head.specs.Log.{log_of, Logs, head_within, refused_with, moved_on, head_le, lent_is, staying, unfit, too_short, own_refusal}
+use Rattle.log_head.specs.Log.{too_few, logged_on, log_stays, log_moves}
 use Rattle.model.specs.Calls as calls
 
 -- `fits` says whether every set that was handed in is well formed, m is the model's call, and `same` says that every number of the sets
@@ -30,7 +30,8 @@ pub record Changed {X : Type 0} (before after : X) (same : Type 0) (new : List P
 -- ---- Refused before any change
 module _ {X : Type 0} {was : X} {same : Type 0} {fits : Bool} {m : CallResult InvalidUse (List Entry) X}
     {h : LogHead} {l : List ℕ} (s : same) where
-  away : (r : Refusal) → logging fits (log_of l h) was m ≡ staying (log_of l h) was m r → Called was was same fits m h l (refused_with r h) l
+  away : (r : Refusal) → logging fits (log_of l h) was m ≡ staying (log_of l h) was m r
+      → Called was was same fits m h l (refused_with r h) l
   away r z = record { log = log_stays was r z; view = ap (λ (y : Logged X). y.after) (sym z); kept = λ k. (s, refl) }
 
   -- 4

@@ -1,8 +1,7 @@
 -- The closed form of a merge of two logs that ascend: how many entries of each are merged, and so what is left of each.
+use Rattle.model.specs.Prelude.{ℕ, suc, arith, refl, ap, ◌∙◌, Bool, true, false, List, [], ltb, length, drop, length-drop, lt-ltb, le-ltb}
+use Rattle.model.specs.declared.{PendingTransition.PendingTransition}
 use Rattle.std.specs.Prelude.{◌+◌, ◌≤◌, ◌<◌, ◌≡◌, ◌∷◌, if◌then◌else◌}
-use Rattle.model.specs.Prelude.{ℕ, suc, arith, refl, ap, ◌∙◌, Bool, true, false, List, [], ltb, length, drop}
-use Rattle.model.specs.Prelude.{length-drop, lt-ltb, le-ltb}
-use Rattle.model.specs.{declared.PendingTransition.PendingTransition}
 use Rattle.log_merge.specs.Merge.{index_of, Merge, put, merge, rises_from, ascending, below, last_of, first_count, second_count}
 use Rattle.log_merge.specs.MergeLaws.{merge_ind, rises_tail, rises_own, last_from, below_none, below_more, below_few}
 
@@ -22,7 +21,8 @@ left_right a s b [] m h q x y d e =
     rw z (rw n i.0, i.1)
 left_right a s b (b₂ ∷ t) m h q x y d e =
     let l = last_from x a s d in
-    go (ltb (last_of b₂ t) (last_of a s)) (below_more (last_of a s) b (b₂ ∷ t) (omega arith)) (q x (index_of b) d (rises_tail y b (b₂ ∷ t) e))
+    go (ltb (last_of b₂ t) (last_of a s)) (below_more (last_of a s) b (b₂ ∷ t) (omega arith))
+    (q x (index_of b) d (rises_tail y b (b₂ ∷ t) e))
   where
     go : (v : Bool) → below (last_of a s) (b ∷ (b₂ ∷ t)) ≡ suc (below (last_of a s) (b₂ ∷ t))
         → (m.first ≡ drop (if v then below (last_of b₂ t + 1) (a ∷ s) else length (a ∷ s)) (a ∷ s))

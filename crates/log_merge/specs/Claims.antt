@@ -1,10 +1,9 @@
 -- WHAT HOLDS of a merge: each claim is a statement with its name, of any two logs unless it says that they ascend.
-use Rattle.std.specs.Prelude.{◌≡◌, ◌∷◌, ◌++◌, ◌⊎◌}
 use Rattle.model.specs.Prelude.{ℕ, arith, refl, true, List, [], append-nil, inl, inr}
 use Rattle.model.specs.declared.{PendingTransition.PendingTransition}
+use Rattle.std.specs.Prelude.{◌≡◌, ◌∷◌, ◌++◌, ◌⊎◌}
 use Rattle.log_merge.specs.Merge.{index_of, merge, all_of, rises_from, ascending}
-use Rattle.log_merge.specs.MergeLaws.{merge_ind, rises_head, rises_tail, rises_cons}
-use Rattle.log_merge.specs.Stable.{of_index, stable_is}
+use Rattle.log_merge.specs.{MergeLaws.{merge_ind, rises_head, rises_tail, rises_cons}, Stable.{of_index, stable_is}}
 use mathlib.Core.List.Permᴰ
 use mathlib.Core.List.{Permᴰ}
 use mathlib.Core.List.Sublistᴰ
@@ -52,7 +51,8 @@ stays_ascending s t d e =
     rises_cons x b (all_of m) (rises_head x b t e)
     (q (index_of b) (rises_cons (index_of b) a s (omega arith) (rises_tail x a s d)) (rises_tail x b t e)))
     (λ a s b t m h q x d e.
-    rises_cons x a (all_of m) (rises_head x a s d) (q (index_of a) (rises_tail x a s d) (rises_cons (index_of a) b t h (rises_tail x b t e))))
+    rises_cons x a (all_of m) (rises_head x a s d)
+    (q (index_of a) (rises_tail x a s d) (rises_cons (index_of a) b t h (rises_tail x b t e))))
     s t 0 d e
 
 -- "the first recorder's entry going first on equal index": of each index the first's entries and then the second's, where the first ascends

@@ -1,8 +1,8 @@
 -- Laws of `merge`: induction along a merge, its steps, ascending entries, and how many are below an index.
-use Rattle.std.specs.Prelude.{◌≤◌, ◌<◌, ◌≡◌, ◌∷◌, if◌then◌else◌}
-use Rattle.model.specs.Prelude.{ℕ, suc, arith, refl, Bool, true, false, List, [], ltb, length, lt-ltb, le-ltb, ltb-true}
-use Rattle.model.specs.Prelude.{ltb-false, false≢true}
+use Rattle.model.specs.Prelude.{ℕ, suc, arith, refl, Bool, true, false, List, [], ltb, length, lt-ltb, le-ltb, ltb-true, ltb-false}
+use Rattle.model.specs.Prelude.{false≢true}
 use Rattle.model.specs.{declared.PendingTransition.PendingTransition, BoolLaws.by_test}
+use Rattle.std.specs.Prelude.{◌≤◌, ◌<◌, ◌≡◌, ◌∷◌, if◌then◌else◌}
 use Rattle.log_merge.specs.Merge.{index_of, Merge, put, ahead, merge, rises_from, one, below, last_of}
 
 -- ---- Induction along a merge
@@ -58,7 +58,8 @@ pub rises_head : (x : ℕ) (a : PendingTransition) (s : List PendingTransition) 
 unfolding rises_from
 rises_head x a s e = ltb-false (index_of a) x (not_then (ltb (index_of a) x) (rises_from (index_of a) s) e).0
 
-pub rises_tail : (x : ℕ) (a : PendingTransition) (s : List PendingTransition) → rises_from x (a ∷ s) ≡ true → rises_from (index_of a) s ≡ true
+pub rises_tail : (x : ℕ) (a : PendingTransition) (s : List PendingTransition) → rises_from x (a ∷ s) ≡ true
+    → rises_from (index_of a) s ≡ true
 unfolding rises_from
 rises_tail x a s e = (not_then (ltb (index_of a) x) (rises_from (index_of a) s) e).1
 

@@ -1,10 +1,9 @@
 -- Merges that are computed: a table to look at. An entry is told by its index and by whose it is.
-use Rattle.std.specs.Prelude.{◌≡◌, ◌∷◌}
 use Rattle.model.specs.Prelude.{ℕ, refl, true, false, []}
 use Rattle.model.specs.{declared.PendingTransition.PendingTransition, Refusals.tracker_index, Representation.select}
+use Rattle.std.specs.Prelude.{◌≡◌, ◌∷◌}
 use Rattle.texture_barrier.specs.Entries.{read, entries_of}
-use Rattle.log_merge.specs.Merge.{merge, ahead, rises_from, below, last_of, first_count, second_count}
-use Rattle.log_merge.specs.Calls.{rest_at, in_order}
+use Rattle.log_merge.specs.{Merge.{merge, ahead, rises_from, below, last_of, first_count, second_count}, Calls.{rest_at, in_order}}
 
 -- an entry of the first recorder with index i, and one of the second
 abbrev one : ℕ → PendingTransition
@@ -26,7 +25,8 @@ unfolding merge ahead
 equal_ends = refl
 
 -- by the closed form: two of the first and one of the second
-pub equal_counts : (first_count (one 1 ∷ one 2 ∷ []) (two 1 ∷ two 2 ∷ []) ≡ 2) × (second_count (one 1 ∷ one 2 ∷ []) (two 1 ∷ two 2 ∷ []) ≡ 1)
+pub equal_counts : (first_count (one 1 ∷ one 2 ∷ []) (two 1 ∷ two 2 ∷ []) ≡ 2)
+    × (second_count (one 1 ∷ one 2 ∷ []) (two 1 ∷ two 2 ∷ []) ≡ 1)
 unfolding first_count second_count below last_of
 equal_counts = (refl, refl)
 

@@ -1,8 +1,7 @@
 -- The entries of one index, in their order: a merge has the first log's before the second's.
+use Rattle.model.specs.Prelude.{ℕ, arith, refl, sym, ap, ◌∙◌, Bool, true, false, List, [], append-nil, eqb, ne_eqb, eqb-true}
+use Rattle.model.specs.declared.{PendingTransition.PendingTransition}
 use Rattle.std.specs.Prelude.{◌≤◌, ◌<◌, ◌≡◌, ◌∷◌, ◌++◌, if◌then◌else◌}
-use Rattle.model.specs.Prelude.{ℕ, arith, refl, sym, ap, ◌∙◌, Bool, true, false, List, [], append-nil, eqb}
-use Rattle.model.specs.Prelude.{ne_eqb, eqb-true}
-use Rattle.model.specs.{declared.PendingTransition.PendingTransition}
 use Rattle.log_merge.specs.Merge.{index_of, Merge, put, merge, all_of, rises_from}
 use Rattle.log_merge.specs.MergeLaws.{merge_ind, rises_head, rises_tail, rises_own}
 
@@ -29,7 +28,8 @@ unfolding of_index
 stable_right k a s b t m h q x d = go (eqb (index_of b) k) refl (q x d)
   where
     go : (v : Bool) → eqb (index_of b) k ≡ v → of_index k (all_of m) ≡ of_index k (a ∷ s) ++ of_index k t
-        → (if v then b ∷ of_index k (all_of m) else of_index k (all_of m)) ≡ of_index k (a ∷ s) ++ (if v then b ∷ of_index k t else of_index k t)
+        → (if v then b ∷ of_index k (all_of m) else of_index k (all_of m)) ≡ of_index k (a ∷ s)
+        ++ (if v then b ∷ of_index k t else of_index k t)
     go true e i =
         let g = eqb-true (index_of b) k e in
         let z : of_index k (a ∷ s) ≡ [] = none_of k (index_of a) (a ∷ s) (omega arith) (rises_own x a s d) in
@@ -43,7 +43,8 @@ unfolding of_index
 stable_left k a s b t m h q x d = go (eqb (index_of a) k) (q (index_of a) (rises_tail x a s d))
   where
     go : (v : Bool) → of_index k (all_of m) ≡ of_index k s ++ of_index k (b ∷ t)
-        → (if v then a ∷ of_index k (all_of m) else of_index k (all_of m)) ≡ (if v then a ∷ of_index k s else of_index k s) ++ of_index k (b ∷ t)
+        → (if v then a ∷ of_index k (all_of m) else of_index k (all_of m))
+        ≡ (if v then a ∷ of_index k s else of_index k s) ++ of_index k (b ∷ t)
     go true i = ap (λ (l : List PendingTransition). a ∷ l) i
     go false i = i
 

@@ -8,9 +8,9 @@
 //     calls    `merge_at`, by value; `rest_of`, the part of a log that an answer tells; `hand_over`, that part and the number of the
 //              outcome; `merge_logs`, all in one call
 //
-// What holds: specs/Merge is the definition, specs/Claims what is proved of it, and specs/Calls the contracts. Nothing is required of a
-// caller. Whether there is room (15) is known before anything is written, by the closed form of how many entries are merged; so a refusal
-// leaves everything as it was.
+// What holds: specs/Merge is the definition, specs/Claims, proofs/ClosedForm and proofs/RestClaims what is proved of it, and specs/Calls
+// the contracts. Nothing is required of a caller. Whether there is room (15) is known before anything is written, by the closed form of how
+// many entries are merged; so a refusal leaves everything as it was.
 #![tactic(auto)]
 
 pub mod calls;

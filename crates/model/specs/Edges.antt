@@ -1,18 +1,18 @@
 -- 01's table of refusals, every number at its edge with its place, and which of two applies first: one theorem a kind of call, by
 -- computation. What the two representations share (the table, the calls' frame) is tested by nothing else but this page and the runs
 -- against the Rust.
-use Rattle.std.specs.Prelude.{◌≡◌, ◌∷◌}
 use Rattle.model.specs.Prelude.{ℕ, refl, true, Option, none, some, List, [], map, get_or, replicate, set}
 use Rattle.model.specs.declared.{Extent.Extent, Selector.Selector, InvalidUse.InvalidUse, PendingTransition.PendingTransition}
 use Rattle.model.specs.{declared.Refusal.Refusal, Flags.incompatible, Representation.{select, full}}
 use Rattle.model.specs.Sets.{Opening, Tracker, with_tracker, open_tracker}
 use Rattle.model.specs.Refusals.{number_of, place_of, first_failing, opening_refusal, tracker_index}
 use Rattle.model.specs.Calls.{Answer, done, refused, in_conflict, Call, call_merge_single, call_merge_usage_scope, call_set_single}
-use Rattle.model.specs.{Calls.{call_set_from_usage_scope, call_set_and_remove_sparse, Sets, step, newly, set_single}, StateRules.invalid_state}
-use Rattle.model.specs.RangedStates.{range, isolate, coalesce, iter_filter}
+use Rattle.model.specs.Calls.{call_set_from_usage_scope, call_set_and_remove_sparse, Sets, step, newly, set_single}
+use Rattle.model.specs.{StateRules.invalid_state, RangedStates.{range, isolate, coalesce, iter_filter}}
 use Rattle.model.specs.RangeCalls.{isolate_refusal, isolated, coalesce_refusal, coalesced, filter_refusal, filtered}
 use Rattle.model.specs.Texture.{Held, single, many, ranged, insert, merge, barrier, update}
 use Rattle.model.specs.{WellFormed.{tracker_fits, well_formed_tracker}, Log.{Log, logging, emptying}}
+use Rattle.std.specs.Prelude.{◌≡◌, ◌∷◌}
 
 -- ---- A verdict: 01's number and place, or none
 data Verdict : Type 0 where
@@ -120,7 +120,8 @@ calls : (
     -- 7: the index is not below N
     after [] (used 0 3 8) ∷ after [] (used 0 4 8)
     -- 8: mips are not 1 to M, or layers not 1 to W
-    ∷ after [] (call_merge_single 0 (tracker_index 1) (extent 3 4) none 8) ∷ after [] (call_merge_single 0 (tracker_index 1) (extent 2 0) none 8)
+    ∷ after [] (call_merge_single 0 (tracker_index 1) (extent 3 4) none 8)
+    ∷ after [] (call_merge_single 0 (tracker_index 1) (extent 2 0) none 8)
     -- 9: the index is owned with another extent
     ∷ after (used 0 1 8 ∷ []) (call_merge_single 0 (tracker_index 1) (extent 1 4) none 8)
     -- 16, 17: mips 0..1 pass, 1..1 have no length, 1..0 are reversed

@@ -1,16 +1,14 @@
 -- The reader's functions: an item written, where a field ends, what is answered of a use, of a field and of a run.
-use Rattle.std.specs.Prelude.{◌+◌, ◌*◌, ◌-◌, ◌/◌, ◌<◌, ◌≤◌, ◌≡◌, ◌∷◌, ◌++◌, if◌then◌else◌}
-use Rattle.model.specs.Prelude.{ℕ, refl, ap, sym, subst, ◌∙◌, Bool, true, false, List, []}
-use Rattle.model.specs.Prelude.{append_assoc, add-one, arith, length, take, drop, set, length-take, length-drop, length-set}
-use Rattle.model.specs.Prelude.{drop_of_length-le, take_all, take-suc-set, drop-set-lt, drop-drop, ltb, lt-ltb, le-ltb, eq-eqb, ne_eqb}
-use Rattle.model.specs.Prelude.{ltb-false}
+use Rattle.model.specs.Prelude.{ℕ, refl, ap, sym, subst, ◌∙◌, Bool, true, false, List, [], append_assoc, add-one, arith, length, take, drop}
+use Rattle.model.specs.Prelude.{set, length-take, length-drop, length-set, drop_of_length-le, take_all, take-suc-set, drop-set-lt}
+use Rattle.model.specs.Prelude.{drop-drop, ltb, lt-ltb, le-ltb, eq-eqb, ne_eqb, ltb-false}
 use Rattle.model.specs.declared.{Refusal.Refusal, Verdict.Verdict}
-use Rattle.model.specs.{declared.Refusal.TheVariants.{FieldCutShort, UnknownTag, UseOfWrongSize, GroupsTooDeep}}
+use Rattle.model.specs.declared.Refusal.TheVariants.{FieldCutShort, UnknownTag, UseOfWrongSize, GroupsTooDeep}
+use Rattle.std.specs.Prelude.{◌+◌, ◌*◌, ◌-◌, ◌/◌, ◌<◌, ◌≤◌, ◌≡◌, ◌∷◌, ◌++◌, if◌then◌else◌}
 use Rattle.plan_file.specs.declared.reader.Step.{Step}
 use Rattle.plan_file.specs.Plan.{opened, closed, no, tag_of, length_of, size_of, content, cut_short, after, field, fields, run, item}
-use Rattle.plan_file.specs.Reading.{end_of, put_item, put_all, Came, UseRead, FieldRead, GroupRead, turned_away, taken}
+use Rattle.plan_file.specs.{Reading.{end_of, put_item, put_all, Came, UseRead, FieldRead, GroupRead, turned_away, taken}, Copies.copied}
 use Rattle.plan_file.proofs.ReadingLaws.{unlike, came_after, came_stop, came_around, around_stop, run_step, field_cut, field_use}
-use Rattle.plan_file.specs.Copies.{copied}
 use Rattle.plan_file.proofs.ReadingLaws.{field_unknown, field_deep, field_group}
 use borrow.Rule.Slice.PartMut.{mid_of, put_mid}
 
@@ -118,7 +116,8 @@ module _ {p : List ℕ} {k : ℕ} {l m : List ℕ} {x : Step} where
 
 -- ---- What the field reader answers
 module _ {s : List ℕ} {d k : ℕ} {l m : List ℕ} {x : Step} where
-  away : {r : Refusal} → Came (field (run (d - 1) (content s)) d s) k l (Verdict.Refused r) k m → x ≡ turned_away r k → FieldRead s d k l x m
+  away : {r : Refusal} → Came (field (run (d - 1) (content s)) d s) k l (Verdict.Refused r) k m
+      → x ≡ turned_away r k → FieldRead s d k l x m
   away {r} w g =
       let told : FieldRead s d k l (turned_away r k) m =
       record { came = w; size = λ z. absurd (unlike (sym z)); within = omega arith; few = omega arith } in rw g told

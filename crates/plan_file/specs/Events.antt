@@ -1,6 +1,6 @@
 -- The events of items, one after another: n - i of them from the i-th on, up to the n-th.
-use Rattle.std.specs.Prelude.{◌+◌, ◌*◌, ◌-◌, ◌<◌, ◌≤◌, ◌≡◌, ◌∷◌}
 use Rattle.model.specs.Prelude.{ℕ, suc, ap, ◌∙◌, List, [], take, drop, get_or, add-one, arith}
+use Rattle.std.specs.Prelude.{◌+◌, ◌*◌, ◌-◌, ◌<◌, ◌≤◌, ◌≡◌, ◌∷◌}
 use Rattle.plan_file.specs.Write.{event_at, events_from}
 
 pub next_event : (l : List ℕ) (n i : ℕ) → i < n → events_from l (n - i) i ≡ event_at l i ∷ events_from l (n - suc i) (suc i)
@@ -12,7 +12,8 @@ pub following : (l : List ℕ) (n i : ℕ) → i < n → events_from l (n - i) i
 following l n i h = rw (add-one i) (next_event l n i h)
 
 -- and as it counts back
-pub events_back : (l : List ℕ) (n i : ℕ) → 0 < i → i ≤ n → events_from l (n - (i - 1)) (i - 1) ≡ event_at l (i - 1) ∷ events_from l (n - i) i
+pub events_back : (l : List ℕ) (n i : ℕ) → 0 < i → i ≤ n
+    → events_from l (n - (i - 1)) (i - 1) ≡ event_at l (i - 1) ∷ events_from l (n - i) i
 events_back l n i h g =
     let a : suc (i - 1) ≡ i = omega arith in
     next_event l n (i - 1) (omega arith) ∙ ap (λ (j : ℕ). event_at l (i - 1) ∷ events_from l (n - j) j) a

@@ -1,9 +1,8 @@
 -- The writer's definitions: levels and depths, the bytes of each level and where it ends, and what an accepted list is.
-use Rattle.std.specs.Prelude.{◌+◌, ◌-◌, ◌<◌, ◌≤◌, ◌≡◌, ◌∷◌, ◌++◌, if◌then◌else◌}
-use Rattle.model.specs.Prelude.{ℕ, zero, suc, refl, ap, subst, ◌∙◌, List, [], append_assoc, append-nil}
-use Rattle.model.specs.Prelude.{arith, length, get_or, set, length-append, get_or-set_same, get_or-set_other, ltb, eqb, ne_eqb, ltb-false, Bool}
-use Rattle.model.specs.Prelude.{true, false, eqb-true}
+use Rattle.model.specs.Prelude.{ℕ, zero, suc, refl, ap, subst, ◌∙◌, List, [], append_assoc, append-nil, arith, length, get_or, set}
+use Rattle.model.specs.Prelude.{length-append, get_or-set_same, get_or-set_other, ltb, eqb, ne_eqb, ltb-false, Bool, true, false, eqb-true}
 use Rattle.model.specs.{declared.Refusal.Refusal, declared.Refusal.TheVariants.{GroupsTooDeep, PlanUnbalanced, GroupTooLong}}
+use Rattle.std.specs.Prelude.{◌+◌, ◌-◌, ◌<◌, ◌≤◌, ◌≡◌, ◌∷◌, ◌++◌, if◌then◌else◌}
 use Rattle.plan_file.specs.Plan.{Event, opened, used, closed, other}
 use Rattle.plan_file.specs.Write.{level_at, levels, deepest, head, on_top, push, shut, written, top, widest, wrote, not, write_plan}
 

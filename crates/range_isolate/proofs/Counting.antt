@@ -1,9 +1,8 @@
 -- How many ranges `isolate` will leave, counted on unchanged storage.
-use Rattle.std.specs.Prelude.{◌+◌, ◌*◌, ◌-◌, ◌≤◌, ◌<◌, ◌≡◌, ◌∷◌, if◌then◌else◌}
-use Rattle.model.specs.Prelude.{ℕ, suc, max, le_of_lt, arith, refl, ap, ◌∙◌, Bool, true, false, List, []}
-use Rattle.model.specs.Prelude.{ltb, length, get_or, drop, length-drop, slice_empty, length-take-le, lt-ltb, le-ltb, le-leb, lt-leb, ltb-true}
-use Rattle.model.specs.Prelude.{ltb-false}
+use Rattle.model.specs.Prelude.{ℕ, suc, max, le_of_lt, arith, refl, ap, ◌∙◌, Bool, true, false, List, [], ltb, length, get_or, drop}
+use Rattle.model.specs.Prelude.{length-drop, slice_empty, length-take-le, lt-ltb, le-ltb, le-leb, lt-leb, ltb-true, ltb-false}
 use Rattle.model.specs.{declared.Range.Range, RangedStates.{range, list_of, isolate_from, isolate}}
+use Rattle.std.specs.Prelude.{◌+◌, ◌*◌, ◌-◌, ◌≤◌, ◌<◌, ◌≡◌, ◌∷◌, if◌then◌else◌}
 use Rattle.range_states.specs.View.{view, decode, blank, view_long}
 use Rattle.range_isolate.specs.Isolation.{all_of, gap_count, cut_count, cut_first, lead_count, added_by, Found, Leading, Added}
 use Rattle.range_isolate.proofs.{Covering.{by_order, long_before, long_last, long_more}, Isolating.isolate_long}

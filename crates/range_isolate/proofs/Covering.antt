@@ -1,10 +1,9 @@
 -- The steps of `cover`, over plain lists: what each arm of the Rust's loop does is what `isolate_from` says.
-use Rattle.std.specs.Prelude.{◌+◌, ◌*◌, ◌-◌, ◌≤◌, ◌<◌, ◌≡◌, ◌∷◌, ◌++◌, if◌then◌else◌}
-use Rattle.model.specs.Prelude.{ℕ, suc, max, add-zero, le_of_lt, arith, refl, sym, ap, ◌∙◌, Bool, true, false}
-use Rattle.model.specs.Prelude.{List, [], append_assoc, leb, ltb, eqb, length, get_or, drop, length-append, length-drop, take_at}
-use Rattle.model.specs.Prelude.{drop_at, slice_empty, length-take-le, get_or-take, get_or_at, lt-ltb, le-ltb, le-leb, lt-leb, eq-eqb, ne_eqb}
-use Rattle.model.specs.Prelude.{leb-true, leb-false, ltb-false}
+use Rattle.model.specs.Prelude.{ℕ, suc, max, add-zero, le_of_lt, arith, refl, sym, ap, ◌∙◌, Bool, true, false, List, [], append_assoc, leb}
+use Rattle.model.specs.Prelude.{ltb, eqb, length, get_or, drop, length-append, length-drop, take_at, drop_at, slice_empty, length-take-le}
+use Rattle.model.specs.Prelude.{get_or-take, get_or_at, lt-ltb, le-ltb, le-leb, lt-leb, eq-eqb, ne_eqb, leb-true, leb-false, ltb-false}
 use Rattle.model.specs.{declared.Range.Range, RangedStates.{range, Rest, rest, with_run, isolate_from}}
+use Rattle.std.specs.Prelude.{◌+◌, ◌*◌, ◌-◌, ◌≤◌, ◌<◌, ◌≡◌, ◌∷◌, ◌++◌, if◌then◌else◌}
 use Rattle.range_isolate.specs.declared.isolation.Placed.{Placed}
 use Rattle.range_isolate.specs.Isolation.{all_of, gap_before, gap_count, last_of, cut_count, Gapped, EndCut, CoverRoom, Covered}
 use Rattle.range_states.specs.View.{view, decode, blank, Put, Becomes, view_long, becomes_none, becomes_live, becomes_then}

@@ -1,12 +1,11 @@
 -- The loop of `coalesce`, over plain lists: at its head the first w records are made, and those from w on are as they came.
-use Rattle.std.specs.Prelude.{◌+◌, ◌*◌, ◌-◌, ◌≤◌, ◌<◌, ◌≡◌, ◌∷◌, ◌++◌}
-use Rattle.model.specs.Prelude.{ℕ, suc, add-one, arith, refl, sym, ap, ◌∙◌, Bool, true, false, List, []}
-use Rattle.model.specs.Prelude.{append_assoc, append-nil, length, get_or, take, drop, replicate, length-set, set-get_or, take-suc}
-use Rattle.model.specs.Prelude.{drop-set-lt, take-suc-set, slice-cons, slice_empty, length-take-le}
+use Rattle.model.specs.Prelude.{ℕ, suc, add-one, arith, refl, sym, ap, ◌∙◌, Bool, true, false, List, [], append_assoc, append-nil, length}
+use Rattle.model.specs.Prelude.{get_or, take, drop, replicate, length-set, set-get_or, take-suc, drop-set-lt, take-suc-set, slice-cons}
+use Rattle.model.specs.Prelude.{slice_empty, length-take-le}
 use Rattle.model.specs.{declared.Range.Range, RangedStates.{range, joins, coalesce_from, coalesce}}
+use Rattle.std.specs.Prelude.{◌+◌, ◌*◌, ◌-◌, ◌≤◌, ◌<◌, ◌≡◌, ◌∷◌, ◌++◌}
 use Rattle.range_states.proofs.Agree.{agree_drop, agree_at}
-use Rattle.range_states.specs.View.{view, spare, decode, blank, Put, Becomes, view_long, becomes_none}
-use Rattle.range_states.specs.Coalescing.{Apart, Coalesced}
+use Rattle.range_states.specs.{View.{view, spare, decode, blank, Put, Becomes, view_long, becomes_none}, Coalescing.{Apart, Coalesced}}
 
 -- ---- `coalesce_from`, by what `joins` says
 pub joins_yes : (cur next : Range) (l : List Range) → joins cur next ≡ true
@@ -88,7 +87,8 @@ pub record Reading (s : List ℕ) (len i : ℕ) (cur : Range) : Type 0 where
   pub here : cur ≡ get_or (view s) (i - 1) blank
   pub so_far : Joining s len s (i - 1) i cur
 
-pub reading_start : {s : List ℕ} {len : ℕ} {cur : Range} → 3 * len ≤ length s → 0 < len → cur ≡ get_or (view s) 0 blank → Reading s len 1 cur
+pub reading_start : {s : List ℕ} {len : ℕ} {cur : Range} → 3 * len ≤ length s → 0 < len
+    → cur ≡ get_or (view s) 0 blank → Reading s len 1 cur
 reading_start room h e = record { here = e; so_far = start_of room (λ z. omega arith) e }
 
 pub reading_on : {s : List ℕ} {len i : ℕ} {cur next : Range} {b : Bool} → 3 * len ≤ length s → Reading s len i cur → i < len

@@ -1,9 +1,8 @@
 -- The loops of `filtered_count` and `iter_filter`: what is told or written, and what is left to look at.
-use Rattle.std.specs.Prelude.{◌+◌, ◌*◌, ◌≤◌, ◌<◌, ◌≡◌, ◌∷◌, ◌++◌}
-use Rattle.model.specs.Prelude.{ℕ, add-one, arith, refl, sym, ap, ◌∙◌, Bool, true, false, List, []}
-use Rattle.model.specs.Prelude.{append_assoc, append-nil, length, get_or, take, drop, take-append-drop, slice_empty, length-take-le}
-use Rattle.model.specs.Prelude.{take-suc-set, drop-set-lt}
+use Rattle.model.specs.Prelude.{ℕ, add-one, arith, refl, sym, ap, ◌∙◌, Bool, true, false, List, [], append_assoc, append-nil, length}
+use Rattle.model.specs.Prelude.{get_or, take, drop, take-append-drop, slice_empty, length-take-le, take-suc-set, drop-set-lt}
 use Rattle.model.specs.{declared.Range.Range, RangedStates.iter_filter}
+use Rattle.std.specs.Prelude.{◌+◌, ◌*◌, ◌≤◌, ◌<◌, ◌≡◌, ◌∷◌, ◌++◌}
 use Rattle.range_states.specs.{View.{view, spare, decode, blank, Put, view_long}, Filtering.{overlaps, clip, Counted, Filtered}}
 use Rattle.range_states.proofs.{Agree.agree_drop, Inserting.next_is}
 
@@ -61,7 +60,8 @@ pub record Writing (l : List ℕ) (len a e : ℕ) (m₀ m : List ℕ) (w k : ℕ
   pub rest : spare m ≡ spare m₀
   pub long : length m ≡ length m₀
 
-pub write_from : {l : List ℕ} {len a e : ℕ} {m : List ℕ} → 3 * length (iter_filter a e (decode len l)) ≤ length m → Writing l len a e m m 0 0
+pub write_from : {l : List ℕ} {len a e : ℕ} {m : List ℕ}
+    → 3 * length (iter_filter a e (decode len l)) ≤ length m → Writing l len a e m m 0 0
 write_from fits = record
     { high = omega arith; few = omega arith; fits = omega arith; made = refl; unwritten = refl; rest = refl; long = refl }
 

@@ -2,7 +2,7 @@
 // and plan files.
 //
 // Place in the picture: over all, a user of the public calls. The file `stdin` has the stored calls and `stdout` the answers, written by
-// the oracle, which runs the Rust itself; `rt check` runs this program and compares. `oracle/compare` hands it fresh calls. Lines, answers
+// the oracle, which runs the Rust itself; `rt ci` runs this program and compares. `oracle/compare` hands it fresh calls. Lines, answers
 // and storage: oracle/README.md. Crate `replay_lines` reads the lines and writes the answers; here the bytes come in, and `call` makes a
 // call: what it is lent, the call, and what it leaves.
 #![tactic(auto)]

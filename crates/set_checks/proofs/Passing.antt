@@ -1,9 +1,9 @@
 -- A set of which every index passes: no check of it fails.
-use Rattle.std.specs.Prelude.{◌+◌, ◌≤◌, ◌<◌, ◌≡◌, ◌&&◌}
-use Rattle.model.specs.Prelude.{ℕ, zero, suc, arith, refl, sym, ◌∙◌, Bool, true, false, not, Option, none, List}
-use Rattle.model.specs.Prelude.{eqb, get_or, lt-ltb}
+use Rattle.model.specs.Prelude.{ℕ, zero, suc, arith, refl, sym, ◌∙◌, Bool, true, false, not, Option, none, List, eqb, get_or, lt-ltb}
 use Rattle.model.specs.{declared.Verdict.TheVariants.Accepted, declared.{Extent.Extent, Refusal.Refusal}, Flags.same_flags}
-use Rattle.model.specs.{Refusals.{first_failing, same_extent, extent_outside, other_extent}, BoolLaws.{by_lt, nor as neither, and_both as both}}
+use Rattle.model.specs.Refusals.{first_failing, same_extent, extent_outside, other_extent}
+use Rattle.model.specs.BoolLaws.{by_lt, nor as neither, and_both as both}
+use Rattle.std.specs.Prelude.{◌+◌, ◌≤◌, ◌<◌, ◌≡◌, ◌&&◌}
 use Rattle.set_storage.specs.Storage.{numbers_of, flags_of, extent_of, owned_at, textures_at}
 use Rattle.set_checks.specs.{Head.{owned_extent, extent_at}, Sets.{first_of, owned_refusal, owned_passes, AllPass, SetTold, set_splits}}
 

@@ -1,12 +1,12 @@
 -- What the checks read of a table: the head of its view.
-use Rattle.std.specs.Prelude.{◌<◌, ◌≡◌, ◌++◌, if◌then◌else◌}
 use Rattle.model.specs.Prelude.{ℕ, zero, suc, refl, ap, ◌∙◌, Option, none, some, List, map, get_or}
 use Rattle.model.specs.declared.Selection.TheVariants.{Full, Part}
 use Rattle.model.specs.declared.{UsageFlags.UsageFlags, Extent.Extent, Refusal.Refusal, Selector.Selector, Selection.Selection}
 use Rattle.model.specs.{declared.Verdict.Verdict, Sets.{Head, own_extent, head_of}, CheckLaws.checks_append}
 use Rattle.model.specs.{Refusals.{first_failing, texture_checks, selector_checks, state_checks, single_refusal, refused_for}, Log.or_next}
-use Rattle.set_storage.specs.Storage.{numbers_of, flags_of, owned_of, extent_of, slot_with, set_with, scope_of, tracker_of, list_from, textures_at}
-use Rattle.set_storage.specs.Lists.{list_at}
+use Rattle.std.specs.Prelude.{◌<◌, ◌≡◌, ◌++◌, if◌then◌else◌}
+use Rattle.set_storage.specs.Storage.{numbers_of, flags_of, owned_of, extent_of, slot_with, set_with, scope_of, tracker_of, list_from}
+use Rattle.set_storage.specs.{Storage.textures_at, Lists.list_at}
 
 -- the extent of an index that is owned
 abbrev pub owned_extent : List ℕ → ℕ → Option Extent

@@ -1,13 +1,12 @@
 -- What checks that passed show: of a texture, a selector, a state, a use, a set and a list.
-use Rattle.std.specs.Prelude.{◌≤◌, ◌<◌, ◌≡◌, if◌then◌else◌}
-use Rattle.model.specs.Prelude.{ℕ, arith, refl, sym, Bool, true, false, Option, none, some, List, ltb, length, get_or}
-use Rattle.model.specs.Prelude.{ltb-true, not-false}
+use Rattle.model.specs.Prelude.{ℕ, arith, refl, sym, Bool, true, false, Option, none, some, List, ltb, length, get_or, ltb-true, not-false}
 use Rattle.model.specs.{declared.Refusal.TheVariants.FlagsDiffer, declared.Selection.TheVariants.Part}
 use Rattle.model.specs.declared.{Extent.Extent, Refusal.Refusal, Selector.Selector, Selection.Selection, UsageFlags.UsageFlags}
-use Rattle.model.specs.{Flags.same_flags, Sets.outside, Refusals.{same_extent, other_extent, set_refusal, sparse_refusal}}
-use Rattle.model.specs.{Log.or_next, BoolLaws.{by_lt, neither}}
+use Rattle.model.specs.{Flags.same_flags, Sets.outside, Refusals.{same_extent, other_extent, set_refusal, sparse_refusal}, Log.or_next}
+use Rattle.model.specs.BoolLaws.{by_lt, neither}
 use Rattle.model.specs.CheckLaws.{passed, first_passed, none_both, inside, same_extent_lem, same_flags_lem, SelectorWithin, selector_within}
 use Rattle.model.specs.CheckLaws.{StatePassed, state_shown}
+use Rattle.std.specs.Prelude.{◌≤◌, ◌<◌, ◌≡◌, if◌then◌else◌}
 use Rattle.set_storage.specs.Storage.{flags_of, owned_of, extent_of, layer_limit_at, mip_limit_at, textures_at}
 use Rattle.set_checks.specs.Head.{owned_extent, head_in, extent_at, texture_refusal, selector_refusal, state_refusal, use_refusal}
 use Rattle.set_checks.specs.Head.{use_splits}
@@ -32,7 +31,8 @@ pub record SetPassed (t g : List ℕ) : Type 0 where
 pub record SparsePassed (t g list : List ℕ) : Type 0 where
   pub flags : flags_of g ≡ flags_of t
   pub below : (k : ℕ) → k < length list → get_or list k 0 < get_or g textures_at 0
-  pub each : (k : ℕ) → k < length list → owned_of g (get_or list k 0) ≡ true → TexturePassed t (get_or list k 0) (extent_of g (get_or list k 0))
+  pub each : (k : ℕ) → k < length list → owned_of g (get_or list k 0) ≡ true
+      → TexturePassed t (get_or list k 0) (extent_of g (get_or list k 0))
 
 -- ---- 7, 8, 9
 pub texture_passed : (t : List ℕ) (i : ℕ) (sh : Extent) → texture_refusal t i sh ≡ none → TexturePassed t i sh

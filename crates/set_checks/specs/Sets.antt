@@ -1,12 +1,12 @@
 -- The checks over a set and over a list: the first refusal of many, and the contracts.
-use Rattle.std.specs.Prelude.{◌+◌, ◌≤◌, ◌<◌, ◌≡◌, ◌||◌, ◌∷◌, if◌then◌else◌}
-use Rattle.model.specs.Prelude.{ℕ, zero, suc, arith, refl, ap, ◌∙◌, Bool, true, false, not, Option, none, some}
-use Rattle.model.specs.Prelude.{List, [], eqb, length, get_or, lt-ltb, le-ltb}
+use Rattle.model.specs.Prelude.{ℕ, zero, suc, arith, refl, ap, ◌∙◌, Bool, true, false, not, Option, none, some, List, [], eqb, length}
+use Rattle.model.specs.Prelude.{get_or, lt-ltb, le-ltb}
 use Rattle.model.specs.{declared.Refusal.TheVariants.{FlagsDiffer, NoSuchIndex}, declared.{Refusal.Refusal, Verdict.Verdict}}
 use Rattle.model.specs.{Base.{each, each_at}, Flags.same_flags}
 use Rattle.model.specs.Refusals.{Check, first_failing, extent_outside, other_extent, flags_check, owned_checks, set_refusal, sparse_checks}
 use Rattle.model.specs.{Refusals.{sparse_refusal, tracker_index, refused_for}, Log.or_next, BoolLaws.by_lt}
 use Rattle.model.specs.CheckLaws.{checks_append, none_both}
+use Rattle.std.specs.Prelude.{◌+◌, ◌≤◌, ◌<◌, ◌≡◌, ◌||◌, ◌∷◌, if◌then◌else◌}
 use Rattle.set_storage.specs.Storage.{numbers_of, flags_of, extent_of, list_from, owned_at, textures_at}
 use Rattle.set_checks.specs.Head.{owned_extent, head_in, extent_at}
 
@@ -90,7 +90,8 @@ module _ (t g : List ℕ) where
       go false = refl
 
   -- a set's checks are those of one index after the other
-  owned_first : (k n : ℕ) → first_failing (each_at (owned_checks (head_in t)) k (list_from (owned_extent g) k n)) ≡ first_of (owned_refusal t g) k n
+  owned_first : (k n : ℕ)
+      → first_failing (each_at (owned_checks (head_in t)) k (list_from (owned_extent g) k n)) ≡ first_of (owned_refusal t g) k n
   unfolding first_failing list_from first_of owned_refusal
   owned_first k zero = refl
   owned_first k (suc n) =

@@ -1,9 +1,9 @@
 -- A use and a texture that passed the checks: the texture, owned or about to be, is ready for the use.
-use Rattle.std.specs.Prelude.{◌+◌, ◌≡◌}
 use Rattle.model.specs.Prelude.{ℕ, sym, ap, subst, ◌∙◌, Bool, true, false, and-eq-true_iff, List, bit_and, bit_or, get_or, ne_eqb}
 use Rattle.model.specs.Prelude.{not-false, eqb-true}
 use Rattle.model.specs.{declared.{UsageFlags.UsageFlags, Extent.Extent, Selector.Selector}, Flags.meets, Sets.Numbers}
 use Rattle.model.specs.{Representation.{is_full, full}, RangedStates.Tiles, CheckLaws.{SelectorWithin, StatePassed}}
+use Rattle.std.specs.Prelude.{◌+◌, ◌≡◌}
 use Rattle.set_storage.specs.{Storage.{numbers_of, flags_of, extent_of, owned_of, start_half, end_half, mip_of, owned_at}, Frames.Measured}
 use Rattle.set_storage.specs.Texture.{TextureReady, TextureHeld}
 use Rattle.texture_merge.specs.Uses.{UseReady, HeldReady}
@@ -51,7 +51,8 @@ pub word_owned : (t : List ℕ) (i : ℕ) → (get_or t (owned_at i) 0 ≡ 0 →
 word_owned t i own = rw (ne_eqb (get_or t (owned_at i) 0) 0 own)
 
 -- ---- A texture that passed the checks and has the extent already, in a set that passed the test
-module _ {h i : ℕ} {t r : List ℕ} {sh : Extent} (m : Measured (numbers_of t) h t r) (x : TexturePassed t i sh) (e : extent_of t i ≡ sh) where
+module _ {h i : ℕ} {t r : List ℕ} {sh : Extent} (m : Measured (numbers_of t) h t r) (x : TexturePassed t i sh)
+    (e : extent_of t i ≡ sh) where
   texture_ready : TextureReady (numbers_of t) h t r i sh
   texture_ready = record {
     measured = m;

@@ -1,10 +1,11 @@
 -- A texture that a given set holds, for the texture of another set at the same index: what is asked for, and what follows for the
 -- functions on one texture.
-use Rattle.std.specs.Prelude.{◌+◌, ◌<◌, ◌≡◌}
 use Rattle.model.specs.Prelude.{ℕ, refl, sym, ap, subst, ◌∙◌, true, List, get_or}
 use Rattle.model.specs.{declared.{UsageFlags.UsageFlags, Extent.Extent}, Texture.{Given, from_held}}
-use Rattle.set_storage.specs.Storage.{numbers_of, flags_of, extent_of, owned_of, start_half, end_half, held_of, complex_at, owned_at, textures_at}
-use Rattle.set_storage.specs.{Storage.table_indices, Stays.{Only, OnlyOwned}, Frames.Measured, Texture.{TextureReady, TextureHeld}}
+use Rattle.std.specs.Prelude.{◌+◌, ◌<◌, ◌≡◌}
+use Rattle.set_storage.specs.Storage.{numbers_of, flags_of, extent_of, owned_of, start_half, end_half, held_of, complex_at, owned_at}
+use Rattle.set_storage.specs.{Storage.{textures_at, table_indices}, Stays.{Only, OnlyOwned}, Frames.Measured}
+use Rattle.set_storage.specs.Texture.{TextureReady, TextureHeld}
 use Rattle.texture_merge.specs.FromSet.{GivenReady, SetReady, MergeReady}
 use Rattle.texture_update.specs.FromSet.{UpdateFromReady}
 use Rattle.agreement.specs.Fits.{ExtentFits}

@@ -1,12 +1,13 @@
 -- One half of a texture that passed the checks, in a set that passed the test: ready for the functions over it, and ready still while
 -- others change.
-use Rattle.std.specs.Prelude.{◌<◌, ◌≡◌}
 use Rattle.model.specs.Prelude.{ℕ, arith, refl, sym, ap, subst, ◌∙◌, true, List, length, get_or}
 use Rattle.model.specs.{declared.{UsageFlags.UsageFlags, Extent.Extent}, Sets.{Numbers, Slot}}
-use Rattle.set_storage.specs.Storage.{numbers_of, flags_of, owned_of, start_half, end_half, held_of, ends_of, slot_with, owned_at, scope_slot}
-use Rattle.set_storage.specs.Storage.{tracker_slot, complex_at, exclusive_at, head_length, layer_limit_at, mip_limit_at, textures_at}
-use Rattle.set_storage.specs.{Storage.{uninitialized_at, unknown_at}, Stays.{Only, keeps_refl, both_refl, ScopeFrame, TrackerFrame}}
-use Rattle.set_storage.specs.{Frames.Measured, Slots.{scope_head, tracker_head}, Texture.TextureHeld}
+use Rattle.std.specs.Prelude.{◌<◌, ◌≡◌}
+use Rattle.set_storage.specs.Storage.{numbers_of, flags_of, owned_of, start_half, end_half, held_of, ends_of, slot_with, owned_at}
+use Rattle.set_storage.specs.Storage.{scope_slot, tracker_slot, complex_at, exclusive_at, head_length, layer_limit_at, mip_limit_at}
+use Rattle.set_storage.specs.Storage.{textures_at, uninitialized_at, unknown_at}
+use Rattle.set_storage.specs.{Stays.{Only, keeps_refl, both_refl, ScopeFrame, TrackerFrame}, Frames.Measured}
+use Rattle.set_storage.specs.{Slots.{scope_head, tracker_head}, Texture.TextureHeld}
 use Rattle.set_checks.specs.Passed.{TexturePassed}
 use Rattle.agreement.specs.Fits.{HeldFits, EndsFit, SlotFits}
 use Rattle.set_ready.specs.{Tested.{HalfFits, half_fits, ScopeTested, TrackerTested}, Checked.{word_owned, texture_held}}

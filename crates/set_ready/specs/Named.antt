@@ -1,8 +1,8 @@
 -- What the frame of a call says of the numbers that no texture of the set uses, and of a texture that the call does not name.
-use Rattle.std.specs.Prelude.{◌≤◌, ◌<◌, ◌≡◌}
 use Rattle.model.specs.Prelude.{ℕ, arith, List, get_or}
-use Rattle.set_storage.specs.Storage.{numbers_of, start_half, end_half, table_indices, owned_at, mips_at, layers_at, state_at, count_at, ranges_at}
-use Rattle.set_storage.specs.Storage.{textures_at}
+use Rattle.std.specs.Prelude.{◌≤◌, ◌<◌, ◌≡◌}
+use Rattle.set_storage.specs.Storage.{numbers_of, start_half, end_half, table_indices, owned_at, mips_at, layers_at, state_at, count_at}
+use Rattle.set_storage.specs.Storage.{ranges_at, textures_at}
 use Rattle.set_storage.specs.Stays.{Stays, OffTracker, OffRanges, off_scope, past_ranges, owned_off, mips_off, layers_off, start_off}
 use Rattle.set_storage.specs.Stays.{end_off, start_count_off, end_count_off, ScopeFrame, TrackerFrame}
 
@@ -52,7 +52,8 @@ module _ {named : ℕ → Type 0} {t r t' r' : List ℕ} (f : ScopeFrame (Within
 
 -- ---- A call into a tracker
 module _ {named : ℕ → Type 0} {t s e t' s' e' : List ℕ} (f : TrackerFrame (Within t named) (numbers_of t) t s e t' s' e') where
-  pub tracker_room : (x : ℕ) → ranges_at (numbers_of t) (get_or t textures_at 0) ≤ x → (get_or s' x 0 ≡ get_or s x 0) × (get_or e' x 0 ≡ get_or e x 0)
+  pub tracker_room : (x : ℕ) → ranges_at (numbers_of t) (get_or t textures_at 0) ≤ x
+      → (get_or s' x 0 ≡ get_or s x 0) × (get_or e' x 0 ≡ get_or e x 0)
   tracker_room x q = (room_stays t f.starts x q, room_stays t f.ends x q)
 
   pub tracker_past : (j : ℕ) → get_or t textures_at 0 ≤ j → j < table_indices → WordsStay j t t'

@@ -1,10 +1,10 @@
 -- A texture that is owned, just now or before: what the functions on one texture ask for, how its slot reads after a change, and the view.
-use Rattle.std.specs.Prelude.{◌≤◌, ◌<◌, ◌≡◌}
 use Rattle.model.specs.Prelude.{ℕ, arith, refl, sym, ap, ◌∙◌, List, get_or, set, set_out}
 use Rattle.model.specs.{declared.Extent.Extent, Sets.{Numbers, Slot, with_slots}, Calls.owning, BoolLaws.by_lt}
-use Rattle.set_storage.specs.Storage.{numbers_of, flags_of, start_half, end_half, slot_with, set_with, list_from, owned_at, mips_at, layers_at}
-use Rattle.set_storage.specs.Storage.{textures_at, complex_at, exclusive_at, layer_limit_at, mip_limit_at, uninitialized_at, unknown_at}
-use Rattle.set_storage.specs.{Storage.table_indices, Lists.{list_ext, list_long}, Stays.HalfFrame}
+use Rattle.std.specs.Prelude.{◌≤◌, ◌<◌, ◌≡◌}
+use Rattle.set_storage.specs.Storage.{numbers_of, flags_of, start_half, end_half, slot_with, set_with, list_from, owned_at, mips_at}
+use Rattle.set_storage.specs.Storage.{layers_at, textures_at, complex_at, exclusive_at, layer_limit_at, mip_limit_at, uninitialized_at}
+use Rattle.set_storage.specs.{Storage.{unknown_at, table_indices}, Lists.{list_ext, list_long}, Stays.HalfFrame}
 use Rattle.set_storage.specs.Slots.{SlotFrame, own_words, scope_own, own_owned, own_mips, own_layers, half_low, slot_owned, set_becomes}
 use Rattle.set_storage.specs.Texture.{TextureReady, numbers_low, flags_low, texture_dims, texture_away}
 use Rattle.set_ready.specs.Half.{HalfReady, BothReady, HeadStays, scope_keeps, numbers_stay, flags_stay, measured_kept}
@@ -69,7 +69,8 @@ owned_reads {i = i} held t' x w own same e =
 -- ---- THE VIEW after a change of one texture, by functions that read what is held
 -- a change past the last texture is none
 set_stays : {H : Type 0} {i : ℕ} {held held' : ℕ → H} {t t' : List ℕ} (s : Slot H) → get_or t textures_at 0 ≤ i
-    → SlotFrame (get_or t textures_at 0) i held held' t t' → set_with held' t' ≡ with_slots (set_with held t) (set (set_with held t).slots i s)
+    → SlotFrame (get_or t textures_at 0) i held held' t t'
+    → set_with held' t' ≡ with_slots (set_with held t) (set (set_with held t).slots i s)
 set_stays {H} {i} {held} {held'} {t} {t'} s h f =
     let n = get_or t textures_at 0 in let slot = slot_with held t in
     let q : list_from (slot_with held' t') 0 n ≡ set (list_from slot 0 n) i s =
@@ -92,8 +93,10 @@ module _ {H : Type 0} (was is : Numbers → ℕ → H) {t t' : List ℕ} {i : �
   pub slot_becomes : {x : Slot H} → slot_with (is (numbers_of t)) t' i ≡ x
       → set_with (is (numbers_of t')) t' ≡ with_slots (set_with (was (numbers_of t)) t) (set (set_with (was (numbers_of t)) t).slots i x)
   slot_becomes {x} e =
-      ap (λ (n : Numbers). set_with (is n) t') same_numbers ∙ by_lt i (get_or t textures_at 0) (λ h. set_becomes x h f e) (λ h. set_stays x h f)
+      ap (λ (n : Numbers). set_with (is n) t') same_numbers
+      ∙ by_lt i (get_or t textures_at 0) (λ h. set_becomes x h f e) (λ h. set_stays x h f)
 
   -- another texture
-  pub slot_other : (j : ℕ) → j < get_or t textures_at 0 → (j ≡ i → ⊥) → slot_with (is (numbers_of t')) t' j ≡ slot_with (was (numbers_of t)) t j
+  pub slot_other : (j : ℕ) → j < get_or t textures_at 0 → (j ≡ i → ⊥)
+      → slot_with (is (numbers_of t')) t' j ≡ slot_with (was (numbers_of t)) t j
   slot_other j h ne = ap (λ (n : Numbers). slot_with (is n) t' j) same_numbers ∙ f.others j h ne

@@ -1,9 +1,9 @@
 -- A walk over the slots of a set as it is lent: the view at its end; and of a tracker, that a slot which is left is ready as it was.
-use Rattle.std.specs.Prelude.{◌<◌, ◌≡◌}
 use Rattle.model.specs.Prelude.{ℕ, arith, ap, subst, ◌∙◌, List, get_or}
 use Rattle.model.specs.{declared.Extent.Extent, Representation.Ends, Sets.{Numbers, Slot, with_tracker}, Texture.Held}
-use Rattle.set_storage.specs.Storage.{numbers_of, flags_of, start_half, ends_of, slot_with, set_with, tracker_of, list_from, mask_at, textures_at}
-use Rattle.set_storage.specs.{Storage.tracker_slot, Stays.{both_refl, both_then, both_more, TrackerFrame}, Frames.Measured}
+use Rattle.std.specs.Prelude.{◌<◌, ◌≡◌}
+use Rattle.set_storage.specs.Storage.{numbers_of, flags_of, start_half, ends_of, slot_with, set_with, tracker_of, list_from, mask_at}
+use Rattle.set_storage.specs.{Storage.{textures_at, tracker_slot}, Stays.{both_refl, both_then, both_more, TrackerFrame}, Frames.Measured}
 use Rattle.set_storage.specs.Slots.{tracker_other}
 use Rattle.set_checks.specs.Passed.{TexturePassed}
 use Rattle.set_ready.specs.{Tested.TrackerTested, Half.{HeadStays, BothReady, tracker_keeps, numbers_stay, flags_stay, tracker_still}}
@@ -11,7 +11,8 @@ use Rattle.set_ready.specs.Walked.{Walked, walked_start}
 
 -- the view of a set whose head stays: its slots as they are now
 pub set_view : {H : Type 0} (held : ℕ → H) {t t₁ : List ℕ} → HeadStays t t₁
-    → set_with held t₁ ≡ record { numbers = numbers_of t; flags = flags_of t; slots = list_from (slot_with held t₁) 0 (get_or t textures_at 0) }
+    → set_with held t₁ ≡ record
+    { numbers = numbers_of t; flags = flags_of t; slots = list_from (slot_with held t₁) 0 (get_or t textures_at 0) }
 set_view held q = rw (numbers_stay q, flags_stay q, q.words textures_at (omega arith))
 
 -- the slots of the table t₁ with the ranges s₁ and e₁, read by the N, M and W of t

@@ -1,13 +1,13 @@
 -- What the test of a set has shown of its storage, index by index.
-use Rattle.std.specs.Prelude.{◌+◌, ◌/◌, ◌≤◌, ◌<◌, ◌≡◌}
-use Rattle.model.specs.Prelude.{ℕ, arith, refl, sym, ap, subst, ◌∙◌, true, and-eq-true_iff, List, [], bit_and}
-use Rattle.model.specs.Prelude.{bit_or, and_comm, and_self, length, get_or}
+use Rattle.model.specs.Prelude.{ℕ, arith, refl, sym, ap, subst, ◌∙◌, true, and-eq-true_iff, List, [], bit_and, bit_or, and_comm, and_self}
+use Rattle.model.specs.Prelude.{length, get_or}
 use Rattle.model.specs.{declared.{UsageFlags.UsageFlags, Extent.Extent, Range.Range}, Flags.flags_fit, RangedStates.Tiles, Texture.many}
 use Rattle.model.specs.{WellFormed.{well_formed_scope, well_formed_tracker}, ListLaws.all_at}
+use Rattle.std.specs.Prelude.{◌+◌, ◌/◌, ◌≤◌, ◌<◌, ◌≡◌}
 use Rattle.usage.specs.BitLaws.{and_or, or_zero}
-use Rattle.set_storage.specs.Storage.{tracker_slot, scope_slot, numbers_of, flags_of, extent_of, start_half, end_half, mip_of, mips_in, mips_of}
-use Rattle.set_storage.specs.Storage.{held_of, ends_of, slot_with, set_with, scope_of, tracker_of, list_from, complex_at, layers_at, mip_limit_at}
-use Rattle.set_storage.specs.{Storage.{mips_at, table_length, textures_at}, Lists.{list_at, list_long}}
+use Rattle.set_storage.specs.Storage.{tracker_slot, scope_slot, numbers_of, flags_of, extent_of, start_half, end_half, mip_of, mips_in}
+use Rattle.set_storage.specs.Storage.{mips_of, held_of, ends_of, slot_with, set_with, scope_of, tracker_of, list_from, complex_at}
+use Rattle.set_storage.specs.{Storage.{layers_at, mip_limit_at, mips_at, table_length, textures_at}, Lists.{list_at, list_long}}
 use Rattle.set_storage.specs.{Frames.{Measured, mip_at, mips_long, measured_of}, Slots.{held_many, held_single}}
 use Rattle.agreement.specs.{Fits.{SingleFits, MipFits, HeldFits, EndsFit, SlotFits, SetFits}, Decides.{scope_to, tracker_to}}
 

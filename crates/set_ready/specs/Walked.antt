@@ -1,7 +1,7 @@
 -- A walk over slots that changes them one by one: which are done, which are left as they were, and that the model's walks give the same.
-use Rattle.std.specs.Prelude.{◌+◌, ◌≤◌, ◌<◌, ◌≡◌, ◌∷◌}
 use Rattle.model.specs.Prelude.{ℕ, zero, suc, ℕ_discrete, arith, refl, sym, ap, subst, ◌∙◌, List, []}
 use Rattle.model.specs.Base.{Stop, fine, stopped, over₂, walk₂}
+use Rattle.std.specs.Prelude.{◌+◌, ◌≤◌, ◌<◌, ◌≡◌, ◌∷◌}
 use Rattle.set_storage.specs.{Storage.list_from, Lists.list_ext}
 
 -- of the first n slots each that is left reads as before, and of each other R tells what it became
@@ -93,4 +93,5 @@ module _ {A B : Type 0} (f : ℕ → A → B → A) where
   over_end F H G n m q =
       let z : Walked n (λ j x y. fine {C = ℕ} (f j x (G j)) ≡ fine y) F (λ j. m ≤ j) H =
       record { done = λ j h o. ap fine (sym (q.done j h o)); same = q.same } in
-      ap (λ (y : Stop ℕ (List A)). y.value) (sym (walk_end (λ j x y. fine {C = ℕ} (f j x y)) F H G n m z) ∙ over_walk 0 (list_from F 0 n) (list_from G 0 m))
+      ap (λ (y : Stop ℕ (List A)). y.value) (sym (walk_end (λ j x y. fine {C = ℕ} (f j x y)) F H G n m z)
+      ∙ over_walk 0 (list_from F 0 n) (list_from G 0 m))

@@ -1,13 +1,13 @@
 -- What a change of one texture leaves as it was, and how changes of its mips follow one another.
-use Rattle.std.specs.Prelude.{◌+◌, ◌*◌, ◌/◌, ◌≤◌, ◌<◌, ◌≡◌, ◌⊎◌, ◌++◌}
-use Rattle.model.specs.Prelude.{ℕ, suc, min-le_right, arith, refl, ap, ◌∙◌, inl, inr, true, List}
-use Rattle.model.specs.Prelude.{leb, length, get_or, set, take, drop, get_or-set_same, get_or-set_other, le-leb, leb-true, not-true}
+use Rattle.model.specs.Prelude.{ℕ, suc, min-le_right, arith, refl, ap, ◌∙◌, inl, inr, true, List, leb, length, get_or, set, take, drop}
+use Rattle.model.specs.Prelude.{get_or-set_same, get_or-set_other, le-leb, leb-true, not-true}
 use Rattle.model.specs.{declared.Range.Range, Sets.{Numbers, numbers_fit, capacity}, BoolLaws.and_both, CheckLaws.inside}
+use Rattle.std.specs.Prelude.{◌+◌, ◌*◌, ◌/◌, ◌≤◌, ◌<◌, ◌≡◌, ◌⊎◌, ◌++◌}
 use Rattle.range_states.specs.View.{decode}
 use Rattle.set_storage.specs.Part.{base_of, part_of, put_part, put_length, put_part_lem, put_before, put_after, put_apart, part_length}
 use Rattle.set_storage.specs.Part.{mips_apart, places_fit, Within}
-use Rattle.set_storage.specs.Storage.{numbers_of, table_indices, state_at, ranges_at, mips_in, count_at, mip_part, mip_of, mips_of, end_half}
-use Rattle.set_storage.specs.Storage.{mips_at, table_length, start_half, textures_at, mip_limit_at, layer_limit_at}
+use Rattle.set_storage.specs.Storage.{numbers_of, table_indices, state_at, ranges_at, mips_in, count_at, mip_part, mip_of, mips_of}
+use Rattle.set_storage.specs.Storage.{end_half, mips_at, table_length, start_half, textures_at, mip_limit_at, layer_limit_at}
 use Rattle.set_storage.specs.Stays.{Frame, HalfFrame, stays_refl, stays_at, stays_of, stays_set, keeps_more, mip_first, mip_last}
 use Rattle.set_storage.specs.Lists.{list_set, list_long, list_at}
 

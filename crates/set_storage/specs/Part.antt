@@ -1,10 +1,9 @@
 -- A part of a list at a computed place.
-use Rattle.std.specs.Prelude.{◌+◌, ◌*◌, ◌-◌, ◌≤◌, ◌<◌, ◌≡◌, ◌⊎◌, ◌++◌}
-use Rattle.model.specs.Prelude.{ℕ, suc, min, suc-mul, mul-le-mul_right, le-mul_of_pos_right, min-le_left, arith}
-use Rattle.model.specs.Prelude.{ap, sym, ◌∙◌, inl, inr, List, length, get_or, take, drop, length-take, length-drop}
-use Rattle.model.specs.Prelude.{length-append, List_get_D_append, length-take-le, get_or-take, get_or-drop, get_or-append-add, take_at, drop_at}
-use Rattle.model.specs.Prelude.{ext_get_or}
+use Rattle.model.specs.Prelude.{ℕ, suc, min, suc-mul, mul-le-mul_right, le-mul_of_pos_right, min-le_left, arith, ap, sym, ◌∙◌, inl, inr}
+use Rattle.model.specs.Prelude.{List, length, get_or, take, drop, length-take, length-drop, length-append, List_get_D_append}
+use Rattle.model.specs.Prelude.{length-take-le, get_or-take, get_or-drop, get_or-append-add, take_at, drop_at, ext_get_or}
 use Rattle.model.specs.BoolLaws.{by_lt}
+use Rattle.std.specs.Prelude.{◌+◌, ◌*◌, ◌-◌, ◌≤◌, ◌<◌, ◌≡◌, ◌⊎◌, ◌++◌}
 use Rattle.std.proofs.Math.Arith.{digits_lt}
 
 -- the start of the ranges of (i, m), with M mips a texture and W records a mip
@@ -55,7 +54,8 @@ module _ (l : List ℕ) (b k : ℕ) (p : List ℕ) (room : b + k ≤ length l) (
       let s : j ≡ length (take b l) + (length p + n) = omega arith in let t : b + (k + n) ≡ j = omega arith in
       ap (λ (x : ℕ). get_or (take b l ++ (p ++ drop k (drop b l))) x d) s
       ∙ get_or-append-add (take b l) (p ++ drop k (drop b l)) (length p + n) d
-      ∙ get_or-append-add p (drop k (drop b l)) n d ∙ get_or-drop k (drop b l) n d ∙ get_or-drop b l (k + n) d ∙ ap (λ (x : ℕ). get_or l x d) t
+      ∙ get_or-append-add p (drop k (drop b l)) n d ∙ get_or-drop k (drop b l) n d ∙ get_or-drop b l (k + n) d
+      ∙ ap (λ (x : ℕ). get_or l x d) t
 
   pub put_part_lem : part_of (put_part l b k p) b k ≡ p
   unfolding put_part part_of

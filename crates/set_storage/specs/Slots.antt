@@ -1,17 +1,16 @@
 -- From a change of one texture to the view of the whole set: a scope's, and either half of a tracker's.
-use Rattle.std.specs.Prelude.{◌+◌, ◌≤◌, ◌<◌, ◌≡◌, ◌⊎◌}
-use Rattle.model.specs.Prelude.{ℕ, arith, refl, sym, ap, subst, ◌∙◌, inl, inr, List, length, get_or, set, length-set}
-use Rattle.model.specs.Prelude.{get_or-set_same, get_or-set_other, eq-eqb, ne_eqb}
+use Rattle.model.specs.Prelude.{ℕ, arith, refl, sym, ap, subst, ◌∙◌, inl, inr, List, length, get_or, set, length-set, get_or-set_same}
+use Rattle.model.specs.Prelude.{get_or-set_other, eq-eqb, ne_eqb}
 use Rattle.model.specs.{declared.{Range.Range, Extent.Extent}, Sets.{Numbers, Slot, with_slots}, Calls.owning, Texture.{Held, single, many}}
+use Rattle.std.specs.Prelude.{◌+◌, ◌≤◌, ◌<◌, ◌≡◌, ◌⊎◌}
 use Rattle.set_storage.specs.Storage.{half_length, extent_of, start_half, end_half, table_indices, owned_at, mips_at, layers_at, state_at}
-use Rattle.set_storage.specs.Storage.{count_at, mip_part, mip_of, mips_in, mips_of, held_of, ends_of, slot_with, set_with, list_from, complex_at}
-use Rattle.set_storage.specs.Storage.{table_length, textures_at, exclusive_at, head_length, layer_limit_at, mip_limit_at, uninitialized_at}
-use Rattle.set_storage.specs.{Storage.unknown_at, Lists.{list_ext, list_set}}
-use Rattle.set_storage.specs.Stays.{Stays, Only, stays_refl, stays_then, stays_set, stays_more, OffHead, OffScope, OffTracker}
-use Rattle.set_storage.specs.Stays.{off_scope, head_off, owned_off, mips_off, layers_off, start_off, end_off, start_count_off}
-use Rattle.set_storage.specs.Stays.{end_count_off, mip_stays, keeps_more, both_more, HalfFrame, ScopeFrame, BothFrame, TrackerFrame}
-use Rattle.set_storage.specs.Frames.{Measured, MipsBecome, half_of, half_word_lem, half_below, half_above, frame_below, mips_top}
-use Rattle.set_storage.specs.Frames.{mips_same}
+use Rattle.set_storage.specs.Storage.{count_at, mip_part, mip_of, mips_in, mips_of, held_of, ends_of, slot_with, set_with, list_from}
+use Rattle.set_storage.specs.Storage.{complex_at, table_length, textures_at, exclusive_at, head_length, layer_limit_at, mip_limit_at}
+use Rattle.set_storage.specs.{Storage.{uninitialized_at, unknown_at}, Lists.{list_ext, list_set}}
+use Rattle.set_storage.specs.Stays.{Stays, Only, stays_refl, stays_then, stays_set, stays_more, OffHead, OffScope, OffTracker, off_scope}
+use Rattle.set_storage.specs.Stays.{head_off, owned_off, mips_off, layers_off, start_off, end_off, start_count_off, end_count_off}
+use Rattle.set_storage.specs.Stays.{mip_stays, keeps_more, both_more, HalfFrame, ScopeFrame, BothFrame, TrackerFrame}
+use Rattle.set_storage.specs.Frames.{Measured, MipsBecome, half_of, half_word_lem, half_below, half_above, frame_below, mips_top, mips_same}
 
 -- ---- How a frame reads in the view: nothing but the slot of texture i differs
 pub record SlotFrame {H : Type 0} (n i : ℕ) (held held' : ℕ → H) (t t' : List ℕ) : Type 0 where
@@ -106,8 +105,10 @@ module _ {named : ℕ → Type 0} {d : Numbers} (n : d.textures ≤ 64) (m : d.m
         let b = w (mips_at j) out (λ i a ne. mips_off i j a few ne) in
         slot_ext (held_of d start_half t r) (held_of d start_half t' r') t t' j (w (owned_at j) out (λ i a ne. owned_off i j a few ne)) b
         (w (layers_at j) out (λ i a ne. layers_off i j a few ne))
-        (held_ext d start_half t r t' r' j (scope_head f 5 (omega arith)) b (w (state_at start_half j) out (λ i a ne. start_off i j a few ne))
-        (λ k q. mip_ext d start_half t r t' r' j k (w (count_at start_half j k) out (λ i a ne. start_count_off i j a few ne k (omega arith)))
+        (held_ext d start_half t r t' r' j (scope_head f 5 (omega arith)) b
+        (w (state_at start_half j) out (λ i a ne. start_off i j a few ne))
+        (λ k q. mip_ext d start_half t r t' r' j k
+        (w (count_at start_half j k) out (λ i a ne. start_count_off i j a few ne k (omega arith)))
         (mip_stays f.ranges j k out q)))
 
   module _ {t s e t' s' e' : List ℕ} (f : TrackerFrame named d t s e t' s' e') where
@@ -116,7 +117,8 @@ module _ {named : ℕ → Type 0} {d : Numbers} (n : d.textures ≤ 64) (m : d.m
         let w = tracker_word f.words j in let few : j < table_indices = omega arith in
         let b = w (mips_at j) out (λ i a ne. mips_off i j a few ne) in let c = tracker_head f 5 (omega arith) in
         let x = held_ext d start_half t s t' s' j c b (w (state_at start_half j) out (λ i a ne. start_off i j a few ne))
-        (λ k q. mip_ext d start_half t s t' s' j k (w (count_at start_half j k) out (λ i a ne. start_count_off i j a few ne k (omega arith)))
+        (λ k q. mip_ext d start_half t s t' s' j k
+        (w (count_at start_half j k) out (λ i a ne. start_count_off i j a few ne k (omega arith)))
         (mip_stays f.starts j k out q)) in
         let y = held_ext d end_half t e t' e' j c b (w (state_at end_half j) out (λ i a ne. end_off i j a few ne))
         (λ k q. mip_ext d end_half t e t' e' j k (w (count_at end_half j k) out (λ i a ne. end_count_off i j a few ne k (omega arith)))

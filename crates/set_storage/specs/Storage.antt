@@ -1,8 +1,8 @@
 -- The lent numbers as the model's sets: THE VIEW.
-use Rattle.std.specs.Prelude.{◌+◌, ◌*◌, ◌∷◌, if◌then◌else◌}
 use Rattle.model.specs.Prelude.{ℕ, zero, suc, min, Bool, not, List, [], eqb, leb, get_or}
 use Rattle.model.specs.{declared.{Range.Range, UsageFlags.UsageFlags, Extent.Extent}, Representation.Ends}
 use Rattle.model.specs.{Sets.{Numbers, Slot, Set, Tracker}, Texture.{Held, single, many}}
+use Rattle.std.specs.Prelude.{◌+◌, ◌*◌, ◌∷◌, if◌then◌else◌}
 use Rattle.range_states.specs.View.{decode}
 use Rattle.set_storage.specs.Part.{base_of, part_of}
 
@@ -114,7 +114,8 @@ mips_of d h t r i = list_from (mip_of d h t r i) 0 (mips_in d t i)
 
 -- ---- One texture in one half: Single, or, where the word tells COMPLEX, Many
 unfoldable pub held_of : Numbers → ℕ → List ℕ → List ℕ → ℕ → Held
-held_of d h t r i = if eqb (get_or t (state_at h i) 0) (get_or t complex_at 0) then many (mips_of d h t r i) else single (get_or t (state_at h i) 0)
+held_of d h t r i = if eqb (get_or t (state_at h i) 0) (get_or t complex_at 0) then many (mips_of d h t r i)
+    else single (get_or t (state_at h i) 0)
 
 abbrev pub ends_of : Numbers → List ℕ → List ℕ → List ℕ → ℕ → Ends Held
 ends_of d t s e i = record { start = held_of d start_half t s i; end = held_of d end_half t e i }

@@ -1,20 +1,22 @@
 -- The loop of `ranges_agree`: a layer that both places have reached, and what is left from it on in each list.
-use Rattle.std.specs.Prelude.{◌+◌, ◌-◌, ◌≤◌, ◌<◌, ◌≡◌, ◌∷◌, ◌++◌}
-use Rattle.model.specs.Prelude.{ℕ, zero, suc, arith, refl, sym, ◌∙◌, Bool, true, false, List, [], get_or}
-use Rattle.model.specs.Prelude.{drop, replicate, slice_empty, le-leb, lt-leb}
+use Rattle.model.specs.Prelude.{ℕ, zero, suc, arith, refl, sym, ◌∙◌, Bool, true, false, List, [], get_or, drop, replicate, slice_empty}
+use Rattle.model.specs.Prelude.{le-leb, lt-leb}
 use Rattle.model.specs.{declared.Range.Range, RangedStates.{layer_states, Tiles}, WellFormed.all₂, RangeLaws.tiles_count, BoolLaws.by_lt}
+use Rattle.std.specs.Prelude.{◌+◌, ◌-◌, ◌≤◌, ◌<◌, ◌≡◌, ◌∷◌, ◌++◌}
 use Rattle.range_states.specs.View.{view, decode, blank}
 use Rattle.set_wellformed.specs.Unknowns.{agrees, layers_agree, passed, SameLayers}
 use Rattle.range_states.proofs.Inserting.{next_is}
 
 -- ---- Two runs of one state each, side by side
 module _ {A : Type 0} (f : A → A → Bool) (a b : A) where
-  pub skip_left : (n m q : ℕ) (l k : List A) → q ≡ m + n → f a b ≡ true → all₂ f (replicate n a ++ l) (replicate q b ++ k) ≡ all₂ f l (replicate m b ++ k)
+  pub skip_left : (n m q : ℕ) (l k : List A) → q ≡ m + n → f a b ≡ true
+      → all₂ f (replicate n a ++ l) (replicate q b ++ k) ≡ all₂ f l (replicate m b ++ k)
   skip_left zero m q l k h e = let z : q ≡ m = omega arith in rw z
   skip_left (suc n) m zero l k h e = absurd (omega arith)
   skip_left (suc n) m (suc q) l k h e = rw e (skip_left n m q l k (omega arith) e)
 
-  skip_right : (n m q : ℕ) (l k : List A) → q ≡ m + n → f a b ≡ true → all₂ f (replicate q a ++ l) (replicate n b ++ k) ≡ all₂ f (replicate m a ++ l) k
+  skip_right : (n m q : ℕ) (l k : List A) → q ≡ m + n → f a b ≡ true
+      → all₂ f (replicate q a ++ l) (replicate n b ++ k) ≡ all₂ f (replicate m a ++ l) k
   skip_right zero m q l k h e = let z : q ≡ m = omega arith in rw z
   skip_right (suc n) m zero l k h e = absurd (omega arith)
   skip_right (suc n) m (suc q) l k h e = rw e (skip_right n m q l k (omega arith) e)
@@ -64,17 +66,22 @@ module _ (u : ℕ) (x y : Range) (s t : List Range) (a e : ℕ) (l : TilesFrom a
   both = all₂ (agrees u) (states_from a (x ∷ s)) (states_from a (y ∷ t))
 
   differ : agrees u x.state y.state ≡ false → both ≡ false
-  differ q = stop_here (agrees u) x.state y.state (x.end - a) (y.end - a) (layer_states s) (layer_states t) (omega (arith, l.0)) (omega (arith, r.0)) q
+  differ q = stop_here (agrees u) x.state y.state (x.end - a) (y.end - a) (layer_states s) (layer_states t)
+      (omega (arith, l.0)) (omega (arith, r.0)) q
 
-  left_ends : agrees u x.state y.state ≡ true → x.end ≤ y.end → both ≡ all₂ (agrees u) (states_from x.end s) (replicate (y.end - x.end) y.state ++ layer_states t)
+  left_ends : agrees u x.state y.state ≡ true → x.end ≤ y.end
+      → both ≡ all₂ (agrees u) (states_from x.end s) (replicate (y.end - x.end) y.state ++ layer_states t)
   left_ends q h =
       rw (states_from_lem s x.end e l.1)
-      (skip_left (agrees u) x.state y.state (x.end - a) (y.end - x.end) (y.end - a) (layer_states s) (layer_states t) (omega (arith, l.0)) q)
+      (skip_left (agrees u) x.state y.state (x.end - a) (y.end - x.end) (y.end - a) (layer_states s)
+      (layer_states t) (omega (arith, l.0)) q)
 
-  right_ends : agrees u x.state y.state ≡ true → y.end ≤ x.end → both ≡ all₂ (agrees u) (replicate (x.end - y.end) x.state ++ layer_states s) (states_from y.end t)
+  right_ends : agrees u x.state y.state ≡ true → y.end ≤ x.end
+      → both ≡ all₂ (agrees u) (replicate (x.end - y.end) x.state ++ layer_states s) (states_from y.end t)
   right_ends q h =
       rw (states_from_lem t y.end e r.1)
-      (skip_right (agrees u) x.state y.state (y.end - a) (x.end - y.end) (x.end - a) (layer_states s) (layer_states t) (omega (arith, r.0)) q)
+      (skip_right (agrees u) x.state y.state (y.end - a) (x.end - y.end) (x.end - a) (layer_states s)
+      (layer_states t) (omega (arith, r.0)) q)
 
   both_end : agrees u x.state y.state ≡ true → x.end ≡ y.end → both ≡ all₂ (agrees u) (states_from x.end s) (states_from x.end t)
   both_end q h =
@@ -100,13 +107,15 @@ module _ {a : List ℕ} {la : ℕ} {b : List ℕ} {lb u : ℕ} (same : SameLayer
     pub still : j ≤ lb → j < lb
     still hj =
         by_lt j lb (λ h. h) (λ h. let z : j ≡ lb = omega arith in
-        absurd (some_left (drop (i + 1) (decode la a)) (drop j (decode lb b)) x w.at w.top left_now w.right (rw (z, slice_empty lb (view b)) refl)))
+        absurd (some_left (drop (i + 1) (decode la a)) (drop j (decode lb b)) x w.at w.top left_now w.right
+        (rw (z, slice_empty lb (view b)) refl)))
 
     module _ {y : Range} (hj : j < lb) (gy : y ≡ get_or (view b) j blank) where
       right_now : TilesFrom w.at (y ∷ drop (j + 1) (decode lb b)) w.top
       right_now = rw (next_is b lb j y same.right hj gy) at w.right
 
-      on_now : all₂ (agrees u) (states_from w.at (x ∷ drop (i + 1) (decode la a))) (states_from w.at (y ∷ drop (j + 1) (decode lb b))) ≡ layers_agree u (decode la a) (decode lb b)
+      on_now : all₂ (agrees u) (states_from w.at (x ∷ drop (i + 1) (decode la a))) (states_from w.at (y ∷ drop (j + 1) (decode lb b)))
+          ≡ layers_agree u (decode la a) (decode lb b)
       on_now = rw (next_is a la i x same.left hi gx, next_is b lb j y same.right hj gy) at w.on
 
       pub walk_differ : agrees u x.state y.state ≡ false → false ≡ layers_agree u (decode la a) (decode lb b)
@@ -146,6 +155,8 @@ module _ {a : List ℕ} {la : ℕ} {b : List ℕ} {lb u : ℕ} (same : SameLayer
       let z : i ≡ la = omega arith in let none : drop i (decode la a) ≡ [] = rw (z, slice_empty la (view a)) in
       go (drop j (decode lb b)) (rw none at w.left) w.right (rw none at w.on)
     where
-      go : (t : List Range) → w.at ≡ w.top → TilesFrom w.at t w.top → all₂ (agrees u) [] (states_from w.at t) ≡ layers_agree u (decode la a) (decode lb b) → true ≡ layers_agree u (decode la a) (decode lb b)
+      go : (t : List Range) → w.at ≡ w.top → TilesFrom w.at t w.top
+          → all₂ (agrees u) [] (states_from w.at t) ≡ layers_agree u (decode la a) (decode lb b)
+          → true ≡ layers_agree u (decode la a) (decode lb b)
       go [] p q o = o
       go (r ∷ t) p q o = absurd (omega (arith, q.0, tiles_count t r.end w.top q.1))

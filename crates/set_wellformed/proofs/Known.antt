@@ -1,11 +1,11 @@
 -- A list with no UNKNOWN range agrees with a state that is not UNKNOWN; and the loop of `ranges_known`.
-use Rattle.std.specs.Prelude.{◌+◌, ◌*◌, ◌-◌, ◌≤◌, ◌<◌, ◌≡◌, ◌&&◌, ◌∷◌, ◌++◌}
-use Rattle.model.specs.Prelude.{ℕ, zero, suc, arith, refl, sym, ◌∙◌, Bool, true, false, not, false≢true}
-use Rattle.model.specs.Prelude.{List, [], map, ltb, eqb, bit_and, and_self, length, get_or, drop, replicate}
-use Rattle.model.specs.Prelude.{replicate-append-replicate, slice_empty, eqb-true, eqb-false, ltb-true, eq-eqb, ne_eqb, not-true, not-false}
+use Rattle.model.specs.Prelude.{ℕ, zero, suc, arith, refl, sym, ◌∙◌, Bool, true, false, not, false≢true, List, [], map, ltb, eqb, bit_and}
+use Rattle.model.specs.Prelude.{and_self, length, get_or, drop, replicate, replicate-append-replicate, slice_empty, eqb-true, eqb-false}
+use Rattle.model.specs.Prelude.{ltb-true, eq-eqb, ne_eqb, not-true, not-false}
 use Rattle.model.specs.{declared.{Range.Range, UsageFlags.UsageFlags}, Base.every, Flags.{meets, incompatible}}
 use Rattle.model.specs.{RangedStates.{layer_states, Tiles}, WellFormed.{state_fits, single_fits, ranges_fit, same_test, all₂}}
 use Rattle.model.specs.{BoolLaws.and_both as both, RangeLaws.tiles_le as tiles_below}
+use Rattle.std.specs.Prelude.{◌+◌, ◌*◌, ◌-◌, ◌≤◌, ◌<◌, ◌≡◌, ◌&&◌, ◌∷◌, ◌++◌}
 use Rattle.range_states.specs.View.{view, decode, blank}
 use Rattle.set_storage.specs.Storage.{list_from}
 use Rattle.set_wellformed.specs.Unknowns.{agrees, layers_agree, is_known, itself}
@@ -20,7 +20,8 @@ pub record Knowing (u : ℕ) (l : List ℕ) (len k : ℕ) : Type 0 where
 pub knowing_start : (u : ℕ) (l : List ℕ) (len : ℕ) → Knowing u l len 0
 knowing_start u l len = record { high = omega arith; on = refl }
 
-module _ {u : ℕ} {l : List ℕ} {len k : ℕ} {r : Range} (room : 3 * len ≤ length l) (j : Knowing u l len k) (h : k < len) (g : r ≡ get_or (view l) k blank) where
+module _ {u : ℕ} {l : List ℕ} {len k : ℕ} {r : Range} (room : 3 * len ≤ length l) (j : Knowing u l len k) (h : k < len)
+    (g : r ≡ get_or (view l) k blank) where
   here : every (is_known u) (r ∷ drop (k + 1) (decode len l)) ≡ every (is_known u) (decode len l)
   here = rw (next_is l len k r room h g) at j.on
 
@@ -56,7 +57,8 @@ fits_tiles p e a (r ∷ s) f =
 
 -- ---- A state that is not UNKNOWN beside a list of ranges
 module _ (u a : ℕ) (known : eqb a u ≡ false) where
-  one_run : (n : ℕ) (b : ℕ) (l k : List ℕ) → 0 < n → (rest : Bool) → all₂ (agrees u) l k ≡ rest → all₂ (agrees u) (replicate n a ++ l) (replicate n b ++ k) ≡ (not (eqb b u) && rest)
+  one_run : (n : ℕ) (b : ℕ) (l k : List ℕ) → 0 < n → (rest : Bool) → all₂ (agrees u) l k ≡ rest
+      → all₂ (agrees u) (replicate n a ++ l) (replicate n b ++ k) ≡ (not (eqb b u) && rest)
   one_run n b l k h rest e = go (eqb b u) refl
     where
       go : (t : Bool) → eqb b u ≡ t → all₂ (agrees u) (replicate n a ++ l) (replicate n b ++ k) ≡ (not t && rest)
@@ -69,15 +71,18 @@ module _ (u a : ℕ) (known : eqb a u ≡ false) where
   layers_known (r ∷ s) x e t =
       let b = tiles_below s r.end e t.2 in let n : e - x ≡ (r.end - x) + (e - r.end) = omega (arith, t.1) in
       rw (n, ← replicate-append-replicate (r.end - x) (e - r.end) a, t.0)
-      (one_run (r.end - x) r.state (replicate (e - r.end) a) (layer_states s) (omega (arith, t.1)) (every (is_known u) s) (layers_known s r.end e t.2))
+      (one_run (r.end - x) r.state (replicate (e - r.end) a) (layer_states s) (omega (arith, t.1))
+      (every (is_known u) s) (layers_known s r.end e t.2))
 
-  pub mips_known : (p : UsageFlags) (w : ℕ) (ss : List (List Range)) (n : ℕ) → length ss ≡ n → every (ranges_fit p w 0) ss ≡ true → all₂ (all₂ (agrees u)) (replicate n (replicate w a)) (map layer_states ss) ≡ every (every (is_known u)) ss
+  pub mips_known : (p : UsageFlags) (w : ℕ) (ss : List (List Range)) (n : ℕ) → length ss ≡ n → every (ranges_fit p w 0) ss ≡ true
+      → all₂ (all₂ (agrees u)) (replicate n (replicate w a)) (map layer_states ss) ≡ every (every (is_known u)) ss
   mips_known p w [] zero e f = refl
   mips_known p w [] (suc n) e f = absurd (omega arith)
   mips_known p w (s ∷ ss) zero e f = absurd (omega arith)
   mips_known p w (s ∷ ss) (suc n) e f =
       let x = both (ranges_fit p w 0 s) (every (ranges_fit p w 0) ss) f in let z : w - 0 ≡ w = omega arith in
-      let l : all₂ (agrees u) (replicate w a) (layer_states s) ≡ every (is_known u) s = rw z at (layers_known s 0 w (fits_tiles p w 0 s x.0)) in
+      let l : all₂ (agrees u) (replicate w a) (layer_states s) ≡ every (is_known u) s =
+      rw z at (layers_known s 0 w (fits_tiles p w 0 s x.0)) in
       rw (l, mips_known p w ss n (omega arith) x.1)
 
 -- ---- Side by side
@@ -107,7 +112,8 @@ same_both true false c e f = absurd (false≢true e)
 same_both false true c e f = absurd (false≢true e)
 same_both false false c e f = f
 
-all_both : {A : Type 0} (g : A → A → Bool) → ((x y z : A) → g x y ≡ true → g x z ≡ true → g y z ≡ true) → (l s t : List A) → all₂ g l s ≡ true → all₂ g l t ≡ true → all₂ g s t ≡ true
+all_both : {A : Type 0} (g : A → A → Bool) → ((x y z : A) → g x y ≡ true → g x z ≡ true → g y z ≡ true) → (l s t : List A)
+    → all₂ g l s ≡ true → all₂ g l t ≡ true → all₂ g s t ≡ true
 all_both g each [] [] [] e f = refl
 all_both g each [] [] (z ∷ t) e f = absurd (false≢true f)
 all_both g each [] (y ∷ s) t e f = absurd (false≢true e)
@@ -117,14 +123,17 @@ all_both g each (x ∷ l) (y ∷ s) (z ∷ t) e f =
     let a = both (g x y) (all₂ g l s) e in let b = both (g x z) (all₂ g l t) f in
     rw (each x y z a.0 b.0, all_both g each l s t a.1 b.1)
 
-pub known_agree : (u top : ℕ) (s t : List Range) → Tiles 0 s top → Tiles 0 t top → every (is_known u) s ≡ true → every (is_known u) t ≡ true → layers_agree u s t ≡ true
+pub known_agree : (u top : ℕ) (s t : List Range) → Tiles 0 s top → Tiles 0 t top → every (is_known u) s ≡ true
+    → every (is_known u) t ≡ true → layers_agree u s t ≡ true
 known_agree u top s t a b e f =
     let k = ne_eqb (u + 1) u (λ z. omega arith) in
     all_both (agrees u) (λ x y z. same_both (eqb x u) (eqb y u) (eqb z u)) (replicate (top - 0) (u + 1)) (layer_states s) (layer_states t)
     (layers_known u (u + 1) k s 0 top a ∙ e) (layers_known u (u + 1) k t 0 top b ∙ f)
 
 -- mips side by side, position by position
-pub mips_beside : (u : ℕ) (f g : ℕ → List Range) (k n : ℕ) → all₂ (all₂ (agrees u)) (map layer_states (list_from f k n)) (map layer_states (list_from g k n)) ≡ every (λ (m : ℕ). layers_agree u (f m) (g m)) (list_from itself k n)
+pub mips_beside : (u : ℕ) (f g : ℕ → List Range) (k n : ℕ)
+    → all₂ (all₂ (agrees u)) (map layer_states (list_from f k n)) (map layer_states (list_from g k n))
+    ≡ every (λ (m : ℕ). layers_agree u (f m) (g m)) (list_from itself k n)
 unfolding list_from
 mips_beside u f g k zero = refl
 mips_beside u f g k (suc n) = rw (mips_beside u f g (suc k) n)

@@ -1,8 +1,8 @@
 -- What the tests of the head tell: numbers within their limits, room for every range, and so storage that can be indexed.
-use Rattle.std.specs.Prelude.{◌*◌, ◌/◌, ◌≤◌, ◌<◌, ◌≡◌, ◌&&◌}
-use Rattle.model.specs.Prelude.{ℕ, zero, suc, mul-le-mul_right, arith, refl, sym, Bool, true, false, not}
-use Rattle.model.specs.Prelude.{false≢true, List, leb, ltb, eqb, length, ltb-false, eqb-false}
+use Rattle.model.specs.Prelude.{ℕ, zero, suc, mul-le-mul_right, arith, refl, sym, Bool, true, false, not, false≢true, List, leb, ltb, eqb}
+use Rattle.model.specs.Prelude.{length, ltb-false, eqb-false}
 use Rattle.model.specs.{BoolLaws.{and_both as both, nor as neither}, Flags.flags_fit, Sets.{outside, numbers_fit, capacity}}
+use Rattle.std.specs.Prelude.{◌*◌, ◌/◌, ◌≤◌, ◌<◌, ◌≡◌, ◌&&◌}
 use Rattle.set_storage.specs.{Storage.{numbers_of, flags_of, table_length, start_half}, Frames.{Measured, measured_of as measured}}
 use Rattle.set_wellformed.specs.Parts.{numbers, extent_fits, head_fits}
 
@@ -53,7 +53,8 @@ small n m w h =
 pub head_numbers : (t : List ℕ) (room : ℕ) → head_fits t room ≡ true → numbers_fit (numbers_of t) ≡ true
 unfolding head_fits
 head_numbers t room e =
-    (both (numbers_fit (numbers_of t)) (flags_fit (flags_of t)) (both (numbers_fit (numbers_of t) && flags_fit (flags_of t)) (leb (capacity (numbers_of t)) (room / 3)) e).0).0
+    (both (numbers_fit (numbers_of t)) (flags_fit (flags_of t)) (both (numbers_fit (numbers_of t) && flags_fit (flags_of t))
+    (leb (capacity (numbers_of t)) (room / 3)) e).0).0
 
 pub head_measured : (t r : List ℕ) → length t ≡ table_length → head_fits t (length r) ≡ true → Measured (numbers_of t) start_half t r
 unfolding head_fits

@@ -1,7 +1,7 @@
 -- The words in two parts: where every index is proper, EXCLUSIVE is left of the test, and a union of at most one bit decides it.
-use Rattle.std.specs.Prelude.{◌≤◌, ◌<◌, ◌≡◌, ◌&&◌, ◌||◌}
 use Rattle.model.specs.Prelude.{ℕ, refl, sym, ◌∙◌, Bool, true, false, not, false≢true, List, get_or, not-true}
 use Rattle.model.specs.{BoolLaws.and_both as both, Base.every}
+use Rattle.std.specs.Prelude.{◌≤◌, ◌<◌, ◌≡◌, ◌&&◌, ◌||◌}
 use Rattle.usage.specs.Gathered.{Gathered}
 use Rattle.set_storage.specs.Storage.{flags_of, start_half, end_half, list_from, owned_at}
 use Rattle.set_wellformed.specs.{Parts.{every_at, every_also}, Proper.{single_proper, compatible, single_split, single_few, crossed}}
@@ -78,7 +78,8 @@ module _ (t : List ℕ) where
         → ScopeWords t n (record { fit = a; plain = b })
     scope_unfit = parts_not (scope_word_fits t) (scope_word_proper t) scope_word_left scope_parts n
 
-    pub tracker_unfit : {a b : Bool} → WordsAre (tracker_word_proper t) (tracker_word_plain t) n (record { fit = a; plain = b }) → not a ≡ true
+    pub tracker_unfit : {a b : Bool}
+        → WordsAre (tracker_word_proper t) (tracker_word_plain t) n (record { fit = a; plain = b }) → not a ≡ true
         → TrackerWords t n (record { fit = a; plain = b })
     tracker_unfit = parts_not (tracker_word_fits t) (tracker_word_proper t) tracker_word_left tracker_parts n
 
@@ -104,7 +105,8 @@ module _ (t : List ℕ) where
       pub tracker_few : every (tracker_word_proper t) (list_from itself 0 n) ≡ true → Gathered (flags_of t) (half_word start_half t) n u
           → Gathered (flags_of t) (half_word end_half t) n u → true ≡ every (tracker_word_fits t) (list_from itself 0 n)
       tracker_few f s e = parts_all (tracker_word_fits t) (tracker_word_proper t) tracker_word_left tracker_parts n f
-          (λ i l g. left (absent t i) (extent t i) (is_many t start_half i || is_many t end_half i) (proper_at start_half i && proper_at end_half i)
+          (λ i l g. left (absent t i) (extent t i) (is_many t start_half i || is_many t end_half i)
+          (proper_at start_half i && proper_at end_half i)
           (compatible_at start_half i && compatible_at end_half i) g
           (λ q. let x = both (proper_at start_half i) (proper_at end_half i) q in
           rw (single start_half i s l x.0, single end_half i e l x.1)))

@@ -1,11 +1,12 @@
 -- What the words of an index tell of the whole test of it.
+use Rattle.model.specs.Prelude.{ℕ, arith, refl, sym, ◌∙◌, Bool, true, false, not, false≢true, List, eqb, get_or, eqb-true, eqb-false}
+use Rattle.model.specs.Prelude.{not-true, not-false}
+use Rattle.model.specs.{BoolLaws.{and_both as both, neither}, Base.every}
+use Rattle.model.specs.WellFormed.{single_fits, ranges_fit, held_fits, slot_fits, ends_fit}
 use Rattle.std.specs.Prelude.{◌+◌, ◌≡◌, ◌&&◌, ◌||◌}
-use Rattle.model.specs.Prelude.{ℕ, arith, refl, sym, ◌∙◌, Bool, true, false, not, false≢true, List, eqb, get_or}
-use Rattle.model.specs.Prelude.{eqb-true, eqb-false, not-true, not-false}
-use Rattle.model.specs.{BoolLaws.{and_both as both, neither}, Base.every, WellFormed.{single_fits, ranges_fit, held_fits, slot_fits, ends_fit}}
-use Rattle.set_storage.specs.Storage.{numbers_of, flags_of, extent_of, start_half, end_half, mips_of, held_of, ends_of, list_from, complex_at}
-use Rattle.set_storage.specs.Storage.{layer_limit_at, layers_at, mip_limit_at, mips_at, owned_at, textures_at, unknown_at, scope_slot, tracker_slot}
-use Rattle.set_storage.specs.Frames.{Measured}
+use Rattle.set_storage.specs.Storage.{numbers_of, flags_of, extent_of, start_half, end_half, mips_of, held_of, ends_of, list_from}
+use Rattle.set_storage.specs.Storage.{complex_at, layer_limit_at, layers_at, mip_limit_at, mips_at, owned_at, textures_at, unknown_at}
+use Rattle.set_storage.specs.{Storage.{scope_slot, tracker_slot}, Frames.Measured}
 use Rattle.set_wellformed.specs.Parts.{TextureStored, extent_fits, every_none, every_next, every_at, every_also, scope_slot_fits}
 use Rattle.set_wellformed.specs.Parts.{scope_slots_fit}
 use Rattle.set_wellformed.specs.Unknowns.{itself, EndsReady, HalvesFit, ends_agree, tracker_slot_fits, tracker_slots_fit}
@@ -81,7 +82,8 @@ module _ (t r : List ℕ) (i : ℕ) where
     scope_extent = extents t i fit_extent
 
     -- and its ranges are the rest where it is
-    pub scope_many : every (ranges_fit (flags_of t) (get_or t (layers_at i) 0) 0) (mips_of (numbers_of t) start_half t r i) ≡ scope_slot_fits t r i
+    pub scope_many : every (ranges_fit (flags_of t) (get_or t (layers_at i) 0) 0) (mips_of (numbers_of t) start_half t r i)
+        ≡ scope_slot_fits t r i
     scope_many =
         rw (owned_many.0, fit_extent)
         (fits_many (flags_of t) (numbers_of t) start_half t r i (eqb-true _ _ (not-false _ owned_many.1)) scope_extent.0.high)
@@ -148,7 +150,8 @@ module _ (t : List ℕ) (n : ℕ) where
     pub scope_not : every (scope_word_fits t) (list_from itself 0 n) ≡ false → false ≡ scope_slots_fit t r n
     scope_not =
         not_every (every (scope_word_fits t) (list_from itself 0 n)) (scope_slots_fit t r n)
-        (every_also (slot_fits held_fits (numbers_of t) (flags_of t)) (scope_slot t r) (scope_word_fits t) itself n (λ i l. scope_word t r i))
+        (every_also (slot_fits held_fits (numbers_of t) (flags_of t)) (scope_slot t r)
+        (scope_word_fits t) itself n (λ i l. scope_word t r i))
 
     pub scope_all : every (scope_word_fits t) (list_from itself 0 n) ≡ true
         → every (scope_word_plain t) (list_from itself 0 n) ≡ true → true ≡ scope_slots_fit t r n

@@ -1,11 +1,11 @@
 -- Where start and end of a tracker's texture are exactly UNKNOWN, as the code tests it, and what it may take as tested before.
-use Rattle.std.specs.Prelude.{◌*◌, ◌≤◌, ◌<◌, ◌≡◌, if◌then◌else◌}
 use Rattle.model.specs.Prelude.{ℕ, Bool, true, not, List, leb, eqb, length, get_or}
-use Rattle.model.specs.{declared.{Range.Range, UsageFlags.UsageFlags}, Base.{every}, RangedStates.{layer_states, Tiles}}
+use Rattle.model.specs.{declared.{Range.Range, UsageFlags.UsageFlags}, Base.every, RangedStates.{layer_states, Tiles}}
 use Rattle.model.specs.{Subresources.subresources, WellFormed.{ranges_fit, held_fits, same_test, all₂, same_unknown, ends_fit, slot_fits}}
+use Rattle.std.specs.Prelude.{◌*◌, ◌≤◌, ◌<◌, ◌≡◌, if◌then◌else◌}
 use Rattle.range_states.specs.View.{decode}
-use Rattle.set_storage.specs.Storage.{tracker_slot, numbers_of, flags_of, extent_of, start_half, end_half, mip_of, mips_of, held_of, list_from}
-use Rattle.set_storage.specs.{Storage.{layers_at, mip_limit_at, mips_at}, Frames.MipReady}
+use Rattle.set_storage.specs.Storage.{tracker_slot, numbers_of, flags_of, extent_of, start_half, end_half, mip_of, mips_of, held_of}
+use Rattle.set_storage.specs.{Storage.{list_from, layers_at, mip_limit_at, mips_at}, Frames.MipReady}
 use Rattle.set_wellformed.specs.Parts.{TextureStored}
 
 -- two states are both exactly UNKNOWN, or neither is

@@ -1,7 +1,7 @@
 -- What the table alone tells of an index, as the pass over the words tests it.
-use Rattle.std.specs.Prelude.{◌+◌, ◌≡◌, ◌&&◌, ◌||◌}
 use Rattle.model.specs.Prelude.{ℕ, Bool, not, List, eqb, get_or}
 use Rattle.model.specs.{declared.UsageFlags.UsageFlags, Base.every, WellFormed.single_fits}
+use Rattle.std.specs.Prelude.{◌+◌, ◌≡◌, ◌&&◌, ◌||◌}
 use Rattle.set_storage.specs.Storage.{flags_of, start_half, end_half, list_from, layer_limit_at, layers_at, mip_limit_at, mips_at, owned_at}
 use Rattle.set_wellformed.specs.{declared.words.Words.Words, Parts.extent_fits, Proper.{single_proper, compatible}, Unknowns.itself}
 
@@ -28,7 +28,8 @@ abbrev pub scope_word_plain : List ℕ → ℕ → Bool
 scope_word_plain t i = plain_words (flags_of t) (get_or t (owned_at i) 0) (half_word start_half t i)
 
 abbrev pub scope_word_by : (UsageFlags → ℕ → Bool) → List ℕ → ℕ → Bool
-scope_word_by test t i = words_by test (flags_of t) (get_or t mip_limit_at 0) (get_or t layer_limit_at 0) (get_or t (owned_at i) 0) (get_or t (mips_at i) 0)
+scope_word_by test t i = words_by test (flags_of t) (get_or t mip_limit_at 0) (get_or t layer_limit_at 0)
+    (get_or t (owned_at i) 0) (get_or t (mips_at i) 0)
     (get_or t (layers_at i) 0) (half_word start_half t i)
 
 abbrev pub scope_word_fits : List ℕ → ℕ → Bool
@@ -57,7 +58,8 @@ abbrev pub tracker_word_plain : List ℕ → ℕ → Bool
 tracker_word_plain t i = plain_pair (flags_of t) (get_or t (owned_at i) 0) (half_word start_half t i) (half_word end_half t i)
 
 abbrev pub tracker_word_by : (UsageFlags → ℕ → Bool) → List ℕ → ℕ → Bool
-tracker_word_by test t i = pair_by test (flags_of t) (get_or t mip_limit_at 0) (get_or t layer_limit_at 0) (get_or t (owned_at i) 0) (get_or t (mips_at i) 0)
+tracker_word_by test t i = pair_by test (flags_of t) (get_or t mip_limit_at 0) (get_or t layer_limit_at 0)
+    (get_or t (owned_at i) 0) (get_or t (mips_at i) 0)
     (get_or t (layers_at i) 0) (half_word start_half t i) (half_word end_half t i)
 
 abbrev pub tracker_word_fits : List ℕ → ℕ → Bool

@@ -1,14 +1,14 @@
 -- The model's `barrier` of a stored texture, by what its word tells: Many, or one state.
-use Rattle.std.specs.Prelude.{◌+◌, ◌-◌, ◌≡◌, ◌∷◌, if◌then◌else◌}
 use Rattle.model.specs.Prelude.{ℕ, arith, refl, Bool, true, false, List, [], get_or}
-use Rattle.model.specs.{declared.{Range.Range, Selector.Selector, Extent.Extent, UsageFlags.UsageFlags}, Base.{each_at}}
+use Rattle.model.specs.{declared.{Range.Range, Selector.Selector, Extent.Extent, UsageFlags.UsageFlags}, Base.each_at}
 use Rattle.model.specs.{Representation.{full, mip_start, mip_end}, StateRules.move_of, CheckLaws.SelectorWithin}
 use Rattle.model.specs.Texture.{Given, given_single, given_many, from_held, single, many, entry, barrier}
+use Rattle.std.specs.Prelude.{◌+◌, ◌-◌, ◌≡◌, ◌∷◌, if◌then◌else◌}
 use Rattle.set_storage.specs.{Storage.{numbers_of, mip_of, list_from, held_of, complex_at}, Slots.{held_many, held_single}}
 use Rattle.set_storage.specs.Texture.{TextureHeld, texture_mips}
 use Rattle.texture_barrier.specs.{declared.mip.Step.TheVariants.From, Steps.step_entries}
-use Rattle.texture_barrier.specs.Textures.{piece, step_of, single_to_state, many_to_state, single_to_piece, many_to_piece}
-use Rattle.texture_barrier.specs.{Textures.{single_to_many, many_to_many}, Ready.{mips_entries, pair_entries}}
+use Rattle.texture_barrier.specs.Textures.{piece, step_of, single_to_state, many_to_state, single_to_piece, many_to_piece, single_to_many}
+use Rattle.texture_barrier.specs.{Textures.many_to_many, Ready.{mips_entries, pair_entries}}
 
 -- its word w against COMPLEX, with the flags as the code read them
 module _ {f g : UsageFlags} {w : ℕ} (e : f ≡ g) where
@@ -19,7 +19,8 @@ module _ {f g : UsageFlags} {w : ℕ} (e : f ≡ g) where
   told_single n z = n (rw e z)
 
 -- the ranges of a Many texture, as many mips as its extent has
-is_many_lem : {h : ℕ} {t r : List ℕ} {i : ℕ} {sh : Extent} → TextureHeld (numbers_of t) h t r i sh → get_or t (h + i) 0 ≡ get_or t complex_at 0
+is_many_lem : {h : ℕ} {t r : List ℕ} {i : ℕ} {sh : Extent} → TextureHeld (numbers_of t) h t r i sh
+    → get_or t (h + i) 0 ≡ get_or t complex_at 0
     → held_of (numbers_of t) h t r i ≡ many (list_from (mip_of (numbers_of t) h t r i) 0 sh.mips)
 is_many_lem {h} {t} {r} {i} {sh} q c =
     held_many (numbers_of t) h t r i (list_from (mip_of (numbers_of t) h t r i) 0 sh.mips) c (rw (texture_mips q.ready))

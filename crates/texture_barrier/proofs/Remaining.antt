@@ -1,7 +1,7 @@
 -- What a loop has left of texture i: the entries of a run's ranges from the one at k on, and those of its mips from mip m on.
-use Rattle.std.specs.Prelude.{◌+◌, ◌*◌, ◌-◌, ◌≤◌, ◌<◌, ◌≡◌}
 use Rattle.model.specs.Prelude.{ℕ, suc, add-one, arith, List, length, get_or, drop, slice_empty}
 use Rattle.model.specs.{declared.{PendingTransition.PendingTransition, Range.Range}, Base.{each, each_at}, Texture.Entry}
+use Rattle.std.specs.Prelude.{◌+◌, ◌*◌, ◌-◌, ◌≤◌, ◌<◌, ◌≡◌}
 use Rattle.range_states.specs.View.{view, blank, decode}
 use Rattle.set_storage.specs.Storage.{list_from}
 use Rattle.texture_barrier.specs.{Adds.{entries_at, entries_at_append, NextLeft, NoneLeft}, Mips.mips_next}
@@ -13,7 +13,8 @@ module _ (i : ℕ) (g : Range → List Entry) (run : List ℕ) (len : ℕ) where
   run_left k = entries_at i (each g (drop k (decode len run)))
 
   -- the range at k, and those behind it
-  pub run_next : {k : ℕ} {r : Range} → 3 * len ≤ length run → k < len → r ≡ get_or (view run) k blank → NextLeft run_left k (entries_at i (g r))
+  pub run_next : {k : ℕ} {r : Range} → 3 * len ≤ length run → k < len → r ≡ get_or (view run) k blank
+      → NextLeft run_left k (entries_at i (g r))
   run_next {k} {r} fits t e =
       record { is = rw (next_is run len k r fits t e) (entries_at_append i (g r) (each g (drop (k + 1) (decode len run)))) }
 

@@ -1,9 +1,10 @@
 -- What the functions over one texture may count on, and where the ranges of a mip are found.
-use Rattle.std.specs.Prelude.{◌+◌, ◌-◌, ◌≤◌, ◌<◌, ◌≡◌}
 use Rattle.model.specs.Prelude.{ℕ, arith, sym, List, length, get_or, take, drop, length-drop, length-take-le}
 use Rattle.model.specs.{declared.{Extent.Extent, Range.Range}, Base.each_at, Texture.Entry}
+use Rattle.std.specs.Prelude.{◌+◌, ◌-◌, ◌≤◌, ◌<◌, ◌≡◌}
 use Rattle.range_states.specs.View.{decode}
-use Rattle.set_storage.specs.{declared.Located.Located, Part.part_of, Storage.{numbers_of, mips_in, count_at, mip_of, list_from, complex_at}}
+use Rattle.set_storage.specs.{declared.Located.Located, Part.part_of}
+use Rattle.set_storage.specs.Storage.{numbers_of, mips_in, count_at, mip_of, list_from, complex_at}
 use Rattle.set_storage.specs.{Frames.{Measured, MipReady, mip_is, mips_top}, Locate.LocatedAt}
 use Rattle.set_storage.specs.Texture.{TextureHeld, tiles_few, texture_mips}
 use Rattle.texture_barrier.specs.Steps.{to_ranges, run_top, RunReady, PairReady}
@@ -25,7 +26,8 @@ abbrev pub pair_entries : ℕ → ℕ → ℕ → List ℕ → List ℕ → ℕ 
 pair_entries unknown mask h t r g u v i n = mips_entries (λ k s. to_ranges unknown mask (mip_of (numbers_of t) h t r i k) k s) g u v i 0 n
 
 -- ---- A texture that is Many
-pub ready : {h : ℕ} {t r : List ℕ} {i : ℕ} {sh : Extent} → TextureHeld (numbers_of t) h t r i sh → get_or t (h + i) 0 ≡ get_or t complex_at 0
+pub ready : {h : ℕ} {t r : List ℕ} {i : ℕ} {sh : Extent} → TextureHeld (numbers_of t) h t r i sh
+    → get_or t (h + i) 0 ≡ get_or t complex_at 0
     → (n : ℕ) → n ≤ sh.mips → Ready h t r i n
 ready {h} {t} {r} {i} {sh} q c n l =
     let x = q.ready in

@@ -1,8 +1,8 @@
 -- A texture becomes Many: its state tells COMPLEX, its mips are made anew, and those are changed by g.
-use Rattle.std.specs.Prelude.{◌+◌, ◌≡◌, ◌∷◌}
 use Rattle.model.specs.Prelude.{ℕ, arith, sym, ap, subst, ◌∙◌, List, [], get_or, set, replicate, get_or-set_same}
 use Rattle.model.specs.{declared.{UsageFlags.UsageFlags, Extent.Extent, Range.Range}, Sets.Numbers, RangedStates.range}
 use Rattle.model.specs.Texture.{many, fresh_mips}
+use Rattle.std.specs.Prelude.{◌+◌, ◌≡◌, ◌∷◌}
 use Rattle.set_storage.specs.{Storage.{numbers_of, flags_of, mips_of, complex_at, layers_at}, Stays.{HalfFrame, keeps_then}}
 use Rattle.set_storage.specs.{Frames.{MipsBecome, frame_below, half_of, half_word_lem}, Slots.{HalfBecomes, become_many, half_low}}
 use Rattle.set_storage.specs.Texture.{TextureReady, texture_then, texture_dims}
@@ -38,14 +38,18 @@ module _ {h i : ℕ} {sh : Extent} {p : UsageFlags} {t r : List ℕ} (u : Textur
     break_texture = texture_dims second
 
     pub break_many : ManyReady (numbers_of t₂) h t₂ r₂ i (get_or t₂ (layers_at i) 0)
-    break_many = subst (λ (d : Numbers). ManyReady d h t₂ r₂ i (get_or t₂ (layers_at i) 0)) (sym second.measured.dims) (fresh_many second st b₂.mips _ second.layers)
+    break_many = subst (λ (d : Numbers). ManyReady d h t₂ r₂ i (get_or t₂ (layers_at i) 0)) (sym second.measured.dims)
+        (fresh_many second st b₂.mips _ second.layers)
 
     -- the mips made anew, changed by g
-    pub break_then : {t₃ r₃ : List ℕ} (g : List (List Range) → List (List Range)) → MipsBecome (numbers_of t₂) h i (g (mips_of (numbers_of t₂) h t₂ r₂ i)) t₂ r₂ t₃ r₃ → HalfBecomes (numbers_of t) h i (many (g (fresh_mips sh st))) t r t₃ r₃
+    pub break_then : {t₃ r₃ : List ℕ} (g : List (List Range) → List (List Range))
+        → MipsBecome (numbers_of t₂) h i (g (mips_of (numbers_of t₂) h t₂ r₂ i)) t₂ r₂ t₃ r₃
+        → HalfBecomes (numbers_of t) h i (many (g (fresh_mips sh st))) t r t₃ r₃
     break_then {t₃} {r₃} g c =
         let c₂ : MipsBecome (numbers_of t) h i (g (mips_of (numbers_of t) h t₂ r₂ i)) t₂ r₂ t₃ r₃ =
         subst (λ (d : Numbers). MipsBecome d h i (g (mips_of d h t₂ r₂ i)) t₂ r₂ t₃ r₃) second.measured.dims c in
-        let k : get_or t₂ (h + i) 0 ≡ get_or t₂ complex_at 0 = frame_below b₂.frame (h + i) (omega (arith, u.measured.textures)) ∙ told ∙ sym (frame_below b₂.frame complex_at (omega (arith, u.measured.half.0))) in
+        let k : get_or t₂ (h + i) 0 ≡ get_or t₂ complex_at 0 = frame_below b₂.frame (h + i) (omega (arith, u.measured.textures)) ∙ told
+        ∙ sym (frame_below b₂.frame complex_at (omega (arith, u.measured.half.0))) in
         let x = become_many second.measured u.index k c₂ in
         record {
           held = x.held ∙ ap (λ (ss : List (List Range)). many (g ss)) b₂.mips;

@@ -1,19 +1,21 @@
 -- The loops over the ranges of a given mip, and over the given mips: what each lap needs, and where it leaves the storage.
-use Rattle.std.specs.Prelude.{◌+◌, ◌≤◌, ◌<◌, ◌≡◌}
 use Rattle.model.specs.Prelude.{ℕ, suc, add-one, arith, sym, subst, none, some, List, map, length, get_or, drop}
 use Rattle.model.specs.{declared.{UsageFlags.UsageFlags, Range.Range, InvalidUse.InvalidUse}, Base.{Stop, and_then, passes}}
 use Rattle.model.specs.{Representation.select, Texture.pieces_of}
+use Rattle.std.specs.Prelude.{◌+◌, ◌≤◌, ◌<◌, ◌≡◌}
 use Rattle.range_states.specs.View.{view, blank, decode}
 use Rattle.set_storage.specs.{declared.Located.Located, Storage.{numbers_of, mips_of, layers_at}, Locate.LocatedAt}
 use Rattle.texture_merge.specs.{declared.{Stopped.Stopped, Doing.Doing}, declared.Stopped.TheVariants.{Nowhere, At}}
 use Rattle.texture_merge.specs.{Walks.{stopped_of, MipsWalked}, Ready.{ManyReady, HalfTiled, Selects, lent_part}}
 use Rattle.texture_merge.specs.Giving.{taken, taken_tiled, passes_tiled, piece_on, pieces_from, passes_append, Giving, giving_start}
 use Rattle.texture_merge.specs.Giving.{giving_word, giving_ready, giving_turn, giving_stop, giving_end, GivenMip, GivenTexture}
-use Rattle.texture_merge.proofs.Given.{SameTexture, same_texture, range_none, range_next, range_inside, range_within, mips_none}
-use Rattle.texture_merge.proofs.Given.{mip_next, mip_tiles, mip_within}
+use Rattle.texture_merge.proofs.Given.{SameTexture, same_texture, range_none, range_next, range_inside, range_within, mips_none, mip_next}
+use Rattle.texture_merge.proofs.Given.{mip_tiles, mip_within}
 
 -- the texture at hand, where the loop has come to
-module _ {h i : ℕ} {goal : Stop InvalidUse (List (List Range))} {t₀ r₀ t r : List ℕ} {left : List (List Range) → Stop InvalidUse (List (List Range))} (m : ManyReady (numbers_of t₀) h t₀ r₀ i (get_or t₀ (layers_at i) 0)) (g : Giving h i (get_or t₀ (layers_at i) 0) goal t₀ r₀ left t r) where
+module _ {h i : ℕ} {goal : Stop InvalidUse (List (List Range))} {t₀ r₀ t r : List ℕ} {left : List (List Range)
+    → Stop InvalidUse (List (List Range))} (m : ManyReady (numbers_of t₀) h t₀ r₀ i (get_or t₀ (layers_at i) 0)) (g : Giving h i
+    (get_or t₀ (layers_at i) 0) goal t₀ r₀ left t r) where
   same : SameTexture t₀ t i
   same = same_texture t₀ t i (omega (arith, m.measured.textures, m.texture)) (giving_word m g)
 
@@ -21,12 +23,14 @@ module _ {h i : ℕ} {goal : Stop InvalidUse (List (List Range))} {t₀ r₀ t r
   lap_many = subst (λ (y : ℕ). ManyReady (numbers_of t) h t r i y) (sym same.layers) (giving_ready m g)
 
 -- ---- the ranges of one mip
-module _ {h i : ℕ} {t₀ r₀ : List ℕ} (m : ManyReady (numbers_of t₀) h t₀ r₀ i (get_or t₀ (layers_at i) 0)) {mip len : ℕ} {part : List ℕ} (q : GivenMip t₀ i mip part len) (doing : Doing) (p : UsageFlags) where
+module _ {h i : ℕ} {t₀ r₀ : List ℕ} (m : ManyReady (numbers_of t₀) h t₀ r₀ i (get_or t₀ (layers_at i) 0)) {mip len : ℕ} {part : List ℕ}
+    (q : GivenMip t₀ i mip part len) (doing : Doing) (p : UsageFlags) where
   abbrev give : List Range → List (List Range) → Stop InvalidUse (List (List Range))
   give rs = passes (taken doing p) (map (piece_on mip) rs)
 
   abbrev pub RangeLap : ℕ → List ℕ → List ℕ → Type 0
-  RangeLap k t r = Giving h i (get_or t₀ (layers_at i) 0) (give (decode len part) (mips_of (numbers_of t₀) h t₀ r₀ i)) t₀ r₀ (give (drop k (decode len part))) t r
+  RangeLap k t r = Giving h i (get_or t₀ (layers_at i) 0) (give (decode len part) (mips_of (numbers_of t₀) h t₀ r₀ i)) t₀ r₀
+      (give (drop k (decode len part))) t r
 
   pub range_start : RangeLap 0 t₀ r₀
   range_start = giving_start m (give (decode len part))
@@ -42,31 +46,38 @@ module _ {h i : ℕ} {t₀ r₀ : List ℕ} (m : ManyReady (numbers_of t₀) h t
       abbrev one : List (List Range) → Stop InvalidUse (List (List Range))
       one = taken doing p (piece_on mip x)
 
-      splits : (ss : List (List Range)) → give (drop k (decode len part)) ss ≡ and_then (one ss).conflict (one ss).value (give (drop (k + 1) (decode len part)) (one ss).value)
+      splits : (ss : List (List Range))
+          → give (drop k (decode len part)) ss
+          ≡ and_then (one ss).conflict (one ss).value (give (drop (k + 1) (decode len part)) (one ss).value)
       splits ss = rw (range_next q k b e)
 
       module _ {z : Stopped} {t' r' : List ℕ} (s : MipsWalked (numbers_of t) h i (one (mips_of (numbers_of t) h t r i)) t r z t' r') where
         pub range_turn : stopped_of z ≡ none → RangeLap (k + 1) t' r'
         range_turn n =
             giving_turn m w one _ splits s n
-            (taken_tiled doing p (piece_on mip x) (get_or t₀ (layers_at i) 0) (mips_of (numbers_of t₀) h t r i) (range_inside q k b e).0 (range_inside q k b e).1 w.tiled)
+            (taken_tiled doing p (piece_on mip x) (get_or t₀ (layers_at i) 0) (mips_of (numbers_of t₀) h t r i) (range_inside q k b e).0
+            (range_inside q k b e).1 w.tiled)
 
-        pub range_stop : (c : InvalidUse) → stopped_of z ≡ some c → MipsWalked (numbers_of t₀) h i (give (decode len part) (mips_of (numbers_of t₀) h t₀ r₀ i)) t₀ r₀ (At c) t' r'
+        pub range_stop : (c : InvalidUse) → stopped_of z ≡ some c
+            → MipsWalked (numbers_of t₀) h i (give (decode len part) (mips_of (numbers_of t₀) h t₀ r₀ i)) t₀ r₀ (At c) t' r'
         range_stop c n = giving_stop m w one (give (drop (k + 1) (decode len part))) splits s c n
 
 -- ---- the mips of a texture
-module _ {h i : ℕ} {t₀ r₀ : List ℕ} (m : ManyReady (numbers_of t₀) h t₀ r₀ i (get_or t₀ (layers_at i) 0)) {mips from : ℕ} {t₂ r₂ : List ℕ} (q : GivenTexture t₀ i mips from t₂ r₂) (doing : Doing) (p : UsageFlags) where
+module _ {h i : ℕ} {t₀ r₀ : List ℕ} (m : ManyReady (numbers_of t₀) h t₀ r₀ i (get_or t₀ (layers_at i) 0)) {mips from : ℕ} {t₂ r₂ : List ℕ}
+    (q : GivenTexture t₀ i mips from t₂ r₂) (doing : Doing) (p : UsageFlags) where
   abbrev gs : List (List Range)
   gs = mips_of (numbers_of t₂) from t₂ r₂ i
 
   abbrev pub MipLap : ℕ → List ℕ → List ℕ → Type 0
-  MipLap k t r = Giving h i (get_or t₀ (layers_at i) 0) (passes (taken doing p) (pieces_of gs) (mips_of (numbers_of t₀) h t₀ r₀ i)) t₀ r₀ (passes (taken doing p) (pieces_from k (drop k gs))) t r
+  MipLap k t r = Giving h i (get_or t₀ (layers_at i) 0) (passes (taken doing p) (pieces_of gs) (mips_of (numbers_of t₀) h t₀ r₀ i)) t₀ r₀
+      (passes (taken doing p) (pieces_from k (drop k gs))) t r
 
   pub mip_start_lem : MipLap 0 t₀ r₀
   mip_start_lem = giving_start m (passes (taken doing p) (pieces_from 0 gs))
 
   module _ {k : ℕ} {t r : List ℕ} (w : MipLap k t r) where
-    pub mip_done : mips ≤ k → MipsWalked (numbers_of t₀) h i (passes (taken doing p) (pieces_of gs) (mips_of (numbers_of t₀) h t₀ r₀ i)) t₀ r₀ Nowhere t r
+    pub mip_done : mips ≤ k
+        → MipsWalked (numbers_of t₀) h i (passes (taken doing p) (pieces_of gs) (mips_of (numbers_of t₀) h t₀ r₀ i)) t₀ r₀ Nowhere t r
     mip_done b = giving_end m w (λ ss. rw (mips_none q k b))
 
     module _ (b : k < mips) {x : Located} (l : LocatedAt t₂ from i k (length r₂) x) where
@@ -76,14 +87,19 @@ module _ {h i : ℕ} {t₀ r₀ : List ℕ} (m : ManyReady (numbers_of t₀) h t
       abbrev whole : List (List Range) → Stop InvalidUse (List (List Range))
       whole = passes (taken doing p) (map (piece_on k) (decode x.len (lent_part x r₂)))
 
-      mip_splits : (ss : List (List Range)) → passes (taken doing p) (pieces_from k (drop k gs)) ss ≡ and_then (whole ss).conflict (whole ss).value (passes (taken doing p) (pieces_from (k + 1) (drop (k + 1) gs)) (whole ss).value)
-      mip_splits ss = rw (mip_next q k b l, add-one) (passes_append (taken doing p) (map (piece_on k) (decode x.len (lent_part x r₂))) (pieces_from (suc k) (drop (suc k) gs)) ss)
+      mip_splits : (ss : List (List Range))
+          → passes (taken doing p) (pieces_from k (drop k gs)) ss
+          ≡ and_then (whole ss).conflict (whole ss).value (passes (taken doing p) (pieces_from (k + 1) (drop (k + 1) gs)) (whole ss).value)
+      mip_splits ss = rw (mip_next q k b l, add-one) (passes_append (taken doing p) (map (piece_on k) (decode x.len (lent_part x r₂)))
+          (pieces_from (suc k) (drop (suc k) gs)) ss)
 
       module _ {z : Stopped} {t' r' : List ℕ} (s : MipsWalked (numbers_of t) h i (whole (mips_of (numbers_of t) h t r i)) t r z t' r') where
         pub mip_turn : stopped_of z ≡ none → MipLap (k + 1) t' r'
         mip_turn n =
             giving_turn m w whole _ mip_splits s n
-            (passes_tiled doing p k (get_or t₀ (layers_at i) 0) (decode x.len (lent_part x r₂)) 0 (mips_of (numbers_of t₀) h t r i) (mip_tiles q k b l) w.tiled)
+            (passes_tiled doing p k (get_or t₀ (layers_at i) 0) (decode x.len (lent_part x r₂)) 0
+            (mips_of (numbers_of t₀) h t r i) (mip_tiles q k b l) w.tiled)
 
-        pub mip_stop : (c : InvalidUse) → stopped_of z ≡ some c → MipsWalked (numbers_of t₀) h i (passes (taken doing p) (pieces_of gs) (mips_of (numbers_of t₀) h t₀ r₀ i)) t₀ r₀ (At c) t' r'
+        pub mip_stop : (c : InvalidUse) → stopped_of z ≡ some c
+            → MipsWalked (numbers_of t₀) h i (passes (taken doing p) (pieces_of gs) (mips_of (numbers_of t₀) h t₀ r₀ i)) t₀ r₀ (At c) t' r'
         mip_stop c n = giving_stop m w whole (passes (taken doing p) (pieces_from (k + 1) (drop (k + 1) gs))) mip_splits s c n

@@ -1,12 +1,12 @@
 -- The pieces of another texture, given one after another to the mips of a texture in storage: what is left to give decides.
-use Rattle.std.specs.Prelude.{◌*◌, ◌≤◌, ◌<◌, ◌≡◌, ◌∷◌, ◌++◌}
-use Rattle.model.specs.Prelude.{ℕ, zero, suc, arith, refl, sym, ap, subst, ◌∙◌, Bool, true, false, Option, none, some}
-use Rattle.model.specs.Prelude.{Option_map, List, [], map, length, get_or}
+use Rattle.model.specs.Prelude.{ℕ, zero, suc, arith, refl, sym, ap, subst, ◌∙◌, Bool, true, false, Option, none, some, Option_map, List, []}
+use Rattle.model.specs.Prelude.{map, length, get_or}
 use Rattle.model.specs.declared.{UsageFlags.UsageFlags, Selector.Selector, Range.Range, InvalidUse.InvalidUse}
 use Rattle.model.specs.{Base.{each_at, Stop, fine, ruled, and_then, onward, passes, walk}, StateRules.{unite, end_after}, Sets.Numbers}
 use Rattle.model.specs.{Representation.{select, layer_start, layer_end, in_mips}, RangedStates.{paint, Tiles}}
 use Rattle.model.specs.{Texture.{Piece, on_mips, paint_all, spread_piece, spread_end, merge_mip, invalid_use}, BoolLaws.by_test}
 use Rattle.model.specs.RangeLaws.{paint_tiles, tiles_le}
+use Rattle.std.specs.Prelude.{◌*◌, ◌≤◌, ◌<◌, ◌≡◌, ◌∷◌, ◌++◌}
 use Rattle.range_states.specs.View.{decode}
 use Rattle.texture_mips.specs.{Merge.{merge_mip_lem, merge_other}, Kept.{run_tiles, update_tiles}}
 use Rattle.set_storage.specs.{Storage.{numbers_of, mips_in, mips_of, layers_at, start_half}, Stays.{Frame, keeps_refl, keeps_then}}
@@ -157,7 +157,8 @@ module _ {h i layers : ℕ} {t r : List ℕ} (m : ManyReady (numbers_of t) h t r
   giving_start left = record { ends = refl; frame = keeps_refl t r; tiled = many_tiled m }
 
 module _ {h i layers : ℕ} {goal : Stop InvalidUse (List (List Range))} {t₀ r₀ t r : List ℕ} {left : List (List Range)
-    → Stop InvalidUse (List (List Range))} (m : ManyReady (numbers_of t₀) h t₀ r₀ i layers) (g : Giving h i layers goal t₀ r₀ left t r) where
+    → Stop InvalidUse (List (List Range))} (m : ManyReady (numbers_of t₀) h t₀ r₀ i layers) (g : Giving h i
+    layers goal t₀ r₀ left t r) where
   dims : numbers_of t ≡ numbers_of t₀
   dims = (measured_then m.measured g.frame).dims
 
@@ -180,7 +181,8 @@ module _ {h i layers : ℕ} {goal : Stop InvalidUse (List (List Range))} {t₀ r
         → and_then c (mips_of (numbers_of t₀) h t' r' i) (next (mips_of (numbers_of t₀) h t' r' i)) ≡ goal
     rest c e = rw (← e, here.conflict, here.into.mips) (sym (splits (mips_of (numbers_of t₀) h t r i)) ∙ g.ends)
 
-    pub giving_turn : stopped_of x ≡ none → Tiled layers (f (mips_of (numbers_of t₀) h t r i)).value → Giving h i layers goal t₀ r₀ next t' r'
+    pub giving_turn : stopped_of x ≡ none → Tiled layers (f (mips_of (numbers_of t₀) h t r i)).value
+        → Giving h i layers goal t₀ r₀ next t' r'
     giving_turn e k = record {
       ends = rest none e;
       frame = keeps_then g.frame here.into.frame;

@@ -1,16 +1,16 @@
 -- What the code needs of a mip, or of all mips of a texture, to change it in place, and what it leaves: the part of the ranges that is lent
 -- on.
-use Rattle.std.specs.Prelude.{◌+◌, ◌*◌, ◌-◌, ◌≤◌, ◌<◌, ◌≡◌, ◌∷◌, ◌++◌}
-use Rattle.model.specs.Prelude.{ℕ, arith, sym, ap, subst, ◌∙◌, List, [], length, get_or, set, take}
-use Rattle.model.specs.Prelude.{drop, get_or-replicate}
-use Rattle.model.specs.{declared.{Extent.Extent, Range.Range, Selector.Selector}, Representation.{mip_start, mip_end, layer_start, layer_end}}
-use Rattle.model.specs.{Sets.Numbers, RangedStates.{range, coalesce, paint, Tiles}, Texture.{on_mips, fresh_mips}, CheckLaws.SelectorWithin}
+use Rattle.model.specs.Prelude.{ℕ, arith, sym, ap, subst, ◌∙◌, List, [], length, get_or, set, take, drop, get_or-replicate}
+use Rattle.model.specs.declared.{Extent.Extent, Range.Range, Selector.Selector}
+use Rattle.model.specs.{Representation.{mip_start, mip_end, layer_start, layer_end}, Sets.Numbers}
+use Rattle.model.specs.{RangedStates.{range, coalesce, paint, Tiles}, Texture.{on_mips, fresh_mips}, CheckLaws.SelectorWithin}
 use Rattle.model.specs.RangeLaws.{tiles_one}
+use Rattle.std.specs.Prelude.{◌+◌, ◌*◌, ◌-◌, ◌≤◌, ◌<◌, ◌≡◌, ◌∷◌, ◌++◌}
 use Rattle.range_states.specs.View.{decode}
 use Rattle.range_isolate.specs.{Isolation.IsolateRoom, Tiling.isolate_room}
 use Rattle.set_storage.specs.{declared.Located.Located, Part.{base_of, part_of, part_length}}
-use Rattle.set_storage.specs.Storage.{numbers_of, mips_in, count_at, mip_part, mip_of, mips_of, end_half, complex_at, layer_limit_at, layers_at}
-use Rattle.set_storage.specs.{Storage.mip_limit_at, Frames.{Measured, MipsBecome, MipReady, mip_is, mip_at, mip_put, room_of}}
+use Rattle.set_storage.specs.Storage.{numbers_of, mips_in, count_at, mip_part, mip_of, mips_of, end_half, complex_at, layer_limit_at}
+use Rattle.set_storage.specs.{Storage.{layers_at, mip_limit_at}, Frames.{Measured, MipsBecome, MipReady, mip_is, mip_at, mip_put, room_of}}
 use Rattle.set_storage.specs.{Locate.LocatedAt, Texture.{TextureReady, TextureHeld, tiles_few, texture_mips}}
 
 -- the mips once what a selector names took a state: the others stay, and each of these is coalesced
@@ -47,11 +47,13 @@ module _ {t r : List ℕ} {h i m : ℕ} (q : MipReady (numbers_of t) h t r i m) 
 
   pub part_long : length (lent_part x r) ≡ 3 * get_or t layer_limit_at 0
   part_long = ap length part_is
-      ∙ part_length r (base_of i m (get_or t mip_limit_at 0) (get_or t layer_limit_at 0)) (3 * get_or t layer_limit_at 0) (room_of q.measured i m
+      ∙ part_length r (base_of i m (get_or t mip_limit_at 0)
+      (get_or t layer_limit_at 0)) (3 * get_or t layer_limit_at 0) (room_of q.measured i m
       q.texture (omega (arith, q.mip, q.top)))
 
   -- what a function leaves in the part, n ranges, is the texture's mip m
-  pub mip_left : (n : ℕ) (p : List ℕ) (xs : List Range) → length p ≡ length (lent_part x r) → 3 * n ≤ length (lent_part x r) → decode n p ≡ xs
+  pub mip_left : (n : ℕ) (p : List ℕ) (xs : List Range) → length p ≡ length (lent_part x r)
+      → 3 * n ≤ length (lent_part x r) → decode n p ≡ xs
       → MipsBecome (numbers_of t) h i (set (mips_of (numbers_of t) h t r i) m xs) t r (set t (count_at h i m) n) (put_back x r p)
   mip_left n p xs long fits seen = mip_put q x.base (x.end - x.base) n p xs l.base l.size long
       (omega (arith, part_long, l.size)) seen

@@ -1,12 +1,11 @@
 -- One use of a texture, in one half: what is asked for, and the contracts of `insert` and `merge`.
-use Rattle.std.specs.Prelude.{◌+◌, ◌≡◌, ◌∷◌, if◌then◌else◌}
-use Rattle.model.specs.Prelude.{ℕ, arith, refl, sym, ap, Bool, true, false, false≢true, Option, none, some, List, [], bit_or}
-use Rattle.model.specs.Prelude.{get_or}
+use Rattle.model.specs.Prelude.{ℕ, arith, refl, sym, ap, Bool, true, false, false≢true, Option, none, some, List, [], bit_or, get_or}
 use Rattle.model.specs.declared.{UsageFlags.UsageFlags, Extent.Extent, Selector.Selector, Range.Range, InvalidUse.InvalidUse}
-use Rattle.model.specs.{Base.{Stop, fine, stopped, and_then, walk}, StateRules.{invalid_state, unite}, Sets.Numbers}
-use Rattle.model.specs.{Representation.full, CheckLaws.SelectorWithin}
-use Rattle.model.specs.Texture.{Held, single, many, Given, given_single, given_many, fresh_mips, spread_piece, merge_mip, merge_every, invalid_use}
-use Rattle.model.specs.Texture.{as_many, merge}
+use Rattle.model.specs.{Base.{Stop, fine, stopped, and_then, walk}, StateRules.{invalid_state, unite}, Sets.Numbers, Representation.full}
+use Rattle.model.specs.CheckLaws.{SelectorWithin}
+use Rattle.model.specs.Texture.{Held, single, many, Given, given_single, given_many, fresh_mips, spread_piece, merge_mip, merge_every}
+use Rattle.model.specs.Texture.{invalid_use, as_many, merge}
+use Rattle.std.specs.Prelude.{◌+◌, ◌≡◌, ◌∷◌, if◌then◌else◌}
 use Rattle.set_storage.specs.{Storage.{numbers_of, flags_of, complex_at}, Slots.HalfBecomes, Texture.{TextureReady, RangesTile}}
 use Rattle.texture_merge.specs.{declared.Stopped.Stopped, Walks.stopped_of, Ready.updated_mips}
 

@@ -1,14 +1,14 @@
 -- A Single texture of a tracker, where the given set holds a Single one: its transitions and what it becomes.
-use Rattle.std.specs.Prelude.{◌+◌, ◌≡◌}
 use Rattle.model.specs.Prelude.{ℕ, sym, ap, ◌∙◌, true, not, List, eqb, get_or, set, ne_eqb, eqb-false, not-true}
 use Rattle.model.specs.{declared.UsageFlags.UsageFlags, Texture.barrier, BoolLaws.and_both as both}
-use Rattle.set_storage.specs.{Storage.{numbers_of, end_half, complex_at, owned_at, state_at, tracker_slot}, Stays.OnlyOwned, Slots.held_single}
+use Rattle.std.specs.Prelude.{◌+◌, ◌≡◌}
+use Rattle.set_storage.specs.{Storage.{numbers_of, end_half, complex_at, owned_at, state_at, tracker_slot}, Stays.OnlyOwned}
+use Rattle.set_storage.specs.Slots.{held_single}
 use Rattle.texture_update.specs.FromSet.{from_use_lem}
 use Rattle.set_ready.specs.{Half.half_held, Given.{given_at, given_update, where_owned, only_owned_lem}}
 use Rattle.texture_track.specs.Slot.{SlotSet, tracker_old, tracker_named}
 use Rattle.texture_track.specs.GivenSlot.{SetsAt, both_single, slot_after, given_entries, single_entry}
-use Rattle.texture_update.proofs.Cases.{all_single}
-use Rattle.texture_update.proofs.SetCases.{state_given}
+use Rattle.texture_update.proofs.{Cases.all_single, SetCases.state_given}
 
 -- what the test of the words tells
 module _ (t g : List ℕ) (h i : ℕ) (e : both_single t g h i ≡ true) where
@@ -19,7 +19,8 @@ module _ (t g : List ℕ) (h i : ℕ) (e : both_single t g h i ≡ true) where
   end_single = eqb-false _ _ (not-true _ (both (not (eqb (get_or g (h + i) 0) (get_or g complex_at 0))) _ e).1)
 
 pub plain_entries : (p : UsageFlags) (mask : ℕ) (t e : List ℕ) (from : ℕ) (g a : List ℕ) (i : ℕ) → (get_or g (owned_at i) 0 ≡ 0 → ⊥)
-    → (get_or t (owned_at i) 0 ≡ 0 → ⊥) → both_single t g from i ≡ true → given_entries p mask t e from g a i ≡ single_entry p mask t from g i
+    → (get_or t (owned_at i) 0 ≡ 0 → ⊥) → both_single t g from i ≡ true
+    → given_entries p mask t e from g a i ≡ single_entry p mask t from g i
 unfolding barrier
 plain_entries p mask t e from g a i o q s =
     rw (

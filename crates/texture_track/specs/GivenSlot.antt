@@ -1,8 +1,8 @@
 -- One texture of a tracker and what a given set holds at its index: the transitions, and what is asked for where the set owns the index.
-use Rattle.std.specs.Prelude.{◌+◌, ◌≡◌, ◌&&◌, if◌then◌else◌}
 use Rattle.model.specs.Prelude.{ℕ, Bool, not, List, [], eqb, get_or}
-use Rattle.model.specs.{declared.{UsageFlags.UsageFlags, Extent.Extent}, Representation.{Ends, full}, StateRules.move_of}
-use Rattle.model.specs.{Sets.Slot, Calls.set_given, Texture.{Held, Given, Entry, entry, from_held, barrier, ranged}}
+use Rattle.model.specs.{declared.{UsageFlags.UsageFlags, Extent.Extent}, Representation.{Ends, full}, StateRules.move_of, Sets.Slot}
+use Rattle.model.specs.{Calls.set_given, Texture.{Held, Given, Entry, entry, from_held, barrier, ranged}}
+use Rattle.std.specs.Prelude.{◌+◌, ◌≡◌, ◌&&◌, if◌then◌else◌}
 use Rattle.set_storage.specs.Storage.{numbers_of, flags_of, extent_of, owned_of, end_half, held_of, slot_with, complex_at}
 use Rattle.set_ready.specs.{Half.{HalfReady, BothReady}, Given.{given_at, HalfGiven, WhereOwned}}
 
@@ -39,7 +39,8 @@ given_entries p mask t e from g a i = if owned_of g i then end_entries p mask (e
 
 -- both hold it as Single: the half h of the given set and the tracker's end
 abbrev pub both_single : List ℕ → List ℕ → ℕ → ℕ → Bool
-both_single t g h i = not (eqb (get_or g (h + i) 0) (get_or g complex_at 0)) && not (eqb (get_or t (end_half + i) 0) (get_or t complex_at 0))
+both_single t g h i = not (eqb (get_or g (h + i) 0) (get_or g complex_at 0))
+    && not (eqb (get_or t (end_half + i) 0) (get_or t complex_at 0))
 
 -- and then its transition
 abbrev pub single_entry : UsageFlags → ℕ → List ℕ → ℕ → List ℕ → ℕ → List Entry

@@ -1,9 +1,9 @@
 -- `update` from a texture of another set, case by case: what the code leaves is what the model's update gives.
-use Rattle.std.specs.Prelude.{◌+◌, ◌≡◌, ◌∷◌}
 use Rattle.model.specs.Prelude.{ℕ, suc, arith, sym, ap, subst, ◌∙◌, List, [], get_or, set, replicate}
 use Rattle.model.specs.{declared.{UsageFlags.UsageFlags, Extent.Extent, Range.Range, InvalidUse.InvalidUse}, Base.{Stop, passes}}
 use Rattle.model.specs.{Representation.Ends, RangedStates.range}
 use Rattle.model.specs.{Texture.{Held, single, Given, given_single, pieces_of, from_held, spread_end, update}, BoolLaws.by_eq}
+use Rattle.std.specs.Prelude.{◌+◌, ◌≡◌, ◌∷◌}
 use Rattle.set_storage.specs.{Storage.{numbers_of, start_half, end_half, mips_of, held_of, ends_of, layers_at, state_at}, Frames.MipsBecome}
 use Rattle.texture_merge.specs.{declared.Stopped.Stopped, declared.Doing.TheVariants.Cover, Walks.MipsWalked, Ready.ManyReady}
 use Rattle.texture_merge.specs.{Giving.{taken, covers, GivenTexture, many_tiled}, FromSet.{given_state_lem, given_pieces, given_many_lem}}
@@ -13,7 +13,8 @@ use Rattle.texture_update.specs.FromSet.{UpdateFromReady, from_use_lem, pieces_s
 use Rattle.texture_merge.proofs.Breaking.{break_many, break_texture, break_then}
 use Rattle.texture_update.proofs.Cases as cases
 
-module _ {t s e : List ℕ} {i : ℕ} {sh : Extent} {from : ℕ} {t₂ r₂ : List ℕ} {p : UsageFlags} (x : UpdateFromReady t s e i sh from t₂ r₂ p) where
+module _ {t s e : List ℕ} {i : ℕ} {sh : Extent} {from : ℕ} {t₂ r₂ : List ℕ} {p : UsageFlags}
+    (x : UpdateFromReady t s e i sh from t₂ r₂ p) where
   abbrev gs : List (List Range)
   gs = mips_of (numbers_of t₂) from t₂ r₂ i
 
@@ -25,7 +26,9 @@ module _ {t s e : List ℕ} {i : ℕ} {sh : Extent} {from : ℕ} {t₂ r₂ : Li
   any = from_use_lem x (suc p.complex) (λ z. omega arith)
 
   -- ---- the given texture is Single
-  pub state_given : {t' s' e' : List ℕ} → (get_or t₂ (from + i) 0 ≡ p.complex → ⊥) → BothBecome (numbers_of t) i (update p sh (ends_of (numbers_of t) t s e i) (given_single (get_or t₂ (from + i) 0))) t s e t' s' e' → BothBecome (numbers_of t) i (update p sh (ends_of (numbers_of t) t s e i) given) t s e t' s' e'
+  pub state_given : {t' s' e' : List ℕ} → (get_or t₂ (from + i) 0 ≡ p.complex → ⊥)
+      → BothBecome (numbers_of t) i (update p sh (ends_of (numbers_of t) t s e i) (given_single (get_or t₂ (from + i) 0))) t s e t' s' e'
+      → BothBecome (numbers_of t) i (update p sh (ends_of (numbers_of t) t s e i) given) t s e t' s' e'
   state_given {t'} {s'} {e'} c b =
       subst (λ (g : Given). BothBecome (numbers_of t) i (update p sh (ends_of (numbers_of t) t s e i) g) t s e t' s' e')
       (sym (given_state_lem x.given c)) b
@@ -49,24 +52,37 @@ module _ {t s e : List ℕ} {i : ℕ} {sh : Extent} {from : ℕ} {t₂ r₂ : Li
           some = rw x.start.ready.layers x.start.ready.some;
           low = rw x.start.ready.layers x.start.ready.low;
           flags = x.flags;
-          tiled = record { start = start_tiled; end = subst (λ (y : Held). ManyTiled (get_or t (layers_at i) 0) y) (sym (cases.end_many any m)) (many_tiled (end_many any m)) };
+          tiled = record {
+            start = start_tiled;
+            end = subst (λ (y : Held). ManyTiled (get_or t (layers_at i) 0) y)
+                (sym (cases.end_many any m)) (many_tiled (end_many any m));
+          };
         },
         given_many_lem x.given c x.end.ready,
       )
 
-      pub pieces_done : {t' s' e' : List ℕ} → BothBecome (numbers_of t) i (updates p.unknown (pieces_of gs) (ends_of (numbers_of t) t s e i)) t s e t' s' e' → BothBecome (numbers_of t) i (update p sh (ends_of (numbers_of t) t s e i) given) t s e t' s' e'
+      pub pieces_done : {t' s' e' : List ℕ}
+          → BothBecome (numbers_of t) i (updates p.unknown (pieces_of gs) (ends_of (numbers_of t) t s e i)) t s e t' s' e'
+          → BothBecome (numbers_of t) i (update p sh (ends_of (numbers_of t) t s e i) given) t s e t' s' e'
       pieces_done {t'} {s'} {e'} b =
           subst (λ (y : Ends Held). BothBecome (numbers_of t) i y t s e t' s' e')
-          (rw (given_pieces x.given c, cases.end_many any m) (sym (pieces_many p sh (pieces_of gs) (held_of (numbers_of t) start_half t s i) (mips_of (numbers_of t) end_half t e i)))) b
+          (rw (given_pieces x.given c, cases.end_many any m)
+          (sym (pieces_many p sh (pieces_of gs) (held_of (numbers_of t) start_half t s i) (mips_of (numbers_of t) end_half t e i)))) b
 
     -- the end is Single: it is broken up, and covered by the pieces
-    module _ {cur : ℕ} (z : cur ≡ get_or t (state_at end_half i) 0) (n : cur ≡ p.complex → ⊥) {t₃ e₃ : List ℕ} (b : MipsBecome (numbers_of (set t (state_at end_half i) p.complex)) end_half i (replicate sh.mips (range 0 sh.layers cur ∷ [])) (set t (state_at end_half i) p.complex) e t₃ e₃) where
+    module _ {cur : ℕ} (z : cur ≡ get_or t (state_at end_half i) 0) (n : cur ≡ p.complex → ⊥) {t₃ e₃ : List ℕ}
+        (b : MipsBecome (numbers_of (set t (state_at end_half i) p.complex)) end_half i (replicate sh.mips (range 0 sh.layers cur ∷ []))
+        (set t (state_at end_half i) p.complex) e t₃ e₃) where
       pub cover_ready : ManyReady (numbers_of t₃) end_half t₃ e₃ i (get_or t₃ (layers_at i) 0) × GivenTexture t₃ i sh.mips from t₂ r₂
       cover_ready = (break_many x.end.ready x.flags cur b, given_many_lem x.given c (break_texture x.end.ready x.flags cur b))
 
-      pub cover_done : {y : Stopped} {t₄ e₄ : List ℕ} → MipsWalked (numbers_of t₃) end_half i (passes (taken (Cover cur) p) (pieces_of gs) (mips_of (numbers_of t₃) end_half t₃ e₃ i)) t₃ e₃ y t₄ e₄ → BothBecome (numbers_of t) i (update p sh (ends_of (numbers_of t) t s e i) given) t s e t₄ s e₄
+      pub cover_done : {y : Stopped} {t₄ e₄ : List ℕ}
+          → MipsWalked (numbers_of t₃) end_half i (passes (taken (Cover cur) p) (pieces_of gs)
+          (mips_of (numbers_of t₃) end_half t₃ e₃ i)) t₃ e₃ y t₄ e₄
+          → BothBecome (numbers_of t) i (update p sh (ends_of (numbers_of t) t s e i) given) t s e t₄ s e₄
       cover_done {y} {t₄} {e₄} w =
-          let v = subst (λ (k : Stop InvalidUse (List (List Range))). MipsBecome (numbers_of t₃) end_half i k.value t₃ e₃ t₄ e₄) (covers p cur (pieces_of gs) (mips_of (numbers_of t₃) end_half t₃ e₃ i)) w.into in
+          let v = subst (λ (k : Stop InvalidUse (List (List Range))). MipsBecome (numbers_of t₃) end_half i k.value t₃ e₃ t₄ e₄)
+          (covers p cur (pieces_of gs) (mips_of (numbers_of t₃) end_half t₃ e₃ i)) w.into in
           cases.ended any given (cases.end_single any (λ k. n (z ∙ k)) ∙ ap single (sym z))
           (rw (given_pieces x.given c) (pieces_single p sh (pieces_of gs) (held_of (numbers_of t) start_half t s i) cur))
           (break_then x.end.ready x.flags cur b (spread_end p.unknown cur (pieces_of gs)) v)

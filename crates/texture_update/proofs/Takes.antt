@@ -1,30 +1,32 @@
 -- The loops over the ranges of a given mip, and over the given mips, on both halves: what each lap needs, and where it leaves the storage.
-use Rattle.std.specs.Prelude.{◌+◌, ◌≤◌, ◌<◌, ◌≡◌, ◌∷◌}
-use Rattle.model.specs.Prelude.{ℕ, suc, add-one, arith, refl, sym, ap, subst, ◌∙◌, List, [], map, length, get_or}
-use Rattle.model.specs.Prelude.{drop}
+use Rattle.model.specs.Prelude.{ℕ, suc, add-one, arith, refl, sym, ap, subst, ◌∙◌, List, [], map, length, get_or, drop}
 use Rattle.model.specs.{declared.{UsageFlags.UsageFlags, Range.Range}, Sets.Numbers, Representation.{Ends, select}, RangedStates.Tiles}
 use Rattle.model.specs.{Texture.{Held, pieces_of}, RangeLaws.tiles_le}
+use Rattle.std.specs.Prelude.{◌+◌, ◌≤◌, ◌<◌, ◌≡◌, ◌∷◌}
 use Rattle.range_states.specs.View.{view, blank, decode}
 use Rattle.set_storage.specs.declared.{Located.Located}
 use Rattle.set_storage.specs.Storage.{numbers_of, start_half, end_half, mips_of, ends_of, layers_at, layer_limit_at, textures_at}
 use Rattle.set_storage.specs.{Frames.{Measured, mips_top}, Locate.LocatedAt, Stays.{BothFrame, both_refl, both_then}}
 use Rattle.set_storage.specs.Texture.{measured_low, numbers_low, flags_low}
 use Rattle.texture_merge.specs.{Ready.{Selects, lent_part}, Giving.{piece_on, pieces_from, GivenMip, GivenTexture}}
-use Rattle.texture_update.specs.Both.{BothBecome, low_of}
-use Rattle.texture_update.specs.Pieces.{updated, updates, updates_append, EndsTiled, updated_tiled, PairReady}
-use Rattle.texture_merge.proofs.Given.{SameTexture, same_texture, range_none, range_next, range_inside, range_within, mips_none, mip_next, mip_within}
+use Rattle.texture_update.specs.{Both.{BothBecome, low_of}, Pieces.{updated, updates, updates_append, EndsTiled, updated_tiled, PairReady}}
+use Rattle.texture_merge.proofs.Given.{SameTexture, same_texture, range_none, range_next, range_inside, range_within, mips_none, mip_next}
+use Rattle.texture_merge.proofs.Given.{mip_within}
 
 -- ---- The storage on the way: `left` is what is still to be done
-pub record Taking (i : ℕ) (p : UsageFlags) (goal : Ends Held) (t₀ s₀ e₀ : List ℕ) (left : Ends Held → Ends Held) (t s e : List ℕ) : Type 0 where
+pub record Taking (i : ℕ) (p : UsageFlags) (goal : Ends Held) (t₀ s₀ e₀ : List ℕ) (left : Ends Held → Ends Held)
+    (t s e : List ℕ) : Type 0 where
   pub ends : left (ends_of (numbers_of t₀) t s e i) ≡ goal
   pub frame : BothFrame (numbers_of t₀) i t₀ s₀ e₀ t s e
   pub ready : PairReady t s e i p
 
-taking_start : {t s e : List ℕ} {i : ℕ} {p : UsageFlags} → PairReady t s e i p → (left : Ends Held → Ends Held) → Taking i p (left (ends_of (numbers_of t) t s e i)) t s e left t s e
+taking_start : {t s e : List ℕ} {i : ℕ} {p : UsageFlags} → PairReady t s e i p → (left : Ends Held → Ends Held)
+    → Taking i p (left (ends_of (numbers_of t) t s e i)) t s e left t s e
 taking_start {t} {s} {e} {i} {p} x left = record { ends = refl; frame = both_refl t s e; ready = x }
 
 -- a change of the texture that keeps its halves tiled leaves it ready for the next
-module _ {t s e : List ℕ} {i : ℕ} {p : UsageFlags} {t' s' e' : List ℕ} (x : PairReady t s e i p) (f : BothFrame (numbers_of t) i t s e t' s' e') where
+module _ {t s e : List ℕ} {i : ℕ} {p : UsageFlags} {t' s' e' : List ℕ} (x : PairReady t s e i p)
+    (f : BothFrame (numbers_of t) i t s e t' s' e') where
   low : (y : ℕ) → y < start_half → get_or t' y 0 ≡ get_or t y 0
   low = low_of x.starts x.ends x.texture f
 
@@ -42,18 +44,24 @@ module _ {t s e : List ℕ} {i : ℕ} {p : UsageFlags} {t' s' e' : List ℕ} (x 
     some = rw same.layers x.some;
     low = rw (same.layers, low layer_limit_at (omega arith)) x.low;
     flags = x.flags ∙ sym (flags_low t t' low);
-    tiled = subst (λ (d : Numbers). EndsTiled (get_or t' (layers_at i) 0) (ends_of d t' s' e' i)) (sym same_dims) (subst (λ (w : ℕ). EndsTiled w (ends_of (numbers_of t) t' s' e' i)) (sym same.layers) k);
+    tiled = subst (λ (d : Numbers). EndsTiled (get_or t' (layers_at i) 0) (ends_of d t' s' e' i)) (sym same_dims)
+        (subst (λ (w : ℕ). EndsTiled w (ends_of (numbers_of t) t' s' e' i)) (sym same.layers) k);
   }
 
-module _ {i : ℕ} {p : UsageFlags} {goal : Ends Held} {t₀ s₀ e₀ : List ℕ} {left : Ends Held → Ends Held} {t s e : List ℕ} (x : PairReady t₀ s₀ e₀ i p) (w : Taking i p goal t₀ s₀ e₀ left t s e) where
-  taking_turn : {t' s' e' : List ℕ} (f next : Ends Held → Ends Held) → ((y : Ends Held) → left y ≡ next (f y)) → BothBecome (numbers_of t) i (f (ends_of (numbers_of t) t s e i)) t s e t' s' e'
-      → ((y : Ends Held) → EndsTiled (get_or t (layers_at i) 0) y → EndsTiled (get_or t (layers_at i) 0) (f y)) → Taking i p goal t₀ s₀ e₀ next t' s' e'
+module _ {i : ℕ} {p : UsageFlags} {goal : Ends Held} {t₀ s₀ e₀ : List ℕ} {left : Ends Held → Ends Held} {t s e : List ℕ}
+    (x : PairReady t₀ s₀ e₀ i p) (w : Taking i p goal t₀ s₀ e₀ left t s e) where
+  taking_turn : {t' s' e' : List ℕ} (f next : Ends Held → Ends Held) → ((y : Ends Held) → left y ≡ next (f y))
+      → BothBecome (numbers_of t) i (f (ends_of (numbers_of t) t s e i)) t s e t' s' e'
+      → ((y : Ends Held) → EndsTiled (get_or t (layers_at i) 0) y → EndsTiled (get_or t (layers_at i) 0) (f y))
+      → Taking i p goal t₀ s₀ e₀ next t' s' e'
   taking_turn {t'} {s'} {e'} f next splits b k =
-      let c : BothBecome (numbers_of t₀) i (f (ends_of (numbers_of t₀) t s e i)) t s e t' s' e' = subst (λ (d : Numbers). BothBecome d i (f (ends_of d t s e i)) t s e t' s' e') (same_dims x w.frame) b in
+      let c : BothBecome (numbers_of t₀) i (f (ends_of (numbers_of t₀) t s e i)) t s e t' s' e' =
+      subst (λ (d : Numbers). BothBecome d i (f (ends_of d t s e i)) t s e t' s' e') (same_dims x w.frame) b in
       record {
         ends = ap next c.ends ∙ sym (splits (ends_of (numbers_of t₀) t s e i)) ∙ w.ends;
         frame = both_then w.frame c.frame;
-        ready = ready_then w.ready b.frame (subst (λ (y : Ends Held). EndsTiled (get_or t (layers_at i) 0) y) (sym b.ends) (k (ends_of (numbers_of t) t s e i) w.ready.tiled));
+        ready = ready_then w.ready b.frame (subst (λ (y : Ends Held). EndsTiled (get_or t (layers_at i) 0) y) (sym b.ends)
+            (k (ends_of (numbers_of t) t s e i) w.ready.tiled));
       }
 
   -- nothing is left
@@ -61,12 +69,14 @@ module _ {i : ℕ} {p : UsageFlags} {goal : Ends Held} {t₀ s₀ e₀ : List �
   taking_end z = record { ends = sym (z (ends_of (numbers_of t₀) t s e i)) ∙ w.ends; frame = w.frame }
 
 -- ---- the ranges of one mip
-module _ {i : ℕ} {p : UsageFlags} {t₀ s₀ e₀ : List ℕ} (x : PairReady t₀ s₀ e₀ i p) {mip len : ℕ} {part : List ℕ} (q : GivenMip t₀ i mip part len) where
+module _ {i : ℕ} {p : UsageFlags} {t₀ s₀ e₀ : List ℕ} (x : PairReady t₀ s₀ e₀ i p) {mip len : ℕ} {part : List ℕ}
+    (q : GivenMip t₀ i mip part len) where
   abbrev give : List Range → Ends Held → Ends Held
   give rs = updates p.unknown (map (piece_on mip) rs)
 
   abbrev pub RangeLap : ℕ → List ℕ → List ℕ → List ℕ → Type 0
-  RangeLap k t s e = Taking i p (give (decode len part) (ends_of (numbers_of t₀) t₀ s₀ e₀ i)) t₀ s₀ e₀ (give (drop k (decode len part))) t s e
+  RangeLap k t s e = Taking i p (give (decode len part) (ends_of (numbers_of t₀) t₀ s₀ e₀ i)) t₀ s₀ e₀
+      (give (drop k (decode len part))) t s e
 
   pub range_start : RangeLap 0 t₀ s₀ e₀
   range_start = taking_start x (give (decode len part))
@@ -83,34 +93,42 @@ module _ {i : ℕ} {p : UsageFlags} {t₀ s₀ e₀ : List ℕ} (x : PairReady t
       pub range_selects : Selects (numbers_of t) t i (select mip (suc mip) r.start r.end)
       range_selects = range_within q k b z (same x w.frame)
 
-      splits : (y : Ends Held) → give (drop k (decode len part)) y ≡ give (drop (k + 1) (decode len part)) (updated p.unknown (piece_on mip r) y)
+      splits : (y : Ends Held)
+          → give (drop k (decode len part)) y ≡ give (drop (k + 1) (decode len part)) (updated p.unknown (piece_on mip r) y)
       unfolding updates
       splits y = rw (range_next q k b z)
 
-      pub range_turn : {t' s' e' : List ℕ} → BothBecome (numbers_of t) i (updated p.unknown (piece_on mip r) (ends_of (numbers_of t) t s e i)) t s e t' s' e' → RangeLap (k + 1) t' s' e'
+      pub range_turn : {t' s' e' : List ℕ}
+          → BothBecome (numbers_of t) i (updated p.unknown (piece_on mip r) (ends_of (numbers_of t) t s e i)) t s e t' s' e'
+          → RangeLap (k + 1) t' s' e'
       range_turn v =
           taking_turn x w (updated p.unknown (piece_on mip r)) _ splits v
           (updated_tiled p.unknown (piece_on mip r) (get_or t (layers_at i) 0) (range_inside q k b z).0 range_selects.in_layers)
 
 -- pieces within the layers keep the halves tiled
-updates_tiled : (u m w : ℕ) (rs : List Range) (a : ℕ) (y : Ends Held) → Tiles a rs w → EndsTiled w y → EndsTiled w (updates u (map (piece_on m) rs) y)
+updates_tiled : (u m w : ℕ) (rs : List Range) (a : ℕ) (y : Ends Held) → Tiles a rs w → EndsTiled w y
+    → EndsTiled w (updates u (map (piece_on m) rs) y)
 unfolding updates
 updates_tiled u m w [] a y t k = k
-updates_tiled u m w (r ∷ rs) a y t k = updates_tiled u m w rs r.end (updated u (piece_on m r) y) t.2 (updated_tiled u (piece_on m r) w (omega arith) (tiles_le rs r.end w t.2) y k)
+updates_tiled u m w (r ∷ rs) a y t k = updates_tiled u m w rs r.end (updated u (piece_on m r) y) t.2
+    (updated_tiled u (piece_on m r) w (omega arith) (tiles_le rs r.end w t.2) y k)
 
 -- ---- the mips of a texture
-module _ {i : ℕ} {p : UsageFlags} {t₀ s₀ e₀ : List ℕ} (x : PairReady t₀ s₀ e₀ i p) {mips from : ℕ} {t₂ r₂ : List ℕ} (q : GivenTexture t₀ i mips from t₂ r₂) where
+module _ {i : ℕ} {p : UsageFlags} {t₀ s₀ e₀ : List ℕ} (x : PairReady t₀ s₀ e₀ i p) {mips from : ℕ} {t₂ r₂ : List ℕ}
+    (q : GivenTexture t₀ i mips from t₂ r₂) where
   abbrev gs : List (List Range)
   gs = mips_of (numbers_of t₂) from t₂ r₂ i
 
   abbrev pub MipLap : ℕ → List ℕ → List ℕ → List ℕ → Type 0
-  MipLap k t s e = Taking i p (updates p.unknown (pieces_of gs) (ends_of (numbers_of t₀) t₀ s₀ e₀ i)) t₀ s₀ e₀ (updates p.unknown (pieces_from k (drop k gs))) t s e
+  MipLap k t s e = Taking i p (updates p.unknown (pieces_of gs) (ends_of (numbers_of t₀) t₀ s₀ e₀ i)) t₀ s₀ e₀
+      (updates p.unknown (pieces_from k (drop k gs))) t s e
 
   pub mip_start_lem : MipLap 0 t₀ s₀ e₀
   mip_start_lem = taking_start x (updates p.unknown (pieces_from 0 gs))
 
   module _ {k : ℕ} {t s e : List ℕ} (w : MipLap k t s e) where
-    pub mip_done : mips ≤ k → BothBecome (numbers_of t₀) i (updates p.unknown (pieces_of gs) (ends_of (numbers_of t₀) t₀ s₀ e₀ i)) t₀ s₀ e₀ t s e
+    pub mip_done : mips ≤ k
+        → BothBecome (numbers_of t₀) i (updates p.unknown (pieces_of gs) (ends_of (numbers_of t₀) t₀ s₀ e₀ i)) t₀ s₀ e₀ t s e
     unfolding updates
     mip_done b = taking_end x w (λ y. rw (mips_none q k b))
 
@@ -121,8 +139,12 @@ module _ {i : ℕ} {p : UsageFlags} {t₀ s₀ e₀ : List ℕ} (x : PairReady t
       abbrev one : Ends Held → Ends Held
       one = updates p.unknown (map (piece_on k) (decode y.len (lent_part y r₂)))
 
-      mip_splits : (v : Ends Held) → updates p.unknown (pieces_from k (drop k gs)) v ≡ updates p.unknown (pieces_from (k + 1) (drop (k + 1) gs)) (one v)
-      mip_splits v = rw (mip_next q k b l, add-one) (updates_append p.unknown (map (piece_on k) (decode y.len (lent_part y r₂))) (pieces_from (suc k) (drop (suc k) gs)) v)
+      mip_splits : (v : Ends Held)
+          → updates p.unknown (pieces_from k (drop k gs)) v ≡ updates p.unknown (pieces_from (k + 1) (drop (k + 1) gs)) (one v)
+      mip_splits v = rw (mip_next q k b l, add-one) (updates_append p.unknown (map (piece_on k) (decode y.len (lent_part y r₂)))
+          (pieces_from (suc k) (drop (suc k) gs)) v)
 
-      pub mip_turn : {t' s' e' : List ℕ} → BothBecome (numbers_of t) i (one (ends_of (numbers_of t) t s e i)) t s e t' s' e' → MipLap (k + 1) t' s' e'
-      mip_turn v = taking_turn x w one _ mip_splits v (λ z j. updates_tiled p.unknown k (get_or t (layers_at i) 0) (decode y.len (lent_part y r₂)) 0 z mip_given.tiled j)
+      pub mip_turn : {t' s' e' : List ℕ}
+          → BothBecome (numbers_of t) i (one (ends_of (numbers_of t) t s e i)) t s e t' s' e' → MipLap (k + 1) t' s' e'
+      mip_turn v = taking_turn x w one _ mip_splits v (λ z j. updates_tiled p.unknown k (get_or t (layers_at i) 0)
+          (decode y.len (lent_part y r₂)) 0 z mip_given.tiled j)

@@ -1,10 +1,10 @@
 -- A change of both halves of one texture of a tracker: what it leaves as it was, and how changes follow one another.
-use Rattle.std.specs.Prelude.{◌+◌, ◌≤◌, ◌<◌, ◌≡◌, ◌⊎◌}
 use Rattle.model.specs.Prelude.{ℕ, arith, refl, sym, subst, ◌∙◌, inl, inr, List, length, get_or}
 use Rattle.model.specs.{declared.Range.Range, Sets.Numbers, Representation.Ends, RangedStates.Tiles, Texture.{Held, many}}
+use Rattle.std.specs.Prelude.{◌+◌, ◌≤◌, ◌<◌, ◌≡◌, ◌⊎◌}
 use Rattle.set_storage.specs.Lists.{list_ext}
-use Rattle.set_storage.specs.Storage.{half_length, numbers_of, start_half, end_half, count_at, mip_of, mips_in, mips_of, held_of, ends_of, complex_at}
-use Rattle.set_storage.specs.Storage.{layers_at, mips_at, state_at}
+use Rattle.set_storage.specs.Storage.{half_length, numbers_of, start_half, end_half, count_at, mip_of, mips_in, mips_of, held_of, ends_of}
+use Rattle.set_storage.specs.Storage.{complex_at, layers_at, mips_at, state_at}
 use Rattle.set_storage.specs.Stays.{HalfFrame, BothFrame, stays_refl, stays_at, stays_more, both_then}
 use Rattle.set_storage.specs.Frames.{Measured, MipsBecome, frame_below, frame_above, half_of, half_below, half_above, mips_top, mips_same}
 use Rattle.set_storage.specs.{Slots.{HalfBecomes, mip_ext, half_low, half_away, held_many}, Texture.measured_low}
@@ -48,7 +48,8 @@ module _ {d : Numbers} {h i : ℕ} {t r t' r' : List ℕ} (s : Measured d h t r)
   pub away_mips : (g : ℕ) → ((h + half_length ≤ g) ⊎ (g + half_length ≤ h)) → (r₂ : List ℕ) → mips_of d g t' r₂ i ≡ mips_of d g t r₂ i
   away_mips g o r₂ =
       let n : mips_in d t' i ≡ mips_in d t i = mips_same d t t' i (half_low s hi f (mips_at i) (omega (arith, s.textures))) in
-      rw n (list_ext (mip_of d g t r₂ i) (mip_of d g t' r₂ i) 0 (mips_in d t i) (λ x _ q. away_mip g o r₂ x (omega (arith, mips_top d t i))))
+      rw n (list_ext (mip_of d g t r₂ i) (mip_of d g t' r₂ i) 0 (mips_in d t i)
+      (λ x _ q. away_mip g o r₂ x (omega (arith, mips_top d t i))))
 
 -- ---- THE CONTRACT of an update: texture i becomes x, and nothing else is touched
 pub record BothBecome (d : Numbers) (i : ℕ) (x : Ends Held) (t s e t' s' e' : List ℕ) : Type 0 where

@@ -1,8 +1,8 @@
 -- `update` from a texture of another set: what is asked for, and the model's update by pieces, case by case.
-use Rattle.std.specs.Prelude.{◌≡◌}
 use Rattle.model.specs.Prelude.{ℕ, refl, sym, List}
 use Rattle.model.specs.declared.{UsageFlags.UsageFlags, Extent.Extent, Range.Range}
 use Rattle.model.specs.Texture.{Held, single, many, given_many, Piece, fresh_mips, spread_end, update}
+use Rattle.std.specs.Prelude.{◌≡◌}
 use Rattle.set_storage.specs.{Storage.{numbers_of, flags_of, start_half, end_half}, Texture.TextureHeld}
 use Rattle.texture_merge.specs.FromSet.{GivenReady}
 use Rattle.texture_update.specs.{Update.UpdateReady, Pieces.{updates, updates_are}}
@@ -15,7 +15,8 @@ pub record UpdateFromReady (t s e : List ℕ) (i : ℕ) (sh : Extent) (from : �
   pub given : GivenReady from t₂ r₂ i sh p
 
 -- one state for all of the texture, as a use
-pub from_use_lem : {t s e : List ℕ} {i : ℕ} {sh : Extent} {from : ℕ} {t₂ r₂ : List ℕ} {p : UsageFlags} → UpdateFromReady t s e i sh from t₂ r₂ p
+pub from_use_lem : {t s e : List ℕ} {i : ℕ} {sh : Extent} {from : ℕ} {t₂ r₂ : List ℕ} {p : UsageFlags}
+    → UpdateFromReady t s e i sh from t₂ r₂ p
     → (new : ℕ) → (new ≡ p.complex → ⊥) → UpdateReady t s e i sh p new
 from_use_lem x new c = record { start = x.start; end = x.end; flags = x.flags; plain = c }
 

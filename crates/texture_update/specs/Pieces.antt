@@ -1,12 +1,12 @@
 -- The pieces of another texture, one after another, on a texture whose end is Many: the model's `update_all`, and that tiling is kept.
-use Rattle.std.specs.Prelude.{◌≤◌, ◌<◌, ◌≡◌, ◌∷◌, ◌++◌, if◌then◌else◌}
 use Rattle.model.specs.Prelude.{ℕ, suc, arith, refl, Bool, true, false, List, [], eqb, get_or}
-use Rattle.model.specs.{declared.{UsageFlags.UsageFlags, Range.Range}}
-use Rattle.model.specs.{Representation.{Ends, layer_start, layer_end, in_mips}, RangedStates.{isolate, Tiles}}
-use Rattle.model.specs.{Texture.{Held, single, many, Piece, learn_all, learn_held, met_by, update_all}, BoolLaws.by_test}
-use Rattle.model.specs.RangeLaws.{isolate_cuts}
+use Rattle.model.specs.{declared.{UsageFlags.UsageFlags, Range.Range}, Representation.{Ends, layer_start, layer_end, in_mips}}
+use Rattle.model.specs.{RangedStates.{isolate, Tiles}, Texture.{Held, single, many, Piece, learn_all, learn_held, met_by, update_all}}
+use Rattle.model.specs.{BoolLaws.by_test, RangeLaws.isolate_cuts}
+use Rattle.std.specs.Prelude.{◌≤◌, ◌<◌, ◌≡◌, ◌∷◌, ◌++◌, if◌then◌else◌}
 use Rattle.texture_mips.specs.Kept.{Within, learn_tiles, tiles_within, update_tiles}
-use Rattle.set_storage.specs.{Storage.{numbers_of, flags_of, start_half, end_half, ends_of, layer_limit_at, layers_at, textures_at}, Frames.Measured}
+use Rattle.set_storage.specs.Storage.{numbers_of, flags_of, start_half, end_half, ends_of, layer_limit_at, layers_at, textures_at}
+use Rattle.set_storage.specs.Frames.{Measured}
 use Rattle.texture_merge.specs.{Ready.updated_mips, Giving.{Tiled, on_tiled}}
 
 -- ---- What one piece does

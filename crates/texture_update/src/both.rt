@@ -123,7 +123,8 @@ pub fn update_both_mips(
     requires selects { Selects (numbers_of table.old) table.old i q }
     ensures { let t = table.old in let s = starts.old in let e = ends.old in let d = numbers_of t in
         BothMips d i
-        (learn_all (met_by unknown (record { selector = q; state = new })) unknown new 0 (mips_of d end_half t e i) (mips_of d start_half t s i))
+        (learn_all (met_by unknown (record { selector = q; state = new })) unknown new 0
+        (mips_of d end_half t e i) (mips_of d start_half t s i))
         (updated_mips unknown q new (mips_of d end_half t e i))
         t s e table.new starts.new ends.new }
 {

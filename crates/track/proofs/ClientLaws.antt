@@ -1,14 +1,14 @@
 -- The client's calls are a trace: newly opened, the log emptied before each of two calls, with a free entry for every subresource.
-use Rattle.std.specs.Prelude.{◌+◌, ◌/◌, ◌≤◌, ◌≡◌, ◌∷◌, if◌then◌else◌}
-use Rattle.model.specs.Prelude.{ℕ, min, le_trans, le-min, arith, refl, sym, ap, subst, ◌∙◌, Bool, true, false, Option}
-use Rattle.model.specs.Prelude.{none, some, List, [], ltb, length, le-ltb, ltb-false}
+use Rattle.model.specs.Prelude.{ℕ, min, le_trans, le-min, arith, refl, sym, ap, subst, ◌∙◌, Bool, true, false, Option, none, some, List, []}
+use Rattle.model.specs.Prelude.{ltb, length, le-ltb, ltb-false}
 use Rattle.model.specs.declared.Refusal.TheVariants.{NoFreeEntry}
 use Rattle.model.specs.declared.{Extent.Extent, InvalidUse.InvalidUse, LogHead.LogHead, Outcome.Outcome, Refusal.Refusal, Selector.Selector}
-use Rattle.model.specs.{declared.{TrackerIndex.TrackerIndex, Answered.Answered}, Flags.flags_fit}
-use Rattle.model.specs.{Sets.{Numbers, Tracker, capacity}, Refusals.{first_failing, opening_refusal, opens}}
+use Rattle.model.specs.{declared.{TrackerIndex.TrackerIndex, Answered.Answered}, Flags.flags_fit, Sets.{Numbers, Tracker, capacity}}
+use Rattle.model.specs.Refusals.{first_failing, opening_refusal, opens}
 use Rattle.model.specs.Calls.{Answer, done, refused, in_conflict, CallResult, Call, call_set_single, set_single}
 use Rattle.model.specs.Texture.{Held, Entry, ranged}
 use Rattle.model.specs.Log.{Log, Logged, pending, logging, unless_logged, refusal_of, or_next, sets_check, head_check, free_check}
+use Rattle.std.specs.Prelude.{◌+◌, ◌/◌, ◌≤◌, ◌≡◌, ◌∷◌, if◌then◌else◌}
 use Rattle.set_storage.specs.{Storage.{numbers_of, tracker_of, textures_at, mip_limit_at, layer_limit_at}, Slots.tracker_head}
 use Rattle.set_storage.specs.Lent.{LentTracker, tracker_in, tracker_test}
 use Rattle.texture_barrier.specs.Entries.{entries_of, entries_long}
@@ -16,8 +16,8 @@ use Rattle.agreement.specs.{WellFormedSets.Word, LogBound.{capacity_of, owned_of
 use Rattle.agreement.proofs.Claims.{owned_within}
 use Rattle.call_open.specs.Open.{OpenedTracker}
 use Rattle.track.specs.Trace.{Lent, view_of, Ready, TrackerOpening, tracker_asked, opened_sets, Step, Meets, Trace, SharedAt}
-use Rattle.track.proofs.{LogLaws.emptied_head, OpenedLaws.{tracker_done, opened_ready}, TraceLaws.{ready_after, ready_fits}}
 use Rattle.track.specs.Client.{client_flags, client_asked, client_run, client_step}
+use Rattle.track.proofs.{LogLaws.emptied_head, OpenedLaws.{tracker_done, opened_ready}, TraceLaws.{ready_after, ready_fits}}
 use Rattle.track.proofs.Demand3.{demand3}
 use Rattle.log_head.specs.Log.{log_of, Emptying}
 use Rattle.call_set.specs.Contract.{SetSingle}
@@ -73,7 +73,8 @@ few_owned : (c : Call) (t : LentTracker) → Ready (alone t) → capacity_of c (
 few_owned c t ready e = le_trans (owned_within c (view_of (alone t)) (ready_fits (alone t) ready)) e
 
 -- ---- The two calls
-module _ {t₀ s₀ e₀ : List ℕ} {x : Outcome} {t₁ : List ℕ} (o : OpenedTracker t₀ s₀ e₀ 1 2 4 client_flags 10 x t₁) (starts : 8 ≤ length s₀ / 3)
+module _ {t₀ s₀ e₀ : List ℕ} {x : Outcome} {t₁ : List ℕ}
+    (o : OpenedTracker t₀ s₀ e₀ 1 2 4 client_flags 10 x t₁) (starts : 8 ≤ length s₀ / 3)
     (ends : 8 ≤ length e₀ / 3) where
   abbrev opening : TrackerOpening
   opening = record {

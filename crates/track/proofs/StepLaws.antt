@@ -1,19 +1,19 @@
 -- A step that meets its call's contract, from well-formed sets, is the model's step on their view: its answer, its sets and its entries;
 -- and they stay well formed.
-use Rattle.std.specs.Bool.{MatchBool}
-use Rattle.std.specs.Prelude.{◌/◌, ◌≤◌, ◌≡◌, ◌&&◌, ◌∷◌, if◌then◌else◌}
-use Rattle.model.specs.Prelude.{ℕ, le_trans, refl, sym, ap, subst, ◌∙◌, Bool, true, false, Option, none, some}
-use Rattle.model.specs.Prelude.{Option_map, List, [], map, eqb, leb, length, set, get_elem?}
+use Rattle.model.specs.Prelude.{ℕ, le_trans, refl, sym, ap, subst, ◌∙◌, Bool, true, false, Option, none, some, Option_map, List, [], map}
+use Rattle.model.specs.Prelude.{eqb, leb, length, set, get_elem?}
 use Rattle.model.specs.declared.{Extent.Extent, InvalidUse.InvalidUse, LogHead.LogHead, Refusal.Refusal, Selector.Selector}
 use Rattle.model.specs.{declared.{TrackerIndex.TrackerIndex, Answered.Answered}, Base.{All, AllO}}
 use Rattle.model.specs.Sets.{Numbers, Set, Tracker, slot_at, head_of, capacity}
 use Rattle.model.specs.Refusals.{first_failing, single_refusal, set_refusal, sparse_refusal}
-use Rattle.model.specs.Calls.{done, CallResult, unless, Call, call_merge_single, call_merge_usage_scope, call_set_single, call_set_from_usage_scope}
-use Rattle.model.specs.Calls.{call_set_from_tracker, call_set_and_remove_sparse, merge_single, merge_usage_scope, set_single, set_from_usage_scope}
-use Rattle.model.specs.Calls.{set_from_tracker, set_and_remove_sparse, sparse_one, sparse_all, Sets, nothing, into, with_scopes, with_trackers}
-use Rattle.model.specs.{Calls.{with₁, with₂, step}, Texture.{Held, single, Entry, ranged}, WellFormed.{scope_fits, tracker_fits}}
-use Rattle.model.specs.{Log.{pending, outcome_of, merging, logging}, ListLaws.{all_set, all_elem, elem_map, set_map}}
-use Rattle.model.specs.BoolLaws.{by_test, both, and_left, and_right}
+use Rattle.model.specs.Calls.{done, CallResult, unless, Call, call_merge_single, call_merge_usage_scope, call_set_single}
+use Rattle.model.specs.Calls.{call_set_from_usage_scope, call_set_from_tracker, call_set_and_remove_sparse, merge_single, merge_usage_scope}
+use Rattle.model.specs.Calls.{set_single, set_from_usage_scope, set_from_tracker, set_and_remove_sparse, sparse_one, sparse_all, Sets}
+use Rattle.model.specs.{Calls.{nothing, into, with_scopes, with_trackers, with₁, with₂, step}, Texture.{Held, single, Entry, ranged}}
+use Rattle.model.specs.{WellFormed.{scope_fits, tracker_fits}, Log.{pending, outcome_of, merging, logging}}
+use Rattle.model.specs.{ListLaws.{all_set, all_elem, elem_map, set_map}, BoolLaws.{by_test, both, and_left, and_right}}
+use Rattle.std.specs.Prelude.{◌/◌, ◌≤◌, ◌≡◌, ◌&&◌, ◌∷◌, if◌then◌else◌}
+use Rattle.std.specs.Bool.{MatchBool}
 use Rattle.set_checks.specs.Head.{selector_of}
 use Rattle.call_merge.specs.{Merged.Merged, Contract.{MergeSingle, MergeUsageScope}}
 use Rattle.log_head.specs.Log.{log_of, Logs}

@@ -1,13 +1,13 @@
 -- Every trace from well-formed storage is, step by step, the ranged model's run, and so shares with the grid's what demand 3 lists.
-use Rattle.std.specs.Prelude.{◌≡◌, ◌∷◌, if◌then◌else◌}
 use Rattle.model.specs.Prelude.{ℕ, arith, refl, sym, ap, subst, ◌∙◌, true, false, Bool, true≢false, Option, List, [], map, eqb}
 use Rattle.model.specs.{declared.Outcome.TheVariants.{Done, Refused}, declared.{InvalidUse.InvalidUse, Refusal.Refusal}}
 use Rattle.model.specs.{Sets.{Set, Tracker}, Refusals.number_of, Calls.{Answer, done, refused, in_conflict, CallResult, Sets, step, newly}}
 use Rattle.model.specs.{StateRules.Move, Texture.{Held, ranged}, WellFormed.{scope_fits, tracker_fits}, Log.outcome_of, BoolLaws.both}
-use Rattle.model.specs.{ListLaws.{all_every, all_map}}
+use Rattle.model.specs.ListLaws.{all_every, all_map}
+use Rattle.std.specs.Prelude.{◌≡◌, ◌∷◌, if◌then◌else◌}
 use Rattle.agreement.specs.Grid.{SubresourceConflict, grid}
-use Rattle.agreement.specs.{Shared.{grid_of, grid_ends, to_grids, seen_answer, seen, Shares, Agree, after_calls}, WellFormedSets.well_formed}
-use Rattle.agreement.specs.LogBound.{listed}
+use Rattle.agreement.specs.Shared.{grid_of, grid_ends, to_grids, seen_answer, seen, Shares, Agree, after_calls}
+use Rattle.agreement.specs.{WellFormedSets.well_formed, LogBound.listed}
 use Rattle.agreement.proofs.{Agree.opened_grids, CallsAgree.agrees_from, OwnRefusals.own_refusals}
 use Rattle.set_storage.specs.Lent.{LentScope, LentTracker, scope_in, tracker_in, scope_test, tracker_test}
 use Rattle.track.specs.Trace.{Lent, view_of, Ready, ScopeOpening, TrackerOpening, scope_asked, tracker_asked, opened_sets, Step, Meets}
@@ -71,7 +71,8 @@ share_step k s g e f a =
     own x h = own_refusals ranged s.call (view_of k) x (told_refused (step ranged s.call (view_of k)).answer x (sym f.answer ∙ h))
 
 -- ---- Every step, from well-formed sets
-along : (steps : List Step) (k : Lent) (g : Sets grid) → Ready k → Agree (view_of k) g (calls_of steps) → Trace k steps → SharedAlong steps g
+along : (steps : List Step) (k : Lent) (g : Sets grid) → Ready k → Agree (view_of k) g (calls_of steps)
+    → Trace k steps → SharedAlong steps g
 along [] k g ready a t = tt
 along (s ∷ steps) k g ready a t =
     let f = steps_on k ready s t.0 in (

@@ -1,19 +1,17 @@
 -- The last step of a trace, where it is a single merge of a usage: the WebGPU rule of crate `agreement`, carried over to the lent numbers.
-use Rattle.std.specs.Prelude.{◌≡◌, ◌↔◌, ◌∷◌, ◌++◌}
-use Rattle.model.specs.Prelude.{ℕ, refl, sym, ap, subst, ◌∙◌, false, false≢true, Option, none, some, Option_map, List, []}
-use Rattle.model.specs.Prelude.{map, get_elem?}
+use Rattle.model.specs.Prelude.{ℕ, refl, sym, ap, subst, ◌∙◌, false, false≢true, Option, none, some, Option_map, List, [], map, get_elem?}
 use Rattle.model.specs.declared.{Extent.Extent, InvalidUse.InvalidUse, Outcome.Outcome, Refusal.Refusal, Selector.Selector}
 use Rattle.model.specs.{declared.TrackerIndex.TrackerIndex, Sets.{Set, head_of}, Refusals.single_refusal}
 use Rattle.model.specs.{Calls.{Answer, done, refused, in_conflict, Call, call_merge_single, Sets, step, newly}, Texture.{Held, ranged}}
 use Rattle.model.specs.{Log.{is_refused, outcome_of}, ListLaws.elem_map, Base.All}
+use Rattle.std.specs.Prelude.{◌≡◌, ◌↔◌, ◌∷◌, ◌++◌}
 use Rattle.agreement.specs.{Shared.{seen_answer, after_calls}, WellFormedSets.GivenWord}
 use Rattle.agreement.specs.WebGpu.{Usage, Renders, Histories, histories, InConflict, GivenUsage, NotCompatible}
 use Rattle.agreement.proofs.UsagesJudged.{usages_judged}
 use Rattle.set_storage.specs.Lent.{LentScope, scope_in}
 use Rattle.track.specs.Trace.{Lent, view_of, ScopeOpening, TrackerOpening, scope_asked, tracker_asked, opened_sets, Step, Meets, Trace}
 use Rattle.track.specs.Trace.{calls_of, sets_after, seen_outcome}
-use Rattle.track.proofs.OpenedLaws.{opened_ready}
-use Rattle.track.proofs.TraceLaws.{told_seen, steps_on, ready_after, trace_runs}
+use Rattle.track.proofs.{OpenedLaws.opened_ready, TraceLaws.{told_seen, steps_on, ready_after, trace_runs}}
 
 -- ---- A trace and its last step
 front : (steps : List Step) (s : Step) (k : Lent) → Trace k (steps ++ (s ∷ [])) → Trace k steps
@@ -52,7 +50,8 @@ module _ (x : Outcome) (a : Answer InvalidUse) (e : x ≡ outcome_of a) where
 -- a single merge that its checks refuse is turned away
 merge_refused : (k : Sets ranged) (n : ℕ) (i : TrackerIndex) (sh : Extent) (sel : Option Selector) (st : ℕ) (r : Set Held)
     → get_elem? k.scopes n ≡ some r
-    → (x : Refusal) → single_refusal (head_of r) i.0 sh sel st ≡ some x → (step ranged (call_merge_single n i sh sel st) k).answer ≡ refused x
+    → (x : Refusal) → single_refusal (head_of r) i.0 sh sel st ≡ some x
+    → (step ranged (call_merge_single n i sh sel st) k).answer ≡ refused x
 unfolding step
 merge_refused k n i sh sel st r e x h = rw (e, h)
 

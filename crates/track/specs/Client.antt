@@ -1,8 +1,8 @@
 -- What the client in code (src/client.rt) shows: its second call, as a step of a trace, shares with the grid's run what demand 3 lists.
-use Rattle.std.specs.Prelude.{◌∷◌}
 use Rattle.model.specs.Prelude.{ℕ, Option, List, []}
 use Rattle.model.specs.declared.{Extent.Extent, Selector.Selector, TrackerIndex.TrackerIndex, UsageFlags.UsageFlags, Answered.Answered}
 use Rattle.model.specs.{Calls.{CallResult, Call, call_set_single, Sets, step, newly}, Sets.Opening, StateRules.Move}
+use Rattle.std.specs.Prelude.{◌∷◌}
 use Rattle.agreement.specs.Grid.{SubresourceConflict, grid}
 use Rattle.call_open.specs.Open.{asked}
 use Rattle.track.specs.Trace.{Step}
@@ -15,7 +15,8 @@ abbrev pub client_asked : ℕ → Opening
 client_asked room = asked 1 2 4 client_flags 10 room
 
 -- the grid's run of the two calls, from such a tracker newly opened
-abbrev pub client_run : ℕ → TrackerIndex → Extent → Selector → ℕ → ℕ → CallResult SubresourceConflict (List (List (Option Move))) (Sets grid)
+abbrev pub client_run : ℕ → TrackerIndex → Extent → Selector → ℕ → ℕ
+    → CallResult SubresourceConflict (List (List (Option Move))) (Sets grid)
 client_run room i sh sel a b =
     let k = (step grid (call_set_single 0 i sh sel a) (newly grid [] (client_asked room ∷ []))).after in
     step grid (call_set_single 0 i sh sel b) k

@@ -1,16 +1,15 @@
 -- Demand 3, over the numbers that callers lend and the public calls' own contracts: what a trace of calls is, and what is shared at each of
 -- its steps. Definitions only; Demand3 and Claims state the theorems.
-use Rattle.std.specs.Bool.{MatchBool}
-use Rattle.std.specs.Prelude.{◌+◌, ◌/◌, ◌≤◌, ◌≡◌, ◌&&◌, ◌∷◌, if◌then◌else◌}
-use Rattle.model.specs.Prelude.{ℕ, min, Bool, true, false, Option, none, some, List, [], map, eqb, length}
-use Rattle.model.specs.Prelude.{set, get_elem?, take}
+use Rattle.model.specs.Prelude.{ℕ, min, Bool, true, false, Option, none, some, List, [], map, eqb, length, set, get_elem?, take}
 use Rattle.model.specs.{declared.Outcome.TheVariants.{Done, Refused, Conflict}, declared.Selection.TheVariants.{Full, Part}}
 use Rattle.model.specs.declared.{InvalidUse.InvalidUse, LogHead.LogHead, Outcome.Outcome, PendingTransition.PendingTransition}
 use Rattle.model.specs.declared.{Refusal.Refusal, Selection.Selection, Selector.Selector, UsageFlags.UsageFlags, Answered.Answered}
 use Rattle.model.specs.{Base.{each, All}, Representation.holds, Refusals.number_of, Sets.{Tracker, Opening}}
-use Rattle.model.specs.Calls.{Answer, done, refused, in_conflict, CallResult, Call, call_merge_single, call_merge_usage_scope, call_set_single}
-use Rattle.model.specs.{Calls.{call_set_from_usage_scope, call_set_from_tracker, call_set_and_remove_sparse, Sets, step}, StateRules.Move}
-use Rattle.model.specs.{Texture.{Held, Entry, ranged}, Log.{outcome_of, pending}}
+use Rattle.model.specs.Calls.{Answer, done, refused, in_conflict, CallResult, Call, call_merge_single, call_merge_usage_scope}
+use Rattle.model.specs.Calls.{call_set_single, call_set_from_usage_scope, call_set_from_tracker, call_set_and_remove_sparse, Sets, step}
+use Rattle.model.specs.{StateRules.Move, Texture.{Held, Entry, ranged}, Log.{outcome_of, pending}}
+use Rattle.std.specs.Prelude.{◌+◌, ◌/◌, ◌≤◌, ◌≡◌, ◌&&◌, ◌∷◌, if◌then◌else◌}
+use Rattle.std.specs.Bool.{MatchBool}
 use Rattle.set_storage.specs.Lent.{LentScope, LentTracker, scope_in, tracker_in, scope_test, tracker_test}
 use Rattle.texture_barrier.specs.Entries.{entries_of}
 use Rattle.agreement.specs.{Grid.{Grid, SubresourceConflict, grid}, Shared.{grid_of, grid_ends, first_of, seen, itself, moved_at}}

@@ -10,8 +10,8 @@
 // What holds of every call: nothing is required. Any argument, any numbers in the lent storage and any head of the log get an answer,
 // and a refusal leaves every number as it was.
 //
-// Reading order, in specs/: Trace (definitions alone: what is lent, opened, called and shared), Demand3 (the theorem) and Claims (that
-// every trace is the ranged model's run, and the WebGPU rule at its last step). Below them are proofs: LogLaws (an emptied log never
+// Reading order: specs/Trace (definitions alone: what is lent, opened, called and shared), then in proofs/ Demand3 (the theorem) and Claims
+// (that every trace is the ranged model's run, and the WebGPU rule at its last step). The rest of proofs/: LogLaws (an emptied log never
 // refuses, and its entries tell the model's transitions), OpenedLaws (opened storage is the model's, and well formed), StepLaws (a step
 // that meets its contract is the model's), TraceLaws (step by step, for every trace) and UsageLaws (a last step that merges a usage).
 // `client` is a program whose calls are such a trace (Client, ClientLaws): what a trace asks of its steps can be met.

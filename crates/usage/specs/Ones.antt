@@ -1,10 +1,10 @@
 -- The rule of the table, a byte's bits counted to two; and one bit of sixteen by the entries of two bytes.
-use Rattle.std.specs.Prelude.{◌+◌, ◌/◌, ◌<◌, ◌≡◌}
-use Rattle.model.specs.Prelude.{ℕ, min, dec_lt, arith, sym, ◌∙◌, List, eqb, length, get_or, List_get_D_eq_default}
-use Rattle.model.specs.Prelude.{bit_and, and_mask, eq-eqb, ne_eqb}
+use Rattle.model.specs.Prelude.{ℕ, min, dec_lt, arith, sym, ◌∙◌, List, eqb, length, get_or, List_get_D_eq_default, bit_and, and_mask}
+use Rattle.model.specs.Prelude.{eq-eqb, ne_eqb}
 use Rattle.model.specs.{BoolLaws.by_lt, Flags.one_bit}
-use Rattle.usage.specs.CountLaws.{ones_rest, ones_split}
+use Rattle.std.specs.Prelude.{◌+◌, ◌/◌, ◌<◌, ◌≡◌}
 use Rattle.std.specs.Int.Count.{ones_in}
+use Rattle.usage.specs.CountLaws.{ones_rest, ones_split}
 
 -- "0, 1 or 2 for a byte with no bit, one bit or more"
 unfoldable pub to_two : ℕ → ℕ
@@ -42,5 +42,6 @@ two_bytes s =
     rw (and_mask s 8, and_mask (s / 256) 8, ones_rest 8 s, ones_rest 8 (s / 256), h) (capped (ones_in 8 s) (ones_in 8 (s / 256)))
 
 -- and the entries are the counts
-pub looked_up : (t : List ℕ) (a b : ℕ) → CountsOnes t → a < 256 → b < 256 → eqb (get_or t a 0 + get_or t b 0) 1 ≡ eqb (to_two a + to_two b) 1
+pub looked_up : (t : List ℕ) (a b : ℕ) → CountsOnes t → a < 256 → b < 256
+    → eqb (get_or t a 0 + get_or t b 0) 1 ≡ eqb (to_two a + to_two b) 1
 looked_up t a b q h g = rw (q.entry a h, q.entry b g)

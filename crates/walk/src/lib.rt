@@ -1,8 +1,8 @@
 // Walk: rules of the program logic for functions whose code is walked by hand, as those that borrow a struct or a slice of structs.
 //
-// Place in the picture: below everything, with no code and no definition that a contract names. `range_records` (runs of range records) and
-// `log_heads` (the head of a log behind a `&mut`) cite it; a walk there says only what is its own. The rules are over any parameters, any
-// locals and any element. In specs/:
+// Place in the picture: below everything, with no code and no definition that a contract names. No crate cites it now: the prover makes the
+// proofs for which it was written, of runs of range records and of the head of a log behind a `&mut`. It stays proved, for code that the
+// prover does not cover; a walk says only what is its own. The rules are over any parameters, any locals and any element. In specs/:
 //
 //     Site        the tables over which code is read, and how a theorem of the code becomes the function's
 //     Locals      a function's locals as one entry of the context; entering, returning, and `while`

@@ -1,10 +1,9 @@
 -- The second pass of `iter_filter`: the overlaps of ascending records stand together.
-use Rattle.std.specs.Prelude.{◌+◌, ◌≤◌, ◌<◌, ◌≡◌, ◌&&◌, ◌∷◌, ◌++◌, if◌then◌else◌}
-use Rattle.model.specs.Prelude.{ℕ, zero, suc, arith, refl, sym, ap, ◌∙◌, Bool, true, false, List, []}
-use Rattle.model.specs.Prelude.{map, map-append, append_assoc, leb, ltb, length, get_or, take, drop, length-append, length-drop, length-map}
-use Rattle.model.specs.Prelude.{take-suc, drop-cons, get_or-drop, set_at, length-take-le, take-append-le, drop-append-le, lt-ltb, le-ltb}
-use Rattle.model.specs.Prelude.{le-leb, lt-leb}
+use Rattle.model.specs.Prelude.{ℕ, zero, suc, arith, refl, sym, ap, ◌∙◌, Bool, true, false, List, [], map, map-append, append_assoc, leb}
+use Rattle.model.specs.Prelude.{ltb, length, get_or, take, drop, length-append, length-drop, length-map, take-suc, drop-cons, get_or-drop}
+use Rattle.model.specs.Prelude.{set_at, length-take-le, take-append-le, drop-append-le, lt-ltb, le-ltb, le-leb, lt-leb}
 use Rattle.model.specs.{declared.Range.Range, RangedStates.iter_filter}
+use Rattle.std.specs.Prelude.{◌+◌, ◌≤◌, ◌<◌, ◌≡◌, ◌&&◌, ◌∷◌, ◌++◌, if◌then◌else◌}
 use Rattle.range_states.specs.{View.blank, Filtering.{overlaps, clip}}
 use Rattle.range_records.specs.{declared.decisions.Scan.Scan, Passes.{count_of, begun, look_of, scanned, clipping}}
 use Rattle.range_records.proofs.Laws.Pieces.{Ascends}
@@ -39,7 +38,8 @@ unfolding iter_filter founds overlaps
 filter_long a e [] = refl
 filter_long a e (r ∷ rs) = go (ltb a r.end && ltb r.start e) (filter_long a e rs)
   where
-    go : (b : Bool) → length (iter_filter a e rs) ≡ founds a e rs → length (if b then clip a e r ∷ iter_filter a e rs else iter_filter a e rs) ≡ (if b then suc (founds a e rs) else founds a e rs)
+    go : (b : Bool) → length (iter_filter a e rs) ≡ founds a e rs
+        → length (if b then clip a e r ∷ iter_filter a e rs else iter_filter a e rs) ≡ (if b then suc (founds a e rs) else founds a e rs)
     go true ih = ap suc ih
     go false ih = ih
 
@@ -51,9 +51,11 @@ firsts_past a from (r ∷ rs) h t = rw (lt-leb r.end a (omega arith)) (firsts_pa
 filter_past : (a e from : ℕ) (rs : List Range) → a < e → e ≤ from → Ascends from rs → iter_filter a e rs ≡ []
 unfolding iter_filter
 filter_past a e from [] k h t = refl
-filter_past a e from (r ∷ rs) k h t = rw (lt-ltb a r.end (omega arith), le-ltb r.start e (omega arith)) (filter_past a e r.end rs k (omega arith) t.2)
+filter_past a e from (r ∷ rs) k h t = rw (lt-ltb a r.end (omega arith), le-ltb r.start e (omega arith))
+    (filter_past a e r.end rs k (omega arith) t.2)
 
-filter_is : (a e from : ℕ) (rs : List Range) → a < e → Ascends from rs → iter_filter a e rs ≡ map (clip a e) (take (founds a e rs) (drop (firsts a rs) rs))
+filter_is : (a e from : ℕ) (rs : List Range) → a < e → Ascends from rs
+    → iter_filter a e rs ≡ map (clip a e) (take (founds a e rs) (drop (firsts a rs) rs))
 unfolding iter_filter founds firsts overlaps
 filter_is a e from [] k t = refl
 filter_is a e from (r ∷ rs) k t =
@@ -75,12 +77,14 @@ both_few a e (r ∷ rs) =
     by_order r.end a (λ u. rw (le-leb r.end a u, le-ltb a r.end u) (omega arith)) λ u.
     rw (lt-leb r.end a u) (go (overlaps a e r) ih)
   where
-    go : (b : Bool) → firsts a rs + founds a e rs ≤ length rs → firsts a rs + (if b then suc (founds a e rs) else founds a e rs) ≤ suc (length rs)
+    go : (b : Bool) → firsts a rs + founds a e rs ≤ length rs
+        → firsts a rs + (if b then suc (founds a e rs) else founds a e rs) ≤ suc (length rs)
     go true ih = omega arith
     go false ih = omega arith
 
 -- ---- what is written, from any record on
-clipped : (n first a e : ℕ) (rs out : List Range) → first + n ≤ length rs → n ≤ length out → clipping n first a e rs out ≡ map (clip a e) (take n (drop first rs)) ++ drop n out
+clipped : (n first a e : ℕ) (rs out : List Range) → first + n ≤ length rs → n ≤ length out
+    → clipping n first a e rs out ≡ map (clip a e) (take n (drop first rs)) ++ drop n out
 unfolding clipping
 clipped zero first a e rs out h k = refl
 clipped (suc n) first a e rs out h k =
@@ -98,7 +102,8 @@ pub scanned_found : (a e : ℕ) (rs : List Range) → length (iter_filter a e rs
 scanned_found a e rs = omega (arith, filter_long a e rs, found_from a e begun rs)
 
 pub clips : (a e : ℕ) (rs rest out : List Range) → a < e → Ascends 0 rs → (scanned a e begun rs).found ≤ length out
-    → clipping (scanned a e begun rs).found (scanned a e begun rs).first a e (rs ++ rest) out ≡ iter_filter a e rs ++ drop (scanned a e begun rs).found out
+    → clipping (scanned a e begun rs).found (scanned a e begun rs).first a e (rs ++ rest) out ≡ iter_filter a e rs
+    ++ drop (scanned a e begun rs).found out
 clips a e rs rest out k t h =
     let n : (scanned a e begun rs).found ≡ founds a e rs = omega (arith, found_from a e begun rs) in
     let first : (scanned a e begun rs).first ≡ firsts a rs = omega (arith, first_from a e begun rs) in let both = both_few a e rs in

@@ -1,8 +1,8 @@
 -- The second pass of `coalesce`: what is written, zeros where records were read and not written again, and what is left to read.
-use Rattle.std.specs.Prelude.{◌+◌, ◌-◌, ◌<◌, ◌≡◌, ◌∷◌, ◌++◌}
-use Rattle.model.specs.Prelude.{ℕ, zero, suc, arith, refl, sym, ap, ◌∙◌, Bool, true, false, List, []}
-use Rattle.model.specs.Prelude.{append_assoc, length, get_or, set, replicate, length-append, length-replicate, set_at, get_or_at, lt-ltb}
+use Rattle.model.specs.Prelude.{ℕ, zero, suc, arith, refl, sym, ap, ◌∙◌, Bool, true, false, List, [], append_assoc, length, get_or, set}
+use Rattle.model.specs.Prelude.{replicate, length-append, length-replicate, set_at, get_or_at, lt-ltb}
 use Rattle.model.specs.{declared.Range.Range, RangedStates.{range, joins, coalesce_from, coalesce}}
+use Rattle.std.specs.Prelude.{◌+◌, ◌-◌, ◌<◌, ◌≡◌, ◌∷◌, ◌++◌}
 use Rattle.range_states.specs.View.{blank}
 use Rattle.range_records.specs.{declared.decisions.Next.Next, Passes.{join_of, Joined, joining}}
 
@@ -18,7 +18,8 @@ zeros_more (suc z) l = ap (λ (t : List Range). blank ∷ t) (zeros_more z l)
 abbrev state : List Range → Range → ℕ → List Range → List Range
 state xs last z l = xs ++ (last ∷ (replicate z blank ++ l))
 
-module _ (xs : List Range) (last : Range) (z : ℕ) (n : Range) (l : List Range) (i len : ℕ) (q : i ≡ length xs + suc z) (p : len ≡ suc (length xs)) where
+module _ (xs : List Range) (last : Range) (z : ℕ) (n : Range) (l : List Range) (i len : ℕ) (q : i ≡ length xs + suc z)
+    (p : len ≡ suc (length xs)) where
   long : length (xs ++ (last ∷ replicate z blank)) ≡ i
   long = rw (length-append, length-replicate) (sym q)
 
@@ -41,21 +42,25 @@ module _ (xs : List Range) (last : Range) (z : ℕ) (n : Range) (l : List Range)
       rw (← append_assoc xs (last ∷ []) (blank ∷ (replicate z blank ++ l)))
       (set_at (xs ++ (last ∷ [])) blank (replicate z blank ++ l) n len (omega (arith, length-append xs (last ∷ []))))
 
-turn : (k i len : ℕ) (last : Range) (l : List Range) {n : Range} {l₁ : List Range} {j : Next} → get_or l i blank ≡ n → set l i blank ≡ l₁ → join_of last len n ≡ j
+turn : (k i len : ℕ) (last : Range) (l : List Range) {n : Range} {l₁ : List Range} {j : Next} → get_or l i blank ≡ n
+    → set l i blank ≡ l₁ → join_of last len n ≡ j
     → joining (suc k) i len last l ≡ joining k (i + 1) j.len j.range (set l₁ j.at j.range)
 unfolding joining
 turn k i len last l p q r = rw (← r, ← q, ← p)
 
-next_yes : (last : Range) (len : ℕ) (n : Range) → 0 < len → joins last n ≡ true → join_of last len n ≡ record { range = range last.start n.end last.state; at = len - 1; len = len }
+next_yes : (last : Range) (len : ℕ) (n : Range) → 0 < len → joins last n ≡ true
+    → join_of last len n ≡ record { range = range last.start n.end last.state; at = len - 1; len = len }
 unfolding join_of
 next_yes last len n h q = rw (lt-ltb 0 len h, q)
 
-next_no : (last : Range) (len : ℕ) (n : Range) → 0 < len → joins last n ≡ false → join_of last len n ≡ record { range = n; at = len; len = len + 1 }
+next_no : (last : Range) (len : ℕ) (n : Range) → 0 < len → joins last n ≡ false
+    → join_of last len n ≡ record { range = n; at = len; len = len + 1 }
 unfolding join_of
 next_no last len n h q = rw (lt-ltb 0 len h, q)
 
 -- ---- all turns
-join_from : (m : ℕ) (xs : List Range) (last : Range) (z : ℕ) (us rest : List Range) (i len : ℕ) → i ≡ length xs + suc z → len ≡ suc (length xs) → m ≡ i + length us
+join_from : (m : ℕ) (xs : List Range) (last : Range) (z : ℕ) (us rest : List Range) (i len : ℕ) → i ≡ length xs + suc z
+    → len ≡ suc (length xs) → m ≡ i + length us
     → joining (length us) i len last (state xs last z (us ++ rest)) ≡ joined m (xs ++ coalesce_from last us) rest
 unfolding joining coalesce_from
 join_from m xs last z [] rest i len q p f =
@@ -73,15 +78,19 @@ join_from m xs last z (n ∷ us) rest i len q p f =
     both : Range
     both = range last.start n.end last.state
 
-    one : {j : Next} → join_of last len n ≡ j → joining (suc (length us)) i len last (state xs last z (n ∷ l)) ≡ joining (length us) (i + 1) j.len j.range (set (state xs last (suc z) l) j.at j.range)
+    one : {j : Next} → join_of last len n ≡ j
+        → joining (suc (length us)) i len last (state xs last z (n ∷ l))
+        ≡ joining (length us) (i + 1) j.len j.range (set (state xs last (suc z) l) j.at j.range)
     one e = turn (length us) i len last (state xs last z (n ∷ l)) (read xs last z n l i len q p) (cleared xs last z n l i len q p) e
 
     go : (b : Bool) → joins last n ≡ b
         → joining (length us) (i + 1) len both (state xs both (suc z) l) ≡ joined m (xs ++ coalesce_from both us) rest
-        → joining (length us) (i + 1) (len + 1) n (state (xs ++ (last ∷ [])) n z l) ≡ joined m ((xs ++ (last ∷ [])) ++ coalesce_from n us) rest
+        → joining (length us) (i + 1) (len + 1) n (state (xs ++ (last ∷ [])) n z l)
+        ≡ joined m ((xs ++ (last ∷ [])) ++ coalesce_from n us) rest
         → joining (suc (length us)) i len last (state xs last z (n ∷ l)) ≡ joined m (xs ++ coalesce_from last (n ∷ us)) rest
     go true y ih ih' = one (next_yes last len n (omega arith) y) ∙ rw (y, taken xs last z n l i len q p both) ih
-    go false y ih ih' = one (next_no last len n (omega arith) y) ∙ rw (y, added xs last z n l i len q p) (rw (append_assoc xs (last ∷ []) (coalesce_from n us)) at ih')
+    go false y ih ih' = one (next_no last len n (omega arith) y)
+        ∙ rw (y, added xs last z n l i len q p) (rw (append_assoc xs (last ∷ []) (coalesce_from n us)) at ih')
 
 pub join_all : (us rest : List Range) → joining (length us) 0 0 blank (us ++ rest) ≡ joined (length us) (coalesce us) rest
 unfolding joining coalesce

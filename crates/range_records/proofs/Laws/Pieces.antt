@@ -1,10 +1,10 @@
 -- The model's `isolate` piece by piece: what each record, and each gap before one, leaves.
+use Rattle.model.specs.Prelude.{ℕ, min, max, arith, refl, sym, ap, true, List, [], append_assoc, leb, ltb, lt-ltb, le-ltb, le-leb, lt-leb}
+use Rattle.model.specs.Prelude.{leb-true, ltb-true}
+use Rattle.model.specs.declared.{Range.Range}
+use Rattle.model.specs.RangedStates.{range, Cut, Rest, rest, with_run, cut_at, with_before, list_of, isolate_from, isolate}
+use Rattle.model.specs.{RangeCalls.ascends, BoolLaws.and_both as both}
 use Rattle.std.specs.Prelude.{◌≤◌, ◌<◌, ◌≡◌, ◌&&◌, ◌∷◌, ◌++◌, if◌then◌else◌}
-use Rattle.model.specs.Prelude.{ℕ, min, max, arith, refl, sym, ap, true, List, [], append_assoc, leb, ltb}
-use Rattle.model.specs.Prelude.{lt-ltb, le-ltb, le-leb, lt-leb, leb-true, ltb-true}
-use Rattle.model.specs.{declared.Range.Range}
-use Rattle.model.specs.{RangedStates.{range, Cut, Rest, rest, with_run, cut_at, with_before, list_of, isolate_from, isolate}, RangeCalls.ascends}
-use Rattle.model.specs.BoolLaws.{and_both as both}
 use Rattle.range_isolate.specs.Isolation.{all_of, gap_before}
 use Rattle.range_isolate.proofs.Covering.{by_order, from_before, from_last, from_more}
 
@@ -103,7 +103,8 @@ module _ (a e d g p : ℕ) (r : Range) (s : List Range) (h : a ≤ p) (k : p < e
       let low : max p a ≡ p = omega arith in let high : min r.start e ≡ r.start = omega arith in
       rw (low, high)
 
-  runs_cut : r.start < e → e < r.end → Runs a e d g p (r ∷ s) (with_run (gap_before d p r.start) (rest (range (max p r.start) e r.state ∷ []) (range e r.end r.state ∷ s)))
+  runs_cut : r.start < e → e < r.end
+      → Runs a e d g p (r ∷ s) (with_run (gap_before d p r.start) (rest (range (max p r.start) e r.state ∷ []) (range e r.end r.state ∷ s)))
   unfolding middles pieces slices
   runs_cut u v =
       let low : max p r.start ≡ r.start = omega arith in let below = part_none r.start (min r.end a) r.state (omega arith) in
@@ -114,7 +115,8 @@ module _ (a e d g p : ℕ) (r : Range) (s : List Range) (h : a ≤ p) (k : p < e
         all = rw (low, gap_is u, below, inner, above, pieces_past a e d g r.end s (omega arith) (omega arith) t.2, append_assoc);
       }
 
-  runs_on : (c : Rest) → r.start < e → r.end ≤ e → Runs a e d g r.end s c → Runs a e d g p (r ∷ s) (with_run (gap_before d p r.start) (with_run (r ∷ []) c))
+  runs_on : (c : Rest) → r.start < e → r.end ≤ e → Runs a e d g r.end s c
+      → Runs a e d g p (r ∷ s) (with_run (gap_before d p r.start) (with_run (r ∷ []) c))
   unfolding middles pieces slices
   runs_on c u v ih =
       let below = part_none r.start (min r.end a) r.state (omega arith) in
@@ -128,7 +130,11 @@ module _ (a e d g p : ℕ) (r : Range) (s : List Range) (h : a ≤ p) (k : p < e
 runs : (a e d g p : ℕ) (s : List Range) → a ≤ p → p < e → e ≤ g → Ascends p s → Runs a e d g p s (isolate_from p e d s)
 unfolding isolate_from middles pieces
 runs a e d g p [] h k f t =
-    record { run = sym (part_some (max p a) e d p e (omega arith) refl k); all = sym (part_some (max p a) (min g e) d p e (omega arith) (omega arith) k) }
+    record {
+      run = sym (part_some (max p a) e d p e (omega arith) refl k);
+      all =
+          sym (part_some (max p a) (min g e) d p e (omega arith) (omega arith) k);
+    }
 runs a e d g p (r ∷ s) h k f t =
     by_order e r.start (λ u. rw (from_before p e d r s u) (runs_before a e d g p r s h k t u)) λ u.
     by_order e r.end
@@ -136,7 +142,8 @@ runs a e d g p (r ∷ s) h k f t =
     (λ w. rw (le-ltb e r.end w) (runs_on a e d g p r s h k t (rest [] s) u w
     (record { run = sym (middles_past a e d r.end s v t.2); all = sym (pieces_past a e d g r.end s (omega arith) v t.2) })))
     (λ w. rw (lt-ltb e r.end w) (runs_cut a e d g p r s h k t u w))))
-    (λ v. rw (from_more p e d r s u v) (runs_on a e d g p r s h k t (isolate_from r.end e d s) u (omega arith) (runs a e d g r.end s (omega arith) v f t.2)))
+    (λ v. rw (from_more p e d r s u v) (runs_on a e d g p r s h k t (isolate_from r.end e d s) u (omega arith)
+    (runs a e d g r.end s (omega arith) v f t.2)))
 
 -- ---- `isolate`: what lies before the index, its run, and the whole
 pub record Pieced (a e d g from : ℕ) (s : List Range) (c : Cut) : Type 0 where
@@ -154,7 +161,8 @@ module _ (a e d g from : ℕ) (r : Range) (s : List Range) (h : from ≤ a) (k :
       let above = part_none (max r.start e) r.end r.state (omega arith) in
       record { before = rw (below, ih.before); run = rw (gap, inner, ih.run); all = rw (gap, below, inner, above, ← ih.all) }
 
-  pieced_lead : r.start < a → a < r.end → Pieced a e d g from (r ∷ s) (cut_at (range r.start a r.state ∷ []) (isolate_from a e d (range a r.end r.state ∷ s)))
+  pieced_lead : r.start < a → a < r.end
+      → Pieced a e d g from (r ∷ s) (cut_at (range r.start a r.state ∷ []) (isolate_from a e d (range a r.end r.state ∷ s)))
   unfolding belows middles pieces slices
   pieced_lead u v =
       let i = runs a e d g a (range a r.end r.state ∷ s) (omega arith) k f (omega arith, v, t.2) in
@@ -178,8 +186,13 @@ module _ (a e d g from : ℕ) (r : Range) (s : List Range) (h : from ≤ a) (k :
 pub pieced : (a e d g from : ℕ) (s : List Range) → from ≤ a → a < e → e ≤ g → Ascends from s → Pieced a e d g from s (isolate a e d s)
 unfolding isolate isolate_from belows middles pieces
 pieced a e d g from [] h k f t =
-    record { before = refl; run = sym (part_some (max from a) e d a e (omega arith) refl k); all = sym (part_some (max from a) (min g e) d a e (omega arith) (omega arith) k) }
+    record {
+      before = refl;
+      run = sym (part_some (max from a) e d a e (omega arith) refl k);
+      all = sym (part_some (max from a) (min g e) d a e (omega arith) (omega arith) k);
+    }
 pieced a e d g from (r ∷ s) h k f t =
-    by_order r.end a (λ u. rw (le-leb r.end a u) (pieced_whole a e d g from r s h k f t (isolate a e d s) u (pieced a e d g r.end s u k f t.2))) λ u.
+    by_order r.end a (λ u. rw (le-leb r.end a u)
+    (pieced_whole a e d g from r s h k f t (isolate a e d s) u (pieced a e d g r.end s u k f t.2))) λ u.
     by_order a r.start (λ v. rw (lt-leb r.end a u, le-ltb r.start a v) (pieced_here a e d g from r s h k f t v)) λ v.
     rw (lt-leb r.end a u, lt-ltb r.start a v) (pieced_lead a e d g from r s h k f t v u)

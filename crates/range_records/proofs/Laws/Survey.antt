@@ -1,8 +1,8 @@
 -- What the first pass finds: whether the records ascend, and how many of everything there are.
-use Rattle.std.specs.Prelude.{◌+◌, ◌≤◌, ◌<◌, ◌≡◌, ◌&&◌, ◌∷◌, if◌then◌else◌}
-use Rattle.model.specs.Prelude.{ℕ, suc, min, max, arith, refl, sym, ap, ◌∙◌, Bool, true, false, and-true}
-use Rattle.model.specs.Prelude.{and_assoc, List, [], leb, ltb, length, get_or, length-append, lt-ltb, le-ltb, le-leb, lt-leb}
+use Rattle.model.specs.Prelude.{ℕ, suc, min, max, arith, refl, sym, ap, ◌∙◌, Bool, true, false, and-true, and_assoc, List, [], leb, ltb}
+use Rattle.model.specs.Prelude.{length, get_or, length-append, lt-ltb, le-ltb, le-leb, lt-leb}
 use Rattle.model.specs.{declared.Range.Range, RangedStates.{range, list_of, isolate}, RangeCalls.ascends}
+use Rattle.std.specs.Prelude.{◌+◌, ◌≤◌, ◌<◌, ◌≡◌, ◌&&◌, ◌∷◌, if◌then◌else◌}
 use Rattle.range_states.specs.{View.blank, Filtering.overlaps}
 use Rattle.range_records.specs.declared.decisions.Scan.{Scan}
 use Rattle.range_records.specs.Passes.{count_of, begun, follows_of, look_of, scanned, gaps_of, length_of, Few}
@@ -42,7 +42,8 @@ ascends_from a e s (r ∷ rs) = ascends_from a e (look_of a e s r) rs ∙ and_as
 pub scanned_ascends : (a e : ℕ) (rs : List Range) → (scanned a e begun rs).ascends ≡ ascends 0 rs
 scanned_ascends a e rs = ascends_from a e begun rs
 
-pub scanned_end : (a e : ℕ) (s : Scan) (r : Range) (rs : List Range) → (get_or (r ∷ rs) (length rs) blank).end ≡ (scanned a e s (r ∷ rs)).from
+pub scanned_end : (a e : ℕ) (s : Scan) (r : Range) (rs : List Range)
+    → (get_or (r ∷ rs) (length rs) blank).end ≡ (scanned a e s (r ∷ rs)).from
 unfolding scanned look_of
 scanned_end a e s r [] = refl
 scanned_end a e s r (q ∷ rs) = scanned_end a e (look_of a e s r) q rs
@@ -63,9 +64,11 @@ count_ge : (x y : ℕ) → y ≤ x → count_of (ltb x y) ≡ 0
 count_ge x y h = rw (le-ltb x y h)
 
 -- a record has something before a if it ends there, or is cut there
-below_count : (a : ℕ) (r : Range) → r.start < r.end → count_of (ltb r.start (min r.end a)) ≡ count_of (leb r.end a) + count_of (ltb r.start a && ltb a r.end)
+below_count : (a : ℕ) (r : Range) → r.start < r.end
+    → count_of (ltb r.start (min r.end a)) ≡ count_of (leb r.end a) + count_of (ltb r.start a && ltb a r.end)
 below_count a r h =
-    by_order r.end a (λ u. rw (le-leb r.end a u, lt-ltb r.start a (omega arith), le-ltb a r.end u) (count_lt r.start (min r.end a) (omega arith))) λ u.
+    by_order r.end a (λ u. rw (le-leb r.end a u, lt-ltb r.start a (omega arith), le-ltb a r.end u)
+    (count_lt r.start (min r.end a) (omega arith))) λ u.
     by_order a r.start (λ v. rw (lt-leb r.end a u, le-ltb r.start a v) (count_ge r.start (min r.end a) (omega arith))) λ v.
     rw (lt-leb r.end a u, lt-ltb r.start a v, lt-ltb a r.end u) (count_lt r.start (min r.end a) (omega arith))
 
@@ -79,25 +82,35 @@ inner_count a e r k h =
 
 -- what it has past e is one piece more if e cuts it, or is all that it has
 above_count : (a e : ℕ) (r : Range) → a < e → r.start < r.end
-    → count_of (leb r.end a) + count_of (overlaps a e r) + count_of (ltb (max r.start e) r.end) ≡ 1 + count_of (ltb r.start e && ltb e r.end)
+    → count_of (leb r.end a) + count_of (overlaps a e r) + count_of (ltb (max r.start e) r.end)
+    ≡ 1 + count_of (ltb r.start e && ltb e r.end)
 unfolding overlaps
 above_count a e r k h =
     by_order e r.start
-    (λ u. rw (lt-leb r.end a (omega arith), lt-ltb a r.end (omega arith), le-ltb r.start e u, count_lt (max r.start e) r.end (omega arith))) λ u.
+    (λ u. rw (lt-leb r.end a (omega arith), lt-ltb a r.end (omega arith), le-ltb r.start e u, count_lt (max r.start e) r.end (omega arith)))
+    λ u.
     by_order r.end e
     (λ v. rw (lt-ltb r.start e u, le-ltb e r.end v, count_ge (max r.start e) r.end (omega arith))
     (by_order r.end a (λ w. rw (le-leb r.end a w, le-ltb a r.end w)) (λ w. rw (lt-leb r.end a w, lt-ltb a r.end w)))) λ v.
-    rw (lt-leb r.end a (omega arith), lt-ltb a r.end (omega arith), lt-ltb r.start e u, lt-ltb e r.end v, count_lt (max r.start e) r.end (omega arith))
+    rw (
+      lt-leb r.end a (omega arith),
+      lt-ltb a r.end (omega arith),
+      lt-ltb r.start e u,
+      lt-ltb e r.end v,
+      count_lt (max r.start e) r.end (omega arith),
+    )
 
 -- ---- the counts, after any records
-belows_long : (a e : ℕ) (s : Scan) (rs : List Range) → Ascends s.from rs → (scanned a e s rs).first + (scanned a e s rs).lead ≡ s.first + s.lead + length (belows a rs)
+belows_long : (a e : ℕ) (s : Scan) (rs : List Range) → Ascends s.from rs
+    → (scanned a e s rs).first + (scanned a e s rs).lead ≡ s.first + s.lead + length (belows a rs)
 unfolding scanned look_of belows
 belows_long a e s [] t = omega arith
 belows_long a e s (r ∷ rs) t =
     let ih = belows_long a e (look_of a e s r) rs t.2 in
     simp (length-append, part_long) (omega (arith, ih, below_count a r t.1))
 
-middles_long : (a e d : ℕ) (s : Scan) (rs : List Range) → a < e → Ascends s.from rs → (scanned a e s rs).found + gaps_of a e (scanned a e s rs) ≡ s.found + s.gaps + length (middles a e d s.from rs)
+middles_long : (a e d : ℕ) (s : Scan) (rs : List Range) → a < e → Ascends s.from rs
+    → (scanned a e s rs).found + gaps_of a e (scanned a e s rs) ≡ s.found + s.gaps + length (middles a e d s.from rs)
 unfolding scanned look_of middles
 middles_long a e d s [] k t = omega (arith, part_long (max s.from a) e d)
 middles_long a e d s (r ∷ rs) k t =
@@ -105,7 +118,8 @@ middles_long a e d s (r ∷ rs) k t =
     simp (length-append, part_long) (omega (arith, ih, inner_count a e r k t.1))
 
 pieces_long : (a e d g : ℕ) (s : Scan) (rs : List Range) → a < e → e ≤ g → Ascends s.from rs
-    → length rs + gaps_of a e (scanned a e s rs) + (scanned a e s rs).lead + (scanned a e s rs).tail ≡ s.gaps + s.lead + s.tail + length (pieces a e d g s.from rs)
+    → length rs + gaps_of a e (scanned a e s rs) + (scanned a e s rs).lead + (scanned a e s rs).tail
+    ≡ s.gaps + s.lead + s.tail + length (pieces a e d g s.from rs)
 unfolding scanned look_of pieces
 pieces_long a e d g s [] k f t = let high : min g e ≡ e = omega arith in rw (high, part_long) (omega arith)
 pieces_long a e d g s (r ∷ rs) k f t =

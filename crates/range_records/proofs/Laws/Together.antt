@@ -1,21 +1,22 @@
 -- The passes are the model's calls: what each answers and leaves, for every input.
-use Rattle.std.specs.Prelude.{◌+◌, ◌≤◌, ◌<◌, ◌≡◌, ◌||◌, if◌then◌else◌}
-use Rattle.model.specs.Prelude.{ℕ, min, arith, refl, sym, ap, ◌∙◌, false, not, none, some, List, ltb, eqb, length}
-use Rattle.model.specs.Prelude.{take, drop, take-append-drop, length-take, length-take-le, lt-ltb, ltb-false, not-false}
+use Rattle.model.specs.Prelude.{ℕ, min, arith, refl, sym, ap, ◌∙◌, false, not, none, some, List, ltb, eqb, length, take, drop}
+use Rattle.model.specs.Prelude.{take-append-drop, length-take, length-take-le, lt-ltb, ltb-false, not-false}
 use Rattle.model.specs.declared.Refusal.TheVariants.{RangesOutOfOrder, NoFreeEntry}
 use Rattle.model.specs.{declared.{Range.Range, Refusal.Refusal, Verdict.Verdict}, Refusals.{first_failing, refused_for}}
 use Rattle.model.specs.RangedStates.{list_of, isolate, iter_filter}
 use Rattle.model.specs.RangeCalls.{ascends, ranges_check, run_checks, room_checks, isolate_refusal, coalesce_refusal, filter_refusal}
 use Rattle.model.specs.{BoolLaws.{by_test, neither}, CheckLaws.{passed, checks_append, refused_first, starts_below}}
+use Rattle.std.specs.Prelude.{◌+◌, ◌≤◌, ◌<◌, ◌≡◌, ◌||◌, if◌then◌else◌}
 use Rattle.range_states.specs.View.{blank}
 use Rattle.range_calls.specs.declared.{FilterAnswer.FilterAnswer}
-use Rattle.range_calls.specs.RangeContract.{isolate_answer, isolate_records, coalesce_answer, coalesce_records, filter_answer, filter_records}
+use Rattle.range_calls.specs.RangeContract.{isolate_answer, isolate_records, coalesce_answer, coalesce_records, filter_answer}
+use Rattle.range_calls.specs.RangeContract.{filter_records}
 use Rattle.range_records.specs.{declared.decisions.Scan.Scan, declared.decisions.Plan.Plan}
-use Rattle.range_records.specs.Passes.{begun, scanned, length_of, refused_plan, isolated_plan, room_plan, plan_for, isolate_plan, verdict_of}
-use Rattle.range_records.specs.Passes.{run_verdict, granted_of, coalesced_of, room_answer, filter_for, filter_plan, filter_count, cutting}
-use Rattle.range_records.specs.Passes.{Joined, joining, clipping}
-use Rattle.range_records.proofs.{Laws.Pieces.{Ascends, ascending}, Laws.Survey.{scanned_ascends, Tells, scanned_tells}}
-use Rattle.range_records.proofs.{Laws.Cutting.cuts, Laws.Joining.join_all, Laws.Clipping.{scanned_both, scanned_found, clips}}
+use Rattle.range_records.specs.Passes.{begun, scanned, length_of, refused_plan, isolated_plan, room_plan, plan_for, isolate_plan}
+use Rattle.range_records.specs.Passes.{verdict_of, run_verdict, granted_of, coalesced_of, room_answer, filter_for, filter_plan}
+use Rattle.range_records.specs.Passes.{filter_count, cutting, Joined, joining, clipping}
+use Rattle.range_records.proofs.{Laws.Pieces.{Ascends, ascending}, Laws.Survey.{scanned_ascends, Tells, scanned_tells}, Laws.Cutting.cuts}
+use Rattle.range_records.proofs.{Laws.Joining.join_all, Laws.Clipping.{scanned_both, scanned_found, clips}}
 use Rattle.range_isolate.proofs.Covering.{by_order}
 use Rattle.model.specs.declared.Verdict.TheVariants as verdict
 use Rattle.range_calls.specs.declared.FilterAnswer.TheVariants as filter
@@ -127,7 +128,8 @@ module _ (a e d told : ℕ) (rs : List Range) where
     done o =
         let p = run_passed a e told rs h in let i = p.run in
         let accepted : isolate_refusal a e d told rs ≡ none = rw o at refusal_is in
-        let fits : length_of a e told (survey a e told rs) ≤ length rs = ltb-false (length rs) (length_of a e told (survey a e told rs)) o in
+        let fits : length_of a e told (survey a e told rs) ≤ length rs =
+        ltb-false (length rs) (length_of a e told (survey a e told rs)) o in
         let cut = cuts a e d (take told rs) rs p.below i.order (rw i.size) (rw all_is fits) in
         (rw (accepted, tells.position, tells.count, all_is), rw (accepted, ← all_is, i.used) (rw i.size at cut))
 
@@ -212,7 +214,8 @@ module _ (a e told : ℕ) (rs out : List Range) where
         (rw (accepted, found_is), rw (accepted, found_is, i.used) (rw (take-append-drop told rs) at clip))
 
   pub filters : let x = filter_plan (length rs) told (survey a e told rs) a e (length out) in
-      (x ≡ filter_answer a e told rs out) × (clipping (filter_count x) (survey a e told rs).first a e rs out ≡ filter_records a e told rs out)
+      (x ≡ filter_answer a e told rs out) × (clipping (filter_count x) (survey a e told rs).first a e rs out
+      ≡ filter_records a e told rs out)
   unfolding filter_plan
   filters = go (run_verdict (length rs) told (survey a e told rs) a e) refl
     where

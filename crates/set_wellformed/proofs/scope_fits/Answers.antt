@@ -13,7 +13,12 @@ returns-then-not-head_fits c =
 
 pub all_fit-requires : goal.all_fit-requires
 all_fit-requires c =
-    record { counts_ones = c.ones_table-ones.ensures; measured = head_measured _ _ c.table_len.ensures.1 (sym c.head_fits.ensures ∙ (c.if-not-head_fits.false)); n_value = (c.wide.ensures.0, c.flags_of.ensures) }
+    record {
+      counts_ones = c.ones_table-ones.ensures;
+      measured = head_measured _ _ c.table_len.ensures.1 (sym c.head_fits.ensures
+          ∙ (c.if-not-head_fits.false));
+      n_value = (c.wide.ensures.0, c.flags_of.ensures);
+    }
 
 pub returns : goal.returns
 returns c =

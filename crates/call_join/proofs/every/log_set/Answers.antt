@@ -15,7 +15,13 @@ overflow_add-at c =
 pub log_at-y-requires : goal.log_at-y-requires
 log_at-y-requires c =
     let v = c.loop-k.invariant in let p = c.requires in
-    let b = c.loop-k-test.true in record { logs_at = p.logs_set.each _ b; at_le_log_top = omega (arith, v.high, v.few, p.logs_set.few, p.set_top_bound, b); room_for = adding_room v p.room_for (up_next _ _ b) }
+    let b = c.loop-k-test.true in
+    record {
+      logs_at = p.logs_set.each _ b;
+      at_le_log_top = omega (arith, v.high, v.few, p.logs_set.few, p.set_top_bound, b);
+      room_for =
+          adding_room v p.room_for (up_next _ _ b);
+    }
 
 pub overflow_add-x : goal.overflow_add-x
 overflow_add-x c =

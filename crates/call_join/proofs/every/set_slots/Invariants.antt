@@ -7,7 +7,9 @@ use Rattle.texture_track.specs.GivenSlot.{slot_after}
 use Rattle.call_join.proofs.every.set_slots.Given as goal
 
 abbrev pub invariant-loop-k : goal.invariant-loop-k
-invariant-loop-k l = (l.k ≤ l.n) × Setting (Within l.initial.table (OwnedBy l.given)) l.initial.table l.initial.starts l.initial.ends (slot_after l.p l.from l.to l.given l.first l.last) l.k l.table l.starts l.ends
+invariant-loop-k l = (l.k ≤ l.n)
+    × Setting (Within l.initial.table (OwnedBy l.given)) l.initial.table l.initial.starts l.initial.ends (slot_after l.p l.from l.to l.given
+    l.first l.last) l.k l.table l.starts l.ends
 
 abbrev pub decreases-loop-k : goal.decreases-loop-k
 decreases-loop-k l = l.n - l.k

@@ -1,6 +1,6 @@
 -- `merge_slots`: each lap merges one texture, and those to come read as at entry.
 use Rattle.model.specs.Prelude.{◌∙◌}
-use Rattle.call_merge.proofs.{Slots.{start, lap_ready, turn, stop, finish}}
+use Rattle.call_merge.proofs.Slots.{start, lap_ready, turn, stop, finish}
 use Rattle.std.proofs.Common.{rules}
 use Rattle.call_merge.proofs.scope.merge_slots.Goals as goal
 
@@ -9,7 +9,8 @@ loop-k-init c = start _ _ _ _ _
 
 pub merge_owned_at-x-requires : goal.merge_owned_at-x-requires
 merge_owned_at-x-requires c =
-    rw c.wide.ensures.0 (let w = (lap_ready c.loop-k.invariant c.requires c.loop-k-test.true) in record { owned_ready = w.0; p_value = w.1 })
+    rw c.wide.ensures.0 (let w = (lap_ready c.loop-k.invariant c.requires c.loop-k-test.true) in
+    record { owned_ready = w.0; p_value = w.1 })
 
 pub shape_of-ranges-in-At : goal.shape_of-ranges-in-At
 shape_of-ranges-in-At c = let e = c.merge_owned_at-x.ensures.frame.ranges.long

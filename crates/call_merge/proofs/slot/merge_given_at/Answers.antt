@@ -16,7 +16,8 @@ returns-then-table-i-eq0 c =
 
 pub merge_given-requires : goal.merge_given-requires
 merge_given-requires c =
-    let p = c.requires in let x = half_held p.half_ready c.if-table-i-eq0.false in record { set_ready = set_ready p.half_given p.p_value x.ready refl; merge_ready = merge_ready p.half_given p.p_value x }
+    let p = c.requires in let x = half_held p.half_ready c.if-table-i-eq0.false in
+    record { set_ready = set_ready p.half_given p.p_value x.ready refl; merge_ready = merge_ready p.half_given p.p_value x }
 
 pub returns : goal.returns
 returns c =

@@ -18,7 +18,8 @@ returns-then-table-i-eq0 c =
 pub merge_use-requires : goal.merge_use-requires
 merge_use-requires c =
     let p = c.requires in
-    let x = half_held p.half_ready c.if-table-i-eq0.false in record { use_ready = use_ready p.taken_use x.ready refl; held_ready = held_ready p.taken_use x }
+    let x = half_held p.half_ready c.if-table-i-eq0.false in
+    record { use_ready = use_ready p.taken_use x.ready refl; held_ready = held_ready p.taken_use x }
 
 pub returns-then-cur-p : goal.returns-then-cur-p
 returns-then-cur-p c =
@@ -27,7 +28,8 @@ returns-then-cur-p c =
 pub merge_single_use-requires : goal.merge_single_use-requires
 merge_single_use-requires c =
     let p = c.requires in let x = half_held p.half_ready c.if-table-i-eq0.false in
-    let u = rw c.if-all.true at (use_ready p.taken_use x.ready refl) in record { use_ready = u; single_ready = single_ready u (held_ready p.taken_use x) _ refl c.if-cur-p.false }
+    let u = rw c.if-all.true at (use_ready p.taken_use x.ready refl) in
+    record { use_ready = u; single_ready = single_ready u (held_ready p.taken_use x) _ refl c.if-cur-p.false }
 
 pub returns-then-all : goal.returns-then-all
 returns-then-all c =
@@ -39,7 +41,8 @@ returns-then-all c =
 pub merge_use-requires-2 : goal.merge_use-requires-2
 merge_use-requires-2 c =
     let p = c.requires in
-    let x = half_held p.half_ready c.if-table-i-eq0.false in record { use_ready = use_ready p.taken_use x.ready refl; held_ready = held_ready p.taken_use x }
+    let x = half_held p.half_ready c.if-table-i-eq0.false in
+    record { use_ready = use_ready p.taken_use x.ready refl; held_ready = held_ready p.taken_use x }
 
 pub returns : goal.returns
 returns c =

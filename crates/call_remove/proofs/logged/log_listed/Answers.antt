@@ -2,7 +2,7 @@
 use Rattle.model.specs.Prelude.{arith}
 use Rattle.texture_barrier.specs.Adds.{adding_start, adding_room, adding_few, adding_end}
 use Rattle.log_head.specs.UpTo.{up_all, up_next, up_done}
-use Rattle.call_remove.proofs.{Seen.{seen_none, seen_next, once_is}}
+use Rattle.call_remove.proofs.Seen.{seen_none, seen_next, once_is}
 use Rattle.call_remove.proofs.logged.log_listed.Goals as goal
 
 pub loop-k-init : goal.loop-k-init
@@ -20,7 +20,12 @@ pub log_listed_at-y-requires : goal.log_listed_at-y-requires
 log_listed_at-y-requires c =
     let a = c.args in let v = c.loop-k.invariant in let b = c.loop-k-test.true in
     let e = c.wide-i.ensures.0 in let f = c.requires.logs_listed.each _ b in
-    let o = once_is v.1 e f.index a.p a.mask a.table.now a.ends.now a.given.now a.lent.now in record { logs_at = rw e f; at_le_log_top = omega (arith, v.0.into.few, c.requires.most_entries_bound); room_for = rw o (adding_room v.0 c.requires.fact (up_next _ _ b)) }
+    let o = once_is v.1 e f.index a.p a.mask a.table.now a.ends.now a.given.now a.lent.now in
+    record {
+      logs_at = rw e f;
+      at_le_log_top = omega (arith, v.0.into.few, c.requires.most_entries_bound);
+      room_for = rw o (adding_room v.0 c.requires.fact (up_next _ _ b));
+    }
 
 pub bounds-seen-i-in-loop-k : goal.bounds-seen-i-in-loop-k
 bounds-seen-i-in-loop-k c =

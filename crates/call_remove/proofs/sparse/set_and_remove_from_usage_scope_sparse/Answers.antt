@@ -1,11 +1,10 @@
 -- `set_and_remove_from_usage_scope_sparse`: each check turns the call away with everything lent as it was, and what passes them all is
 -- `remove_checked`.
-use Rattle.model.specs.Prelude.{sym, ◌∙◌}
+use Rattle.model.specs.Prelude.{sym, ◌∙◌, ap, not}
 use Rattle.set_ready.specs.Tested.{tracker_tested, scope_tested}
 use Rattle.set_wellformed.specs.Whole.{scope_unfit, scope_fit, tracker_unfit, tracker_fit, first_unfit, second_unfit, both_fit}
 use Rattle.call_remove.specs.Removed.{away_unfit, away_short}
 use Rattle.call_remove.proofs.Removal.{removes, few_entries, most_entries_lem, tracker_part, scope_part, call_done, call_away}
-use Rattle.model.specs.Prelude.{ap, not}
 use Rattle.call_remove.proofs.sparse.set_and_remove_from_usage_scope_sparse.Goals as goal
 
 pub returns-then-not-tracker_fits : goal.returns-then-not-tracker_fits
@@ -43,7 +42,14 @@ remove_checked-requires c =
     let g = scope_tested _ _ c.scope_fits.ensures.long given in
     let k = (rw c.lent_entries.ensures.0 at (sym c.head_fits.ensures
     ∙ (c.if-not-head_fits.false))) in
-    let a = tracker_part _ _ _ fit in let b = scope_part _ _ given in record { listing = removes t g z; indices_len_bound = few_entries t g z a b; indices_len_bound_2 = most_entries_lem t g z a b; head_value = k; log_len_bound = c.lent_entries.ensures.1 }
+    let a = tracker_part _ _ _ fit in let b = scope_part _ _ given in
+    record {
+      listing = removes t g z;
+      indices_len_bound = few_entries t g z a b;
+      indices_len_bound_2 = most_entries_lem t g z a b;
+      head_value = k;
+      log_len_bound = c.lent_entries.ensures.1;
+    }
 
 pub returns-in-Accepted : goal.returns-in-Accepted
 returns-in-Accepted c =

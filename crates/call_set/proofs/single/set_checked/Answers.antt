@@ -1,14 +1,13 @@
 -- `set_checked`: 15 where the entries do not fit; otherwise they are written, and the texture changes.
-use Rattle.std.specs.Prelude.{◌/◌}
 use Rattle.model.specs.Prelude.{arith, refl, false≢true, List, length}
 use Rattle.model.specs.declared.{PendingTransition.PendingTransition}
+use Rattle.std.specs.Prelude.{◌/◌}
 use Rattle.set_storage.specs.Stays.{both_refl}
 use Rattle.texture_merge.specs.Uses.{use_of}
 use Rattle.log_head.specs.{Log.head_le, Called.{room_for, Fitting, counted_fits, all_fit, wrote, not_enough, written}}
 use Rattle.call_set.specs.Used.{used_entries}
-use Rattle.call_set.proofs.{Uses.used}
+use Rattle.call_set.proofs.{Uses.used, single.set_checked.Goals.{then-free-subresources+else-free-n, else-free-subresources}}
 use Rattle.call_set.proofs.single.set_checked.Goals as goal
-use Rattle.call_set.proofs.single.set_checked.Goals.{then-free-subresources+else-free-n, else-free-subresources}
 
 pub subresources-requires : goal.subresources-requires
 subresources-requires c = let m = c.requires.both_ready.start.measured in (m.textures, (m.mips, m.layers))
@@ -58,7 +57,8 @@ moved_on-requires c =
           counted_fits (rw c.flags_of-p.ensures at w.log_use_at-n.ensures) w.if-free-n.false w.log-is
       | else-free-subresources w ↦ all_fit c.requires.len_bound c.subresources.ensures w.if-free-subresources.false w.log-is
     ] in
-    let logged = wrote (c.requires.head_value, c.requires.log_len_bound) f.fits (rw (c.flags_of-p.ensures, f.same) at c.log_use_at-n-2.ensures) in
+    let logged = wrote (c.requires.head_value, c.requires.log_len_bound) f.fits
+    (rw (c.flags_of-p.ensures, f.same) at c.log_use_at-n-2.ensures) in
     record { n_le_free = logged.moves.0; free_bound = logged.moves.1 }
 
 pub returns : goal.returns
@@ -70,6 +70,7 @@ returns c =
           counted_fits (rw c.flags_of-p.ensures at w.log_use_at-n.ensures) w.if-free-n.false w.log-is
       | else-free-subresources w ↦ all_fit c.requires.len_bound c.subresources.ensures w.if-free-subresources.false w.log-is
     ] in
-    let logged = wrote (c.requires.head_value, c.requires.log_len_bound) f.fits (rw (c.flags_of-p.ensures, f.same) at c.log_use_at-n-2.ensures) in
+    let logged = wrote (c.requires.head_value, c.requires.log_len_bound) f.fits
+    (rw (c.flags_of-p.ensures, f.same) at c.log_use_at-n-2.ensures) in
     let set = rw c.flags_of-p.ensures at c.set_use_at.ensures in
     rw c.moved_on.ensures (used _ _ _ _ _ _ c.requires.both_ready set (written logged))

@@ -1,14 +1,14 @@
 -- `set_single_lem`: the test, the log's head, the checks, and then the use.
-use Rattle.model.specs.Prelude.{sym, ◌∙◌}
+use Rattle.model.specs.Prelude.{sym, ◌∙◌, ap, not}
 use Rattle.set_wellformed.specs.Whole.{tracker_unfit, tracker_fit}
 use Rattle.set_ready.specs.Tested.{tracker_tested}
 use Rattle.texture_track.specs.Tracked.{away_unfit, away_short}
 use Rattle.call_set.proofs.Uses.{single_away, single_done, single_few, single_ready, single_use, as_use_lem}
-use Rattle.model.specs.Prelude.{ap, not}
 use Rattle.call_set.proofs.single.set_single.Goals as goal
 
 pub returns-then-not-tracker_fits : goal.returns-then-not-tracker_fits
-returns-then-not-tracker_fits c = rw c.refused.ensures (away_unfit (tracker_unfit c.tracker_fits.ensures (ap not c.if-not-tracker_fits.true)))
+returns-then-not-tracker_fits c =
+    rw c.refused.ensures (away_unfit (tracker_unfit c.tracker_fits.ensures (ap not c.if-not-tracker_fits.true)))
 
 pub returns-then-not-head_fits : goal.returns-then-not-head_fits
 returns-then-not-head_fits c =

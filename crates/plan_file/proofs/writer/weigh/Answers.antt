@@ -6,4 +6,5 @@ pub loop-i-init : goal.loop-i-init
 loop-i-init c = weigh_starts
 
 pub loop-i-preserved : goal.loop-i-preserved
-loop-i-preserved c = weigh_turns c.loop-i.invariant c.loop-i-test.true c.level_by-level.ensures c.larger_of-deep.ensures c.cost_by-total.ensures
+loop-i-preserved c = weigh_turns c.loop-i.invariant c.loop-i-test.true c.level_by-level.ensures
+    c.larger_of-deep.ensures c.cost_by-total.ensures

@@ -9,4 +9,16 @@ overflow_add-result-5 c = record { fits = omega (arith, c.requires.tail, c.one-5
 pub returns : goal.returns
 unfolding look_of
 returns c =
-    rw (c.follows.ensures, c.one.ensures.0, c.one-2.ensures.0, c.one-3.ensures.0, c.one-4.ensures.0, c.one-5.ensures.0, c.overlap.ensures, c.larger.ensures, c.smaller.ensures, c.cuts.ensures, c.cuts-2.ensures)
+    rw (
+      c.follows.ensures,
+      c.one.ensures.0,
+      c.one-2.ensures.0,
+      c.one-3.ensures.0,
+      c.one-4.ensures.0,
+      c.one-5.ensures.0,
+      c.overlap.ensures,
+      c.larger.ensures,
+      c.smaller.ensures,
+      c.cuts.ensures,
+      c.cuts-2.ensures,
+    )

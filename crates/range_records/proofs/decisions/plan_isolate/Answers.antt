@@ -1,11 +1,9 @@
 -- `plan_isolate` is what the run is refused for, 15, or what is told.
-use Rattle.std.specs.Prelude.{◌≤◌, ◌≡◌}
 use Rattle.model.specs.Prelude.{ℕ, arith, refl, sym, ◌∙◌, lt-ltb, le-ltb}
-use Rattle.model.specs.declared.Verdict.TheVariants.{Accepted}
-use Rattle.model.specs.declared.Verdict.{Verdict}
-use Rattle.range_records.specs.declared.decisions.Scan.{Scan}
-use Rattle.range_records.specs.Passes.{run_verdict, isolate_plan}
-use Rattle.range_records.proofs.{Laws.Together.run_told}
+use Rattle.model.specs.{declared.Verdict.TheVariants.Accepted, declared.Verdict.Verdict}
+use Rattle.std.specs.Prelude.{◌≤◌, ◌≡◌}
+use Rattle.range_records.specs.{declared.decisions.Scan.Scan, Passes.{run_verdict, isolate_plan}}
+use Rattle.range_records.proofs.Laws.Together.{run_told}
 use Rattle.range_records.proofs.decisions.plan_isolate.Goals as goal
 
 -- where the run is accepted
@@ -15,17 +13,47 @@ told_fits lent told s start end v e h = run_told lent told s start end (sym e �
 pub overflow_add-n : goal.overflow_add-n
 overflow_add-n c =
     let p = c.requires in
-    record { fits = omega (arith, told_fits _ _ _ _ _ _ c.check_run.ensures c.in-Accepted.is, c.one.ensures.1, p.few.gaps, p.few.lead, p.few.tail, p.lent_bound) }
+    record {
+      fits = omega (
+        arith,
+        told_fits _ _ _ _ _ _ c.check_run.ensures c.in-Accepted.is,
+        c.one.ensures.1,
+        p.few.gaps,
+        p.few.lead,
+        p.few.tail,
+        p.lent_bound,
+      );
+    }
 
 pub overflow_add-n-in-Accepted : goal.overflow_add-n-in-Accepted
 overflow_add-n-in-Accepted c =
     let p = c.requires in
-    record { fits = omega (arith, told_fits _ _ _ _ _ _ c.check_run.ensures c.in-Accepted.is, c.one.ensures.1, p.few.gaps, p.few.lead, p.few.tail, p.lent_bound) }
+    record {
+      fits = omega (
+        arith,
+        told_fits _ _ _ _ _ _ c.check_run.ensures c.in-Accepted.is,
+        c.one.ensures.1,
+        p.few.gaps,
+        p.few.lead,
+        p.few.tail,
+        p.lent_bound,
+      );
+    }
 
 pub overflow_add-n-in-Accepted-2 : goal.overflow_add-n-in-Accepted-2
 overflow_add-n-in-Accepted-2 c =
     let p = c.requires in
-    record { fits = omega (arith, told_fits _ _ _ _ _ _ c.check_run.ensures c.in-Accepted.is, c.one.ensures.1, p.few.gaps, p.few.lead, p.few.tail, p.lent_bound) }
+    record {
+      fits = omega (
+        arith,
+        told_fits _ _ _ _ _ _ c.check_run.ensures c.in-Accepted.is,
+        c.one.ensures.1,
+        p.few.gaps,
+        p.few.lead,
+        p.few.tail,
+        p.lent_bound,
+      );
+    }
 
 pub returns-then-lent-n : goal.returns-then-lent-n
 unfolding isolate_plan

@@ -12,5 +12,6 @@ loop-w-init c = record {
 pub loop-w-preserved : goal.loop-w-preserved
 loop-w-preserved c = record {
   few = omega arith;
-  is = rw (c.clipped.ensures, c.loop-w.invariant.is) (clipping_more c.loop-w.w c.args.first c.args.start c.args.end c.args.run.now c.args.out.now);
+  is = rw (c.clipped.ensures, c.loop-w.invariant.is)
+      (clipping_more c.loop-w.w c.args.first c.args.start c.args.end c.args.run.now c.args.out.now);
 }

@@ -8,4 +8,5 @@ pub returns : goal.returns
 returns c =
     let len = ap (λ (j : Joined). j.len) c.join-len.ensures in
     let records = ap (λ (j : Joined). j.records) c.join-len.ensures in
-    rw (c.coalesced.ensures, len, records, c.granted.ensures, c.verdict-v.ensures, c.survey-s.ensures, c.within-n.ensures) (coalesces c.args.told c.args.run.now)
+    rw (c.coalesced.ensures, len, records, c.granted.ensures, c.verdict-v.ensures, c.survey-s.ensures, c.within-n.ensures)
+    (coalesces c.args.told c.args.run.now)

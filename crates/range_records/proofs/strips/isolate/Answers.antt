@@ -1,7 +1,7 @@
 -- `isolate` is its passes, and these are the model's call.
-use Rattle.std.specs.Prelude.{◌≤◌}
 use Rattle.model.specs.Prelude.{arith, length, take, length-take}
-use Rattle.range_records.proofs.Laws.{Loops.few_under, Survey.scanned_few, Together.{isolate_fits, isolates}}
+use Rattle.std.specs.Prelude.{◌≤◌}
+use Rattle.range_records.proofs.{Laws.Loops.few_under, Laws.Survey.scanned_few, Laws.Together.{isolate_fits, isolates}}
 use Rattle.range_records.proofs.strips.isolate.Goals as goal
 
 pub plan_isolate-p-requires-clause-few : goal.plan_isolate-p-requires-clause-few
@@ -16,4 +16,5 @@ cut-requires c =
     (omega (arith, c.within-n.ensures), rw (c.plan_isolate-p.ensures, c.survey-s.ensures, c.within-n.ensures) fits)
 
 pub returns : goal.returns
-returns c = rw (c.cut.ensures, c.plan_isolate-p.ensures, c.survey-s.ensures, c.within-n.ensures) (isolates c.args.start c.args.end c.args.default c.args.told c.args.run.now)
+returns c = rw (c.cut.ensures, c.plan_isolate-p.ensures, c.survey-s.ensures, c.within-n.ensures)
+    (isolates c.args.start c.args.end c.args.default c.args.told c.args.run.now)

@@ -1,8 +1,7 @@
 -- `survey` scans one record more in each turn, and a record adds at most one to each count.
-use Rattle.std.specs.Prelude.{◌+◌, ◌<◌}
 use Rattle.model.specs.Prelude.{arith, sym, ◌∙◌, subst, length}
-use Rattle.range_records.specs.declared.decisions.Scan.{Scan}
-use Rattle.range_records.specs.Passes.{begun, Few}
+use Rattle.std.specs.Prelude.{◌+◌, ◌<◌}
+use Rattle.range_records.specs.{declared.decisions.Scan.Scan, Passes.{begun, Few}}
 use Rattle.range_records.proofs.Laws.Loops.{scanned_none, scanned_more, few_none, few_look}
 use Rattle.range_records.proofs.strips.survey.Goals as goal
 
@@ -19,5 +18,6 @@ loop-k-preserved c =
     record {
       few = omega arith;
       is = c.look-s.ensures ∙ rw c.loop-k.invariant.is (scanned_more c.loop-k.k c.args.start c.args.end begun c.args.run.now inside);
-      counts = subst (λ (s : Scan). Few s (c.loop-k.k + 1)) (sym c.look-s.ensures) (few_look c.loop-k.k c.args.start c.args.end c.loop-k.s _ c.loop-k.invariant.counts);
+      counts = subst (λ (s : Scan). Few s (c.loop-k.k + 1)) (sym c.look-s.ensures)
+          (few_look c.loop-k.k c.args.start c.args.end c.loop-k.s _ c.loop-k.invariant.counts);
     }

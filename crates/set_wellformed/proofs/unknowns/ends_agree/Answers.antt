@@ -5,7 +5,11 @@ use Rattle.set_wellformed.proofs.unknowns.ends_agree.Goals as goal
 
 pub mips_agree-requires : goal.mips_agree-requires
 mips_agree-requires c =
-    record { mips_fit = start_mips c.requires.ends_ready c.requires.halves_fit c.if-table-i.true; mips_fit_2 = end_mips c.requires.ends_ready c.requires.halves_fit c.if-table-i-2.true }
+    record {
+      mips_fit = start_mips c.requires.ends_ready c.requires.halves_fit c.if-table-i.true;
+      mips_fit_2 =
+          end_mips c.requires.ends_ready c.requires.halves_fit c.if-table-i-2.true;
+    }
 
 pub returns-then-table-i-2 : goal.returns-then-table-i-2
 returns-then-table-i-2 c =

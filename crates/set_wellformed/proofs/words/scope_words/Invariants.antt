@@ -6,7 +6,9 @@ use Rattle.set_wellformed.specs.Words.{half_word, WordsAre, scope_word_proper, s
 use Rattle.set_wellformed.proofs.words.scope_words.Given as goal
 
 abbrev pub invariant-loop-i : goal.invariant-loop-i
-invariant-loop-i l = (l.i ≤ l.n) × (WordsAre (scope_word_proper l.table) (scope_word_plain l.table) l.i (record { fit = l.fit; plain = l.plain }) × Gathered l.p (half_word start_half l.table) l.i l.exclusive)
+invariant-loop-i l = (l.i ≤ l.n)
+    × (WordsAre (scope_word_proper l.table) (scope_word_plain l.table) l.i (record { fit = l.fit; plain = l.plain })
+    × Gathered l.p (half_word start_half l.table) l.i l.exclusive)
 
 abbrev pub decreases-loop-i : goal.decreases-loop-i
 decreases-loop-i l = l.n - l.i

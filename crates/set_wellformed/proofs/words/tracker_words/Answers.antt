@@ -1,7 +1,6 @@
 -- One index more is one test more of each kind and its part of the union; what the union leaves is tested last.
-use Rattle.model.specs.Prelude.{ap, not}
+use Rattle.model.specs.Prelude.{ap, not, arith, sym, ◌∙◌}
 use Rattle.std.specs.Prelude.{◌≡◌}
-use Rattle.model.specs.Prelude.{arith, sym, ◌∙◌}
 use Rattle.usage.specs.Gathered.{gathered_none, gathered_more, gathered_wider}
 use Rattle.set_wellformed.proofs.{Parting.tracker_unfit, Telling.{words_none, words_more}}
 use Rattle.set_wellformed.proofs.words.tracker_words.Goals as goal
@@ -31,7 +30,14 @@ pub tracker_compatible-requires : goal.tracker_compatible-requires
 tracker_compatible-requires c =
     let x = c.requires.n_bound in
     let z : c.loop-i.i ≡ c.args.n = omega arith in
-    let inv = rw z at c.loop-i.invariant in let w = inv.1.0 in record { counts_ones = c.requires.counts_ones; n_bound = x; n_value = sym w.fit ∙ c.if-not-fit.false; gathered = inv.1.1.0; gathered_2 = inv.1.1.1 }
+    let inv = rw z at c.loop-i.invariant in let w = inv.1.0 in
+    record {
+      counts_ones = c.requires.counts_ones;
+      n_bound = x;
+      n_value = sym w.fit ∙ c.if-not-fit.false;
+      gathered = inv.1.1.0;
+      gathered_2 = inv.1.1.1;
+    }
 
 pub returns : goal.returns
 returns c =

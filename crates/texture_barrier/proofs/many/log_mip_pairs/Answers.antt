@@ -1,9 +1,9 @@
 -- `log_mip_pairs` takes the mips one by one, each with its given ranges.
 use Rattle.model.specs.Prelude.{arith, refl}
 use Rattle.texture_barrier.specs.Adds.{adding_start, adding_room, adding_turn, adding_end}
-use Rattle.texture_barrier.specs.{Ready.{mip_ready, run_is, run_ready, pair_ready}}
-use Rattle.texture_barrier.proofs.{Remaining.{mips_left_lem, mips_done}}
-use Rattle.set_storage.specs.{Locate.locates}
+use Rattle.texture_barrier.specs.Ready.{mip_ready, run_is, run_ready, pair_ready}
+use Rattle.texture_barrier.proofs.Remaining.{mips_left_lem, mips_done}
+use Rattle.set_storage.specs.Locate.{locates}
 use Rattle.texture_barrier.proofs.many.log_mip_pairs.Goals as goal
 
 pub loop-m-init : goal.loop-m-init
@@ -43,7 +43,11 @@ pub log_pairs-w-requires : goal.log_pairs-w-requires
 log_pairs-w-requires c =
     let p = c.requires in let b = c.loop-m-test.true in
     let f = rw c.wide.ensures.0 at c.locate-run.ensures in
-    let g = rw c.wide-in-loop-m.ensures.0 at c.locate-new.ensures in record { pair_ready = pair_ready (run_ready p.ready b f _ (omega arith)) (run_ready p.ready_2 b g _ (omega arith)) (omega arith); fact = rw (run_is p.ready b f, run_is p.ready_2 b g) (adding_room c.loop-m.invariant p.fact (mips_left_lem _ _ _ _ b)) }
+    let g = rw c.wide-in-loop-m.ensures.0 at c.locate-new.ensures in
+    record {
+      pair_ready = pair_ready (run_ready p.ready b f _ (omega arith)) (run_ready p.ready_2 b g _ (omega arith)) (omega arith);
+      fact = rw (run_is p.ready b f, run_is p.ready_2 b g) (adding_room c.loop-m.invariant p.fact (mips_left_lem _ _ _ _ b));
+    }
 
 pub overflow_add-x : goal.overflow_add-x
 overflow_add-x c = omega arith

@@ -1,9 +1,8 @@
 -- `log_mips` takes the mips one by one, each with the same step.
 use Rattle.model.specs.Prelude.{arith, refl}
-use Rattle.texture_barrier.specs.Adds.{adding_start, adding_room, adding_turn, adding_end}
-use Rattle.texture_barrier.specs.{Ready.{mip_ready, run_is, run_ready}}
-use Rattle.texture_barrier.proofs.{Remaining.{mips_left_lem, mips_done}}
-use Rattle.set_storage.specs.{Locate.locates}
+use Rattle.texture_barrier.specs.{Adds.{adding_start, adding_room, adding_turn, adding_end}, Ready.{mip_ready, run_is, run_ready}}
+use Rattle.texture_barrier.proofs.Remaining.{mips_left_lem, mips_done}
+use Rattle.set_storage.specs.Locate.{locates}
 use Rattle.texture_barrier.proofs.many.log_mips.Goals as goal
 
 pub loop-m-init : goal.loop-m-init
@@ -17,7 +16,11 @@ pub log_run-w-requires : goal.log_run-w-requires
 log_run-w-requires c =
     let p = c.requires in
     let b = c.loop-m-test.true in
-    let f = rw c.wide.ensures.0 at c.locate-run.ensures in record { run_ready = run_ready p.ready b f _ (omega arith); fact = rw (run_is p.ready b f) (adding_room c.loop-m.invariant p.fact (mips_left_lem _ _ _ _ b)) }
+    let f = rw c.wide.ensures.0 at c.locate-run.ensures in
+    record {
+      run_ready = run_ready p.ready b f _ (omega arith);
+      fact = rw (run_is p.ready b f) (adding_room c.loop-m.invariant p.fact (mips_left_lem _ _ _ _ b));
+    }
 
 pub loop-m-preserved : goal.loop-m-preserved
 loop-m-preserved c =

@@ -12,7 +12,9 @@ fresh_mips-requires c =
 
 pub give_mips-requires : goal.give_mips-requires
 give_mips-requires c =
-    rw c.wide-mips.ensures.0 (let w = (insert_ready c.requires c.if-word-p.false (rw (c.set_state-2.ensures, c.wide-mips.ensures.0) at c.fresh_mips.ensures)) in record { half_tiled = w.0; given_texture = w.1 })
+    rw c.wide-mips.ensures.0
+    (let w = (insert_ready c.requires c.if-word-p.false (rw (c.set_state-2.ensures, c.wide-mips.ensures.0) at c.fresh_mips.ensures)) in
+    record { half_tiled = w.0; given_texture = w.1 })
 
 pub returns : goal.returns
 returns c =

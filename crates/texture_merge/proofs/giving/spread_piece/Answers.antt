@@ -6,7 +6,8 @@ use Rattle.texture_merge.proofs.giving.spread_piece.Goals as goal
 
 pub returns-in_default : goal.returns-in_default
 unfolding spread_piece
-returns-in_default c = let e = sym (rw c.in_default.is at c.unite.ensures) in rw e record { conflict = refl; into = record { mips = refl; frame = keeps_refl _ _ } }
+returns-in_default c = let e = sym (rw c.in_default.is at c.unite.ensures) in
+    rw e record { conflict = refl; into = record { mips = refl; frame = keeps_refl _ _ } }
 
 pub update_mips-requires : goal.update_mips-requires
 update_mips-requires c =

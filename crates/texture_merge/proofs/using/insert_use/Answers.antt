@@ -3,12 +3,14 @@ use Rattle.model.specs.Prelude.{sym, ap, ◌∙◌}
 use Rattle.model.specs.{declared.UsageFlags.UsageFlags, Texture.{insert, paint_all, on_mips}}
 use Rattle.texture_merge.specs.Ready.{texture_selects}
 use Rattle.set_storage.specs.Slots.{become_single}
-use Rattle.texture_merge.proofs.{Breaking.{break_every, break_many, break_texture, break_then}}
+use Rattle.texture_merge.proofs.Breaking.{break_every, break_many, break_texture, break_then}
 use Rattle.texture_merge.proofs.using.insert_use.Goals as goal
 
 pub returns-then-all : goal.returns-then-all
 unfolding insert
-returns-then-all c = let u = c.requires in rw (c.set_state.ensures, c.if-all.true) (become_single u.texture.measured u.texture.index (λ z. u.plain (z ∙ sym (ap (λ (x : UsageFlags). x.complex) u.flags))))
+returns-then-all c = let u = c.requires in
+    rw (c.set_state.ensures, c.if-all.true) (become_single u.texture.measured u.texture.index
+    (λ z. u.plain (z ∙ sym (ap (λ (x : UsageFlags). x.complex) u.flags))))
 
 pub fresh_mips-requires : goal.fresh_mips-requires
 fresh_mips-requires c =
@@ -16,8 +18,11 @@ fresh_mips-requires c =
 
 pub paint_mips-requires : goal.paint_mips-requires
 paint_mips-requires c =
-    let u = c.requires in let b = rw (c.set_state-2.ensures, c.wide.ensures.0) at c.fresh_mips.ensures in record { half_tiled = break_many u.texture u.flags _ b; selects = texture_selects (break_texture u.texture u.flags _ b) u.selector }
+    let u = c.requires in let b = rw (c.set_state-2.ensures, c.wide.ensures.0) at c.fresh_mips.ensures in
+    record { half_tiled = break_many u.texture u.flags _ b; selects = texture_selects (break_texture u.texture u.flags _ b) u.selector }
 
 pub returns : goal.returns
 unfolding insert paint_all
-returns c = let u = c.requires in rw (c.if-all.false) (break_then u.texture u.flags _ (rw (c.set_state-2.ensures, c.wide.ensures.0) at c.fresh_mips.ensures) (on_mips c.args.q _ 0) c.paint_mips.ensures)
+returns c = let u = c.requires in
+    rw (c.if-all.false) (break_then u.texture u.flags _ (rw (c.set_state-2.ensures, c.wide.ensures.0) at c.fresh_mips.ensures)
+    (on_mips c.args.q _ 0) c.paint_mips.ensures)

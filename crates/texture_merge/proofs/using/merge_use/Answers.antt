@@ -13,14 +13,21 @@ returns-then-cur-p c = let p = c.requires in single_merged p.use_ready p.held_re
 
 pub merge_every_mips-requires : goal.merge_every_mips-requires
 merge_every_mips-requires c =
-    let p = c.requires in record { half_tiled = many_ready p.use_ready p.held_ready (c.if-cur-p.false); every_ready = rw c.wide.ensures.0 (texture_every p.use_ready.texture) }
+    let p = c.requires in record {
+      half_tiled = many_ready p.use_ready p.held_ready (c.if-cur-p.false);
+      every_ready =
+          rw c.wide.ensures.0 (texture_every p.use_ready.texture);
+    }
 
 pub returns-then-all : goal.returns-then-all
 returns-then-all c = let p = c.requires in every_merged p.use_ready p.held_ready (c.if-cur-p.false) c.if-all.true c.merge_every_mips.ensures
 
 pub merge_mips-requires : goal.merge_mips-requires
 merge_mips-requires c =
-    let p = c.requires in record { half_tiled = many_ready p.use_ready p.held_ready (c.if-cur-p.false); selects = texture_selects p.use_ready.texture p.use_ready.selector }
+    let p = c.requires in record {
+      half_tiled = many_ready p.use_ready p.held_ready (c.if-cur-p.false);
+      selects = texture_selects p.use_ready.texture p.use_ready.selector;
+    }
 
 pub returns : goal.returns
 returns c = let p = c.requires in part_merged p.use_ready p.held_ready (c.if-cur-p.false) c.if-all.false c.merge_mips.ensures

@@ -9,7 +9,13 @@ returns-then-table-i-eq0 c = rw (eq-eqb _ _ c.if-table-i-eq0.true) (adds_none _ 
 
 pub barrier_texture-requires : goal.barrier_texture-requires
 barrier_texture-requires c =
-    let p = c.requires in let o = c.if-table-i-eq0.false in record { texture_held = half_held p.half_ready o; texture_held_2 = given_textured p.half_given; at_le_log_top = p.at_le_log_top; fact = rw (ne_eqb _ _ o) at p.fact }
+    let p = c.requires in let o = c.if-table-i-eq0.false in
+    record {
+      texture_held = half_held p.half_ready o;
+      texture_held_2 = given_textured p.half_given;
+      at_le_log_top = p.at_le_log_top;
+      fact = rw (ne_eqb _ _ o) at p.fact;
+    }
 
 pub returns : goal.returns
 returns c = rw (ne_eqb _ _ c.if-table-i-eq0.false) c.barrier_texture.ensures

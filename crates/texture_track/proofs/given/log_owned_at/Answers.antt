@@ -8,7 +8,14 @@ returns-then-given-i-eq0 c = rw (eq-eqb _ _ c.if-given-i-eq0.true) (adds_none _ 
 
 pub log_given_at-requires : goal.log_given_at-requires
 log_given_at-requires c =
-    let p = c.requires in let o = c.if-given-i-eq0.false in record { half_ready = p.logs_at.ready (rw (ne_eqb _ _ o)); half_given = p.logs_at.given (rw (ne_eqb _ _ o)); at_le_log_top = p.at_le_log_top; fact = rw (ne_eqb _ _ o) at p.room_for }
+    let p = c.requires in let o = c.if-given-i-eq0.false in
+    record {
+      half_ready = p.logs_at.ready (rw (ne_eqb _ _ o));
+      half_given = p.logs_at.given (rw (ne_eqb _ _ o));
+      at_le_log_top =
+          p.at_le_log_top;
+      fact = rw (ne_eqb _ _ o) at p.room_for;
+    }
 
 pub returns : goal.returns
 returns c = rw (ne_eqb _ _ c.if-given-i-eq0.false) c.log_given_at.ensures

@@ -9,7 +9,13 @@ returns-then-table-i-eq0 c = rw (eq-eqb _ _ c.if-table-i-eq0.true) (adds_none _ 
 
 pub barrier_use-requires : goal.barrier_use-requires
 barrier_use-requires c =
-    let p = c.requires in let o = c.if-table-i-eq0.false in let u = p.taken_use in record { texture_held = half_held p.both_ready.end o; selector_within = (u.selector, u.whole); at_le_log_top = p.at_le_log_top; fact = rw (ne_eqb _ _ o) at p.fact }
+    let p = c.requires in let o = c.if-table-i-eq0.false in let u = p.taken_use in
+    record {
+      texture_held = half_held p.both_ready.end o;
+      selector_within = (u.selector, u.whole);
+      at_le_log_top = p.at_le_log_top;
+      fact = rw (ne_eqb _ _ o) at p.fact;
+    }
 
 pub returns : goal.returns
 returns c = rw (ne_eqb _ _ c.if-table-i-eq0.false) c.barrier_use.ensures

@@ -36,7 +36,11 @@ returns-then-all c =
 pub update_use-requires : goal.update_use-requires
 update_use-requires c =
     let p = c.requires in
-    let own = c.if-table-i-eq0.false in record { update_ready = update_ready p.taken_use (half_held p.both_ready.start own) (half_held p.both_ready.end own); selecting = selecting p.taken_use }
+    let own = c.if-table-i-eq0.false in
+    record {
+      update_ready = update_ready p.taken_use (half_held p.both_ready.start own) (half_held p.both_ready.end own);
+      selecting = selecting p.taken_use;
+    }
 
 pub returns : goal.returns
 returns c =

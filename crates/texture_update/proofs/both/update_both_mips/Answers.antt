@@ -8,10 +8,16 @@ loop-m-init c = let p = c.requires in rw c.wide-m.ensures.0 (turn_start _ _ p.bo
 
 pub update_both_mip-requires : goal.update_both_mip-requires
 update_both_mip-requires c =
-    let p = c.requires in let w = c.loop-m.invariant in record { pair_tiled = turn_tiled _ _ p.both_ready p.selects w (omega (arith, c.loop-m-test.true, c.wide-top.ensures.0)); start_lt_end = (p.selects.layers, rw (turn_layers _ _ p.both_ready p.selects w) p.selects.in_layers) }
+    let p = c.requires in let w = c.loop-m.invariant in
+    record {
+      pair_tiled = turn_tiled _ _ p.both_ready p.selects w (omega (arith, c.loop-m-test.true, c.wide-top.ensures.0));
+      start_lt_end = (p.selects.layers, rw (turn_layers _ _ p.both_ready p.selects w) p.selects.in_layers);
+    }
 
 pub loop-m-preserved : goal.loop-m-preserved
-loop-m-preserved c = let p = c.requires in turn_on _ _ p.both_ready p.selects c.loop-m.invariant (omega (arith, c.loop-m-test.true, c.wide-top.ensures.0)) c.update_both_mip.ensures
+loop-m-preserved c = let p = c.requires in turn_on _ _ p.both_ready p.selects c.loop-m.invariant
+    (omega (arith, c.loop-m-test.true, c.wide-top.ensures.0)) c.update_both_mip.ensures
 
 pub returns : goal.returns
-returns c = let p = c.requires in turn_end _ _ p.both_ready p.selects c.loop-m.invariant (omega (arith, c.loop-m-test.false, c.wide-top.ensures.0))
+returns c = let p = c.requires in
+    turn_end _ _ p.both_ready p.selects c.loop-m.invariant (omega (arith, c.loop-m-test.false, c.wide-top.ensures.0))

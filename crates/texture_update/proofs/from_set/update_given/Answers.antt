@@ -15,7 +15,8 @@ returns-then-word-p c =
 
 pub update_from_mips-requires : goal.update_from_mips-requires
 update_from_mips-requires c =
-    rw c.wide-mips.ensures.0 (let w = (pieces_ready c.requires c.if-word-p.false c.if-cur-p.true) in record { pair_ready = w.0; given_texture = w.1 })
+    rw c.wide-mips.ensures.0 (let w = (pieces_ready c.requires c.if-word-p.false c.if-cur-p.true) in
+    record { pair_ready = w.0; given_texture = w.1 })
 
 pub returns-then-cur-p : goal.returns-then-cur-p
 returns-then-cur-p c =
@@ -27,8 +28,11 @@ fresh_mips-requires c =
 
 pub give_mips-requires : goal.give_mips-requires
 give_mips-requires c =
-    rw c.wide-mips.ensures.0 (let w = (cover_ready c.requires c.if-word-p.false refl c.if-cur-p.false (rw (c.set_state.ensures, c.wide-mips.ensures.0) at c.fresh_mips.ensures)) in record { half_tiled = w.0; given_texture = w.1 })
+    rw c.wide-mips.ensures.0
+    (let w = (cover_ready c.requires c.if-word-p.false refl c.if-cur-p.false
+    (rw (c.set_state.ensures, c.wide-mips.ensures.0) at c.fresh_mips.ensures)) in record { half_tiled = w.0; given_texture = w.1 })
 
 pub returns : goal.returns
 returns c =
-    cover_done c.requires c.if-word-p.false refl c.if-cur-p.false (rw (c.set_state.ensures, c.wide-mips.ensures.0) at c.fresh_mips.ensures) c.give_mips.ensures
+    cover_done c.requires c.if-word-p.false refl c.if-cur-p.false
+    (rw (c.set_state.ensures, c.wide-mips.ensures.0) at c.fresh_mips.ensures) c.give_mips.ensures

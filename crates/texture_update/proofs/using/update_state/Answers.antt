@@ -2,7 +2,7 @@
 use Rattle.model.specs.Prelude.{sym, ◌∙◌}
 use Rattle.set_storage.specs.Texture.{texture_mips}
 use Rattle.texture_update.specs.Update.{both_many}
-use Rattle.texture_update.proofs.{Cases.{all_single, all_kept, all_learnt}}
+use Rattle.texture_update.proofs.Cases.{all_single, all_kept, all_learnt}
 use Rattle.texture_update.proofs.using.update_state.Goals as goal
 
 pub returns-then-cur-p : goal.returns-then-cur-p
@@ -15,7 +15,8 @@ returns-then-first-p c =
 
 pub learn_mips-requires : goal.learn_mips-requires
 learn_mips-requires c =
-    let p = c.requires in record { both_ready = both_many p c.if-first-p.false c.if-cur-p.false; mips_value = c.wide.ensures.0 ∙ sym (texture_mips p.start.ready) }
+    let p = c.requires in record
+    { both_ready = both_many p c.if-first-p.false c.if-cur-p.false; mips_value = c.wide.ensures.0 ∙ sym (texture_mips p.start.ready) }
 
 pub returns : goal.returns
 returns c =
