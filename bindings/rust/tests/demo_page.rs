@@ -4,6 +4,7 @@ use std::{
     fs,
     path::{Path, PathBuf},
     process::Command,
+    sync::OnceLock,
 };
 
 /// Status and page of a frame.
@@ -16,11 +17,16 @@ fn page(name: &str, frame: &str) -> (Option<i32>, String) {
     (done.status.code(), fs::read_to_string(page).unwrap())
 }
 
+/// The page of its own frame, written once: tests run beside one another, and one would read what another is still writing.
 fn demo() -> String {
-    let frame = Path::new(env!("CARGO_MANIFEST_DIR")).join("examples/sorter/demo.frame");
-    let (status, page) = page("demo", &fs::read_to_string(frame).unwrap());
-    assert_eq!(status, Some(0));
-    page
+    static PAGE: OnceLock<String> = OnceLock::new();
+    let written = || {
+        let frame = Path::new(env!("CARGO_MANIFEST_DIR")).join("examples/sorter/demo.frame");
+        let (status, page) = page("demo", &fs::read_to_string(frame).unwrap());
+        assert_eq!(status, Some(0));
+        page
+    };
+    PAGE.get_or_init(written).clone()
 }
 
 /// What stands between the brackets of each tag.
