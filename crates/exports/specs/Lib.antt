@@ -1,5 +1,4 @@
 pub mod SetAnswers
-pub mod AnswerLaws
 pub mod LogAnswers
 pub mod RangesAnswers
 pub mod RangesAnswerLaws

@@ -14,8 +14,8 @@
 //
 // What holds: nothing is required of any argument. The outcome that an answer tells (specs/SetAnswers, `outcome_of`) meets the very
 // contract of the call beneath, and the answer has that outcome's numbers and no others (`answer_of`); no two outcomes have the same
-// numbers (specs/AnswerLaws). The answers of the calls on ranges (RangesAnswers, RangesAnswerLaws), of a merge of logs (LogAnswers) and of
-// the calls on plan files (PlanAnswers) are told alike.
+// numbers (proofs/AnswerLaws). The answers of the calls on ranges (RangesAnswers, RangesAnswerLaws), of a merge of logs (LogAnswers,
+// proofs/LogAnswerLaws) and of the calls on plan files (PlanAnswers) are told alike.
 //
 // What C must see to is what the types say here: each pointer is good for the length beside it (a table's is 2,376), and what a call writes
 // overlaps nothing else that it is lent. A slice is passed as a pointer and a length, two arguments of their own, also where one is the

@@ -1,6 +1,6 @@
 -- `track_merge_logs`: the call beneath, told in numbers, with the rest as a part of the first log or of the second.
 use Rattle.model.specs.Prelude.{◌∙◌}
-use Rattle.exports.specs.LogAnswers.{rest_lies, merge_told}
+use Rattle.exports.proofs.LogAnswerLaws.{rest_lies, merge_told}
 use Rattle.exports.proofs.logs.track_merge_logs.Goals as goal
 
 pub merged-requires : goal.merged-requires

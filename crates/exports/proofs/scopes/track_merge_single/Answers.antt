@@ -1,6 +1,6 @@
 -- `track_merge_single`: the call beneath, told in numbers.
 use Rattle.model.specs.Prelude.{refl}
-use Rattle.exports.specs.AnswerLaws.{outcome_told}
+use Rattle.exports.proofs.AnswerLaws.{outcome_told}
 use Rattle.exports.proofs.scopes.track_merge_single.Goals as goal
 
 pub returns : goal.returns

@@ -1,6 +1,6 @@
 -- `track_merge_usage_scope`: the call beneath, told in numbers.
 use Rattle.model.specs.Prelude.{refl}
-use Rattle.exports.specs.AnswerLaws.{outcome_told}
+use Rattle.exports.proofs.AnswerLaws.{outcome_told}
 use Rattle.exports.proofs.scopes.track_merge_usage_scope.Goals as goal
 
 pub returns : goal.returns

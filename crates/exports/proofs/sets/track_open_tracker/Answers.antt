@@ -1,6 +1,6 @@
 -- `track_open_tracker`: the call beneath, told in numbers.
 use Rattle.model.specs.Prelude.{refl}
-use Rattle.exports.specs.AnswerLaws.{outcome_told}
+use Rattle.exports.proofs.AnswerLaws.{outcome_told}
 use Rattle.exports.proofs.sets.track_open_tracker.Goals as goal
 
 pub returns : goal.returns

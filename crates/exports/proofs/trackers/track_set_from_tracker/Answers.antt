@@ -1,6 +1,6 @@
 -- `track_set_from_tracker`: the call beneath, told in numbers.
 use Rattle.model.specs.Prelude.{refl}
-use Rattle.exports.specs.AnswerLaws.{outcome_told}
+use Rattle.exports.proofs.AnswerLaws.{outcome_told}
 use Rattle.exports.proofs.trackers.track_set_from_tracker.Goals as goal
 
 pub returns : goal.returns
