@@ -101,9 +101,9 @@ pub fn set_from_usage_scope(
     log: &mut [u32],
     head: LogHead,
 ) -> Answered
-    ensures { let t : LentTracker = record { table = table.entry.now; starts = starts.old; ends = ends.old } in
+    ensures { let t : LentTracker = record { table = table.old; starts = starts.old; ends = ends.old } in
         let g : LentScope = record { table = given.now; ranges = lent.now } in
-        let t' : LentTracker = record { table = table.exit.now; starts = starts.new; ends = ends.new } in
+        let t' : LentTracker = record { table = table.new; starts = starts.new; ends = ends.new } in
         SetFromUsageScope t g head log.old result t' log.new }
 {
     if !tracker_fits(table, starts, ends) {
@@ -128,9 +128,9 @@ pub fn set_from_tracker(
     log: &mut [u32],
     head: LogHead,
 ) -> Answered
-    ensures { let t : LentTracker = record { table = table.entry.now; starts = starts.old; ends = ends.old } in
+    ensures { let t : LentTracker = record { table = table.old; starts = starts.old; ends = ends.old } in
         let g : LentTracker = record { table = given.now; starts = first.now; ends = last.now } in
-        let t' : LentTracker = record { table = table.exit.now; starts = starts.new; ends = ends.new } in
+        let t' : LentTracker = record { table = table.new; starts = starts.new; ends = ends.new } in
         SetFromTracker t g head log.old result t' log.new }
 {
     if !tracker_fits(table, starts, ends) {

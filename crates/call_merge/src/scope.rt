@@ -43,9 +43,9 @@ pub fn merge_usage_scope(
     given: &Table,
     lent: &[u32],
 ) -> Outcome
-    ensures { let s : LentScope = record { table = table.entry.now; ranges = ranges.old } in
+    ensures { let s : LentScope = record { table = table.old; ranges = ranges.old } in
         let g : LentScope = record { table = given.now; ranges = lent.now } in
-        let s' : LentScope = record { table = table.exit.now; ranges = ranges.new } in
+        let s' : LentScope = record { table = table.new; ranges = ranges.new } in
         MergeUsageScope s g result s' }
 {
     if !scope_fits(table, ranges) {

@@ -56,8 +56,8 @@ pub fn merge_single(
     selection: Selection,
     state: u16,
 ) -> Outcome
-    ensures { let s : LentScope = record { table = table.entry.now; ranges = ranges.old } in
-        let s' : LentScope = record { table = table.exit.now; ranges = ranges.new } in
+    ensures { let s : LentScope = record { table = table.old; ranges = ranges.old } in
+        let s' : LentScope = record { table = table.new; ranges = ranges.new } in
         MergeSingle s index extent selection state result s' }
 {
     if !scope_fits(table, ranges) {

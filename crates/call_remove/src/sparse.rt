@@ -65,9 +65,9 @@ pub fn set_and_remove_from_usage_scope_sparse(
     log: &mut [u32],
     head: LogHead,
 ) -> Answered
-    ensures { let t : LentTracker = record { table = table.entry.now; starts = starts.old; ends = ends.old } in
+    ensures { let t : LentTracker = record { table = table.old; starts = starts.old; ends = ends.old } in
         let g : LentScope = record { table = given.old; ranges = lent.now } in
-        let t' : LentTracker = record { table = table.exit.now; starts = starts.new; ends = ends.new } in
+        let t' : LentTracker = record { table = table.new; starts = starts.new; ends = ends.new } in
         SetAndRemoveSparse t g indices.now head log.old result t' given.new log.new }
 {
     if !tracker_fits(table, starts, ends) {

@@ -81,8 +81,8 @@ pub fn set_single(
     log: &mut [u32],
     head: LogHead,
 ) -> Answered
-    ensures { let t : LentTracker = record { table = table.entry.now; starts = starts.old; ends = ends.old } in
-        let t' : LentTracker = record { table = table.exit.now; starts = starts.new; ends = ends.new } in
+    ensures { let t : LentTracker = record { table = table.old; starts = starts.old; ends = ends.old } in
+        let t' : LentTracker = record { table = table.new; starts = starts.new; ends = ends.new } in
         SetSingle t index extent selector state head log.old result t' log.new }
 {
     if !tracker_fits(table, starts, ends) {

@@ -27,8 +27,8 @@ pub extern "C" fn track_merge_single(
     state: u16,
 ) -> Answer
     ensures value { result ≡ answer_of (outcome_of result) }
-    ensures fact { let s : LentScope = record { table = table.entry.now; ranges = ranges.old } in
-        let s' : LentScope = record { table = table.exit.now; ranges = ranges.new } in
+    ensures fact { let s : LentScope = record { table = table.old; ranges = ranges.old } in
+        let s' : LentScope = record { table = table.new; ranges = ranges.new } in
         MergeSingle s (tracker_index index) (record { mips = mips; layers = layers })
         (selection_of part (select mip_start mip_end layer_start layer_end)) state (outcome_of result) s' }
 {
@@ -46,8 +46,8 @@ pub extern "C" fn track_merge_usage_scope(
     lent: &[u32],
 ) -> Answer
     ensures value { result ≡ answer_of (outcome_of result) }
-    ensures fact { let s : LentScope = record { table = table.entry.now; ranges = ranges.old } in
-        let s' : LentScope = record { table = table.exit.now; ranges = ranges.new } in
+    ensures fact { let s : LentScope = record { table = table.old; ranges = ranges.old } in
+        let s' : LentScope = record { table = table.new; ranges = ranges.new } in
         let g : LentScope = record { table = given.now; ranges = lent.now } in
         MergeUsageScope s g (outcome_of result) s' }
 {

@@ -68,7 +68,7 @@ pub extern "C" fn track_open_tracker(
 // `set_wellformed::scope_fits`.
 #[unsafe(no_mangle)]
 pub extern "C" fn track_scope_is_well_formed(table: &Table, ranges: &[u32]) -> u32
-    ensures { result ≡ (if scope_test (record { table = table.entry.now; ranges = ranges.now }) then 1 else 0) }
+    ensures { result ≡ (if scope_test (record { table = table.now; ranges = ranges.now }) then 1 else 0) }
 {
     if scope_fits(table, ranges) {
         return 1;
@@ -79,7 +79,7 @@ pub extern "C" fn track_scope_is_well_formed(table: &Table, ranges: &[u32]) -> u
 // `set_wellformed::tracker_fits`.
 #[unsafe(no_mangle)]
 pub extern "C" fn track_tracker_is_well_formed(table: &Table, starts: &[u32], ends: &[u32]) -> u32
-    ensures { let t : LentTracker = record { table = table.entry.now; starts = starts.now; ends = ends.now } in
+    ensures { let t : LentTracker = record { table = table.now; starts = starts.now; ends = ends.now } in
         result ≡ (if tracker_test t then 1 else 0) }
 {
     if tracker_fits(table, starts, ends) {

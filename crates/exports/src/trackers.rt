@@ -32,8 +32,8 @@ pub extern "C" fn track_set_single(
     free: usize,
 ) -> LoggedAnswer
     ensures value { result ≡ logged_of (answered_of result) }
-    ensures fact { let t : LentTracker = record { table = table.entry.now; starts = starts.old; ends = ends.old } in
-        let t' : LentTracker = record { table = table.exit.now; starts = starts.new; ends = ends.new } in
+    ensures fact { let t : LentTracker = record { table = table.old; starts = starts.old; ends = ends.old } in
+        let t' : LentTracker = record { table = table.new; starts = starts.new; ends = ends.new } in
         SetSingle t (tracker_index index) (record { mips = mips; layers = layers })
         (select mip_start mip_end layer_start layer_end) state (head_of written free) log.old (answered_of result) t'
         log.new }
@@ -69,8 +69,8 @@ pub extern "C" fn track_set_from_usage_scope(
 ) -> LoggedAnswer
     ensures value { result ≡ logged_of (answered_of result) }
     ensures fact { let g : LentScope = record { table = given.now; ranges = lent.now } in
-        let t : LentTracker = record { table = table.entry.now; starts = starts.old; ends = ends.old } in
-        let t' : LentTracker = record { table = table.exit.now; starts = starts.new; ends = ends.new } in
+        let t : LentTracker = record { table = table.old; starts = starts.old; ends = ends.old } in
+        let t' : LentTracker = record { table = table.new; starts = starts.new; ends = ends.new } in
         SetFromUsageScope t g (head_of written free) log.old (answered_of result) t' log.new }
 {
     let head = LogHead { written, free };
@@ -92,8 +92,8 @@ pub extern "C" fn track_set_from_tracker(
     free: usize,
 ) -> LoggedAnswer
     ensures value { result ≡ logged_of (answered_of result) }
-    ensures fact { let t : LentTracker = record { table = table.entry.now; starts = starts.old; ends = ends.old } in
-        let t' : LentTracker = record { table = table.exit.now; starts = starts.new; ends = ends.new } in
+    ensures fact { let t : LentTracker = record { table = table.old; starts = starts.old; ends = ends.old } in
+        let t' : LentTracker = record { table = table.new; starts = starts.new; ends = ends.new } in
         let g : LentTracker = record { table = given.now; starts = first.now; ends = last.now } in
         SetFromTracker t g (head_of written free) log.old (answered_of result) t' log.new }
 {
@@ -117,8 +117,8 @@ pub extern "C" fn track_set_and_remove_from_usage_scope_sparse(
 ) -> LoggedAnswer
     ensures value { result ≡ logged_of (answered_of result) }
     ensures fact { let g : LentScope = record { table = given.old; ranges = lent.now } in
-        let t : LentTracker = record { table = table.entry.now; starts = starts.old; ends = ends.old } in
-        let t' : LentTracker = record { table = table.exit.now; starts = starts.new; ends = ends.new } in
+        let t : LentTracker = record { table = table.old; starts = starts.old; ends = ends.old } in
+        let t' : LentTracker = record { table = table.new; starts = starts.new; ends = ends.new } in
         SetAndRemoveSparse t g indices.now (head_of written free) log.old (answered_of result) t' given.new
         log.new }
 {

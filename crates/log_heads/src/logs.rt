@@ -25,8 +25,8 @@ pub fn set_single(
     log: &mut [u32],
     head: &mut LogHead,
 ) -> Outcome
-    ensures { let t : LentTracker = record { table = table.entry.now; starts = starts.old; ends = ends.old } in
-        let t' : LentTracker = record { table = table.exit.now; starts = starts.new; ends = ends.new } in
+    ensures { let t : LentTracker = record { table = table.old; starts = starts.old; ends = ends.old } in
+        let t' : LentTracker = record { table = table.new; starts = starts.new; ends = ends.new } in
         let a : Answered = record { outcome = result; head = head.new } in
         SetSingle t index extent selector state head.old log.old a t' log.new }
 {
@@ -47,9 +47,9 @@ pub fn set_from_usage_scope(
     log: &mut [u32],
     head: &mut LogHead,
 ) -> Outcome
-    ensures { let t : LentTracker = record { table = table.entry.now; starts = starts.old; ends = ends.old } in
+    ensures { let t : LentTracker = record { table = table.old; starts = starts.old; ends = ends.old } in
         let g : LentScope = record { table = given.now; ranges = lent.now } in
-        let t' : LentTracker = record { table = table.exit.now; starts = starts.new; ends = ends.new } in
+        let t' : LentTracker = record { table = table.new; starts = starts.new; ends = ends.new } in
         let a : Answered = record { outcome = result; head = head.new } in
         SetFromUsageScope t g head.old log.old a t' log.new }
 {
@@ -69,9 +69,9 @@ pub fn set_from_tracker(
     log: &mut [u32],
     head: &mut LogHead,
 ) -> Outcome
-    ensures { let t : LentTracker = record { table = table.entry.now; starts = starts.old; ends = ends.old } in
+    ensures { let t : LentTracker = record { table = table.old; starts = starts.old; ends = ends.old } in
         let g : LentTracker = record { table = given.now; starts = first.now; ends = last.now } in
-        let t' : LentTracker = record { table = table.exit.now; starts = starts.new; ends = ends.new } in
+        let t' : LentTracker = record { table = table.new; starts = starts.new; ends = ends.new } in
         let a : Answered = record { outcome = result; head = head.new } in
         SetFromTracker t g head.old log.old a t' log.new }
 {
@@ -92,9 +92,9 @@ pub fn set_and_remove_from_usage_scope_sparse(
     log: &mut [u32],
     head: &mut LogHead,
 ) -> Outcome
-    ensures { let t : LentTracker = record { table = table.entry.now; starts = starts.old; ends = ends.old } in
+    ensures { let t : LentTracker = record { table = table.old; starts = starts.old; ends = ends.old } in
         let g : LentScope = record { table = given.old; ranges = lent.now } in
-        let t' : LentTracker = record { table = table.exit.now; starts = starts.new; ends = ends.new } in
+        let t' : LentTracker = record { table = table.new; starts = starts.new; ends = ends.new } in
         let a : Answered = record { outcome = result; head = head.new } in
         SetAndRemoveSparse t g indices.now head.old log.old
         a t' given.new log.new }

@@ -113,9 +113,9 @@ pub fn merge_logs<'a>(
     free: &mut usize,
     number: &mut u32,
 ) -> &'a [u32]
-    ensures { let h : LogHead = record { written = written.entry.now; free = free.old } in
+    ensures { let h : LogHead = record { written = written.old; free = free.old } in
         HandsOver first.entry second.entry h third.old
-        written.exit.now free.new number.new result third.new }
+        written.new free.new number.new result third.new }
 {
     let w = *written;
     let f = *free;

@@ -69,8 +69,8 @@ pub fn merge_single(
     selection: Selection,
     state: u16,
 ) -> Outcome
-    ensures { let s : LentScope = record { table = table.entry.now; ranges = ranges.old } in
-        let s' : LentScope = record { table = table.exit.now; ranges = ranges.new } in
+    ensures { let s : LentScope = record { table = table.old; ranges = ranges.old } in
+        let s' : LentScope = record { table = table.new; ranges = ranges.new } in
         MergeSingle s index extent selection state result s' }
 {
     call_merge::merge_single(table, ranges, index, extent, selection, state)
@@ -83,9 +83,9 @@ pub fn merge_usage_scope(
     given: &Table,
     lent: &[u32],
 ) -> Outcome
-    ensures { let s : LentScope = record { table = table.entry.now; ranges = ranges.old } in
+    ensures { let s : LentScope = record { table = table.old; ranges = ranges.old } in
         let g : LentScope = record { table = given.now; ranges = lent.now } in
-        let s' : LentScope = record { table = table.exit.now; ranges = ranges.new } in
+        let s' : LentScope = record { table = table.new; ranges = ranges.new } in
         MergeUsageScope s g result s' }
 {
     call_merge::merge_usage_scope(table, ranges, given, lent)
@@ -103,8 +103,8 @@ pub fn set_single(
     log: &mut [u32],
     head: LogHead,
 ) -> Answered
-    ensures { let t : LentTracker = record { table = table.entry.now; starts = starts.old; ends = ends.old } in
-        let t' : LentTracker = record { table = table.exit.now; starts = starts.new; ends = ends.new } in
+    ensures { let t : LentTracker = record { table = table.old; starts = starts.old; ends = ends.old } in
+        let t' : LentTracker = record { table = table.new; starts = starts.new; ends = ends.new } in
         SetSingle t index extent selector state head log.old result t' log.new }
 {
     call_set::set_single(
@@ -122,9 +122,9 @@ pub fn set_from_usage_scope(
     log: &mut [u32],
     head: LogHead,
 ) -> Answered
-    ensures { let t : LentTracker = record { table = table.entry.now; starts = starts.old; ends = ends.old } in
+    ensures { let t : LentTracker = record { table = table.old; starts = starts.old; ends = ends.old } in
         let g : LentScope = record { table = given.now; ranges = lent.now } in
-        let t' : LentTracker = record { table = table.exit.now; starts = starts.new; ends = ends.new } in
+        let t' : LentTracker = record { table = table.new; starts = starts.new; ends = ends.new } in
         SetFromUsageScope t g head log.old result t' log.new }
 {
     call_join::set_from_usage_scope(table, starts, ends, given, lent, log, head)
@@ -141,9 +141,9 @@ pub fn set_from_tracker(
     log: &mut [u32],
     head: LogHead,
 ) -> Answered
-    ensures { let t : LentTracker = record { table = table.entry.now; starts = starts.old; ends = ends.old } in
+    ensures { let t : LentTracker = record { table = table.old; starts = starts.old; ends = ends.old } in
         let g : LentTracker = record { table = given.now; starts = first.now; ends = last.now } in
-        let t' : LentTracker = record { table = table.exit.now; starts = starts.new; ends = ends.new } in
+        let t' : LentTracker = record { table = table.new; starts = starts.new; ends = ends.new } in
         SetFromTracker t g head log.old result t' log.new }
 {
     call_join::set_from_tracker(table, starts, ends, given, first, last, log, head)
@@ -160,9 +160,9 @@ pub fn set_and_remove_from_usage_scope_sparse(
     log: &mut [u32],
     head: LogHead,
 ) -> Answered
-    ensures { let t : LentTracker = record { table = table.entry.now; starts = starts.old; ends = ends.old } in
+    ensures { let t : LentTracker = record { table = table.old; starts = starts.old; ends = ends.old } in
         let g : LentScope = record { table = given.old; ranges = lent.now } in
-        let t' : LentTracker = record { table = table.exit.now; starts = starts.new; ends = ends.new } in
+        let t' : LentTracker = record { table = table.new; starts = starts.new; ends = ends.new } in
         SetAndRemoveSparse t g indices.now head log.old result t' given.new log.new }
 {
     call_remove::set_and_remove_from_usage_scope_sparse(
