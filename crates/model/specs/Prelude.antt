@@ -1,14 +1,14 @@
--- What every file takes of the libraries, passed on under one name: numbers, paths, lists, tests, and the rules of the provers.
-pub use Rattle.std.specs.Prelude.{◌%◌, ◌*◌, ◌+◌, ◌-◌, ◌/◌, ◌<◌, ◌^◌, ◌≤◌, max, min, suc, zero, ℕ, ◌≡◌, refl, ◌↔◌, ◌⊎◌, Bool, ◌&&◌, ◌||◌}
-pub use Rattle.std.specs.Prelude.{false, not, true, List, [], ◌++◌, ◌∷◌, map, eqb, leb, ltb, drop, get_or, length, replicate, set, take}
-pub use Rattle.std.proofs.Common.{add-le-add, add-suc, add-zero, le-mul_of_pos_right, le_of_lt, le_of_suc-le-suc, le_refl, le_trans}
-pub use Rattle.std.proofs.Common.{mul_assoc, mul-le-mul, mul-le-mul_left, mul-le-mul_right, not-suc-le-zero, suc-add, suc-mul, zero-add}
-pub use Rattle.std.proofs.Common.{add-one, arith, ◌∙◌, ap, ap₂, subst, sym, inl, inr, ⊎_elim, true≢false, append_assoc, append-nil}
+-- What every file takes of the libraries, passed on under one name: numbers, paths, lists and tests. A file takes operators from std
+-- itself, as the gate wants it, so that none stands for anything but std's.
+pub use Rattle.std.specs.Prelude.{max, min, suc, zero, ℕ, refl, Bool}
+pub use Rattle.std.specs.Prelude.{false, not, true, List, [], map, eqb, leb, ltb, drop, get_or, length, replicate, set, take}
+pub use Rattle.std.proofs.Common.{add-le-add, add-suc, add-zero, le-mul_of_pos_right, le_of_lt, le_of_suc-le-suc, le_trans}
+pub use Rattle.std.proofs.Common.{mul_assoc, mul-le-mul, mul-le-mul_right, not-suc-le-zero, suc-add, suc-mul, zero-add}
+pub use Rattle.std.proofs.Common.{add-one, arith, ◌∙◌, ap, ap₂, subst, sym, inl, inr, true≢false, append_assoc, append-nil}
 pub use Rattle.std.proofs.Common.{drop_of_length-le, length-append, length-drop, length-set, length-take, take-append-drop, drop_at}
 pub use Rattle.std.proofs.Common.{drop-cons, drop-drop, drop-set-lt, ext_get_or, get_or-append-add, get_or-drop, get_or-set_other}
 pub use Rattle.std.proofs.Common.{get_or-set_same, get_or-take, length-take-le, take-add, take_all, take_at, take-suc, take-suc-set}
 pub use Rattle.std.proofs.Common.{take-take, eq-eqb, eqb-true, le-leb, le-ltb, leb-false, leb-true, lt-ltb, ltb-false, ltb-true, ne_eqb}
-pub use Rattle.std.proofs.Common.{rules}
 pub use Rattle.std.proofs.Math.Nat.{le-min, min-eq_left, min-le_left, min-le_right, sub-zero, suc-sub-suc}
 pub use Rattle.std.proofs.Math.Numerals.{unary_clauses}
 pub use Rattle.std.proofs.Math.Decide.{dec_le, dec_lt, le_ind, ℕ_discrete}

@@ -30,7 +30,7 @@ pub use reader::read;
 pub use writer::write;
 
 // What a call answers: how many items, bytes or uses it wrote, or why it is turned away.
-#[derive(Drop)]
+#[derive(Clone, Copy)]
 pub enum PlanAnswer {
     Done(usize),
     Refused(Refusal),

@@ -8,7 +8,7 @@ use crate::parts::held;
 use model::{Refusal, Verdict};
 
 // What a reader tells: whether it accepts, how many bytes it took, and how many items there are then.
-#[derive(Drop)]
+#[derive(Clone, Copy)]
 pub struct Step {
     pub verdict: Verdict,
     pub size: usize,

@@ -8,7 +8,7 @@ use crate::parts::held;
 use model::{Refusal, Verdict};
 
 // What judging a list tells: whether it is accepted, but for the width of its groups, and how many bytes it makes.
-#[derive(Drop)]
+#[derive(Clone, Copy)]
 pub struct Weighed {
     pub verdict: Verdict,
     pub total: usize,
