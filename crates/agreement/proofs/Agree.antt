@@ -1,7 +1,7 @@
 -- Demand 3, from sets that are good: what holds of one texture in a scope and in a tracker is handed to the lifting of LiftCalls, for every
 -- list of calls.
-use Rattle.model.specs.Prelude.{ℕ, zero, suc, arith, refl, sym, ap, ◌∙◌, Bool, true, false, and-eq-true_iff, false≢true, Option, none, some}
-use Rattle.model.specs.Prelude.{Option_map, [], append-nil, List, map, eqb, bit_and, bit_or, replicate, get_or, eqb-true, not-false, le-leb}
+use Rattle.model.specs.Prelude.{ℕ, zero, suc, arith, refl, sym, ap, ◌∙◌, Bool, true, false, and-eq-true_iff, false≢true, Option, None, Some}
+use Rattle.model.specs.Prelude.{option_map, [], append-nil, List, map, eqb, bit_and, bit_or, replicate, get_or, eqb-true, not-false, le-leb}
 use Rattle.model.specs.Prelude.{lt-ltb}
 use Rattle.model.specs.declared.{Extent.Extent, InvalidUse.InvalidUse, Selector.Selector, UsageFlags.UsageFlags}
 use Rattle.model.specs.{Base.{ruled, or_keep, passes}, Representation.{is_full, Ends, full}}
@@ -35,25 +35,25 @@ full_place sh q e =
     let h = (and-eq-true_iff _ _).0 e in let g = (and-eq-true_iff _ _).0 h.0 in let f = (and-eq-true_iff _ _).0 g.0 in
     (eqb-true _ _ f.0, eqb-true _ _ f.1, eqb-true _ _ g.1, eqb-true _ _ h.1)
 
-pub full_grid : (sh : Extent) (q : Selector) (st : ℕ) → is_full sh q ≡ true → tab (named_row sh q st) 0 sh.mips ≡ everywhere sh (some st)
+pub full_grid : (sh : Extent) (q : Selector) (st : ℕ) → is_full sh q ≡ true → tab (named_row sh q st) 0 sh.mips ≡ everywhere sh (Some st)
 full_grid sh q st e = go 0 sh.mips (omega arith)
   where
     f : (q.mips.start.0 ≡ 0) × (q.mips.end.0 ≡ sh.mips) × (q.layers.start.0 ≡ 0) × (q.layers.end.0 ≡ sh.layers)
     f = full_place sh q e
 
-    row : (k : ℕ) → k < sh.mips → named_row sh q st k ≡ replicate sh.layers (some st)
+    row : (k : ℕ) → k < sh.mips → named_row sh q st k ≡ replicate sh.layers (Some st)
     row k h =
         let z : sh.layers - 0 ≡ sh.layers = omega arith in let y : sh.layers - sh.layers ≡ 0 = omega arith in
         rw (le-leb q.mips.start.0 k (omega (arith, f)), lt-ltb k q.mips.end.0 (omega (arith, f)), f.2, f.3, z, y, append-nil)
 
-    go : (k n : ℕ) → k + n ≤ sh.mips → tab (named_row sh q st) k n ≡ replicate n (replicate sh.layers (some st))
+    go : (k n : ℕ) → k + n ≤ sh.mips → tab (named_row sh q st) k n ≡ replicate n (replicate sh.layers (Some st))
     go k zero h = refl
     go k (suc n) h = rw (row k (omega arith), go (suc k) n (omega arith))
 
 pub use_gives : (sh : Extent) (sel : Option Selector) (st : ℕ) → Passed (selector_checks sh sel)
     → Gives sh (from_use sh sel st) (named_use sh sel st)
-use_gives sh none st t = gives_one
-use_gives sh (some q) st t = go (is_full sh q) refl
+use_gives sh None st t = gives_one
+use_gives sh (Some q) st t = go (is_full sh q) refl
   where
     go : (b : Bool) → is_full sh q ≡ b
         → Gives sh (if b then given_single st else given_many (record { selector = q; state = st } ∷ [])) (record
@@ -64,7 +64,7 @@ use_gives sh (some q) st t = go (is_full sh q) refl
 
 held_gives : (sh : Extent) (h : Held) → Fit sh h → Measured sh × Gives sh (from_held h) (named_all (grid_of sh h))
 unfolding grid_of
-held_gives sh (single st) f = (f, rw (map_everywhere {B = Option ℕ} some sh st) gives_one)
+held_gives sh (single st) f = (f, rw (map_everywhere {B = Option ℕ} Some sh st) gives_one)
 held_gives sh (many ss) f = (f.0, gives_set ss f.1 f.2)
 
 abbrev FitP : UsageFlags → Extent → Held → Type 0
@@ -111,15 +111,15 @@ clear_state : (p : UsageFlags) (st : ℕ) → meets st p.unknown ≡ false → C
 clear_state p st e = eqb-true (bit_and st p.unknown) 0 (not-false (eqb (bit_and st p.unknown) 0) e)
 
 pub clear_use : (p : UsageFlags) (sh : Extent) (sel : Option Selector) (st : ℕ) → Clear p st → ClearGiven p (from_use sh sel st)
-clear_use p sh none st c = c
-clear_use p sh (some q) st c = by_test (ClearGiven p) (is_full sh q) (λ b. c) (λ b. tt)
+clear_use p sh None st c = c
+clear_use p sh (Some q) st c = by_test (ClearGiven p) (is_full sh q) (λ b. c) (λ b. tt)
 
 -- flags that fit have an UNKNOWN of one bit
 known_flags : (p : UsageFlags) → flags_fit p ≡ true → UnknownNonzero p
 unfolding flags_fit
 known_flags p e z = false≢true (rw z at (and_left (is_bit p.unknown) (apart p) e))
 
-used : (h : Head) (i : ℕ) (sh : Extent) (sel : Option Selector) (st : ℕ) → flags_fit h.flags ≡ true → single_refusal h i sh sel st ≡ none
+used : (h : Head) (i : ℕ) (sh : Extent) (sel : Option Selector) (st : ℕ) → flags_fit h.flags ≡ true → single_refusal h i sh sel st ≡ None
     → GivesC h.flags sh (from_use sh sel st) (named_use sh sel st)
 used h i sh sel st s e =
     let g = textures.used h i sh sel st s tt e in
@@ -148,15 +148,15 @@ merge_clear p sh (single cur) (given_single new) x y = go (invalid_state p (bit_
   where
     go : (b : Bool)
         → ClearHeld p (ruled (single cur) (invalid_use (full sh) cur new)
-        (Option_map single (if b then none else some (bit_or cur new)))).value
+        (option_map single (if b then None else Some (bit_or cur new)))).value
     go true = x
     go false = clear_union p cur new x y
 merge_clear p sh (single cur) (given_many qs) x y = go (passes (spread_piece p cur) qs (fresh_mips sh cur)).conflict
   where
     go : (o : Option InvalidUse)
         → ClearHeld p (or_keep o (single cur) (many (passes (spread_piece p cur) qs (fresh_mips sh cur)).value)).value
-    go none = tt
-    go (some c) = x
+    go None = tt
+    go (Some c) = x
 merge_clear p sh (many ss) (given_single new) x y = tt
 merge_clear p sh (many ss) (given_many qs) x y = tt
 
@@ -176,7 +176,7 @@ pub twice : (p : UsageFlags) (sh : Extent) (g : Given) (n : Named) → GivesC p 
 twice p sh g n r = record { from = r; to = r; known = known g n r.gives r.clear }
   where
     known : (g : Given) (n : Named) → Gives sh g n → ClearGiven p g → KnownGiven p g n
-    known (given_single st) n gives_one c = grid_everywhere (KnownO p.unknown) sh (some st) (clear_known p st r.sure c)
+    known (given_single st) n gives_one c = grid_everywhere (KnownO p.unknown) sh (Some st) (clear_known p st r.sure c)
     known (given_many qs) n g c = tt
 
 joined : (p : UsageFlags) (sh : Extent) (e : Ends Held) → FitEnds p sh e
@@ -188,7 +188,7 @@ joined p sh e f = record {
 }
   where
     go : (s : Held) → KnownEnd p s (grid_of sh e.end).states → KnownGiven p (from_held s) (named_all (grid_of sh e.end))
-    go (single st) k = grid_map (Known p.unknown) (KnownO p.unknown) some (λ c k. k) (grid_of sh e.end).states k
+    go (single st) k = grid_map (Known p.unknown) (KnownO p.unknown) Some (λ c k. k) (grid_of sh e.end).states k
     go (many ss) k = tt
 
 pub tracker_facts : Tracks ranged grid grid_of WordP FitS FitEnds Pairs entries_at grid_at
@@ -203,7 +203,7 @@ tracker_facts = record {
       (k.fit, (λ i. record { start = k.start i; end = k.end i }) ∙ sym (update_rule p sh (grid_ends sh e) d));
   logged = λ p mask sh e a b c d r f m l.
       let z = logged p mask sh m l e.end a b f.end r.from.gives in
-      (z, rw z (at_most_one (get_or (get_or (grid_barrier p mask sh (grid_of sh e.end) b) m []) l none)));
+      (z, rw z (at_most_one (get_or (get_or (grid_barrier p mask sh (grid_of sh e.end) b) m []) l None)));
 }
 
 -- ---- what is seen of the two representations

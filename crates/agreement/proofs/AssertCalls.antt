@@ -1,5 +1,5 @@
 -- No strict assertion fires in any of the six calls on well-formed sets.
-use Rattle.model.specs.Prelude.{ℕ, suc, arith, refl, Bool, true, false, not, Option, none, some, List, [], map, eqb, length, get_elem?}
+use Rattle.model.specs.Prelude.{ℕ, suc, arith, refl, Bool, true, false, not, Option, None, Some, List, [], map, eqb, length, slice_get}
 use Rattle.model.specs.Prelude.{List_get_D_map, not-false, lt-ltb, ltb-true}
 use Rattle.model.specs.declared.{Extent.Extent, Refusal.Refusal, Selector.Selector, UsageFlags.UsageFlags}
 use Rattle.model.specs.{Base.{every, each, each_at, All}, Representation.Ends}
@@ -41,13 +41,13 @@ tracker_holds n p sh a b c d s r t h =
     (insert_holds p sh c d r.base.to.measured r.base.to.gives r.to))
 
 -- what is asserted where the call is not refused
-unless_holds : (o : Option Refusal) {b : Bool} → (o ≡ none → b ≡ true) → unless_refused o b ≡ true
-unless_holds none h = h refl
-unless_holds (some r) h = refl
+unless_holds : (o : Option Refusal) {b : Bool} → (o ≡ None → b ≡ true) → unless_refused o b ≡ true
+unless_holds None h = h refl
+unless_holds (Some r) h = refl
 
 -- ---- a single use: 7 keeps its index within the set
 bounds : {H : Type 0} (P : UsageFlags → Extent → H → Type 0) (s : Set H) (i : ℕ) (sh : Extent) (sel : Option Selector) (st : ℕ)
-    → SetFits P s → single_refusal (head_of s) i sh sel st ≡ none → in_bounds i s.slots ≡ true
+    → SetFits P s → single_refusal (head_of s) i sh sel st ≡ None → in_bounds i s.slots ≡ true
 bounds P s i sh sel st f e = lt-ltb i (length s.slots) (rw f.room (ltb-true i s.numbers.textures (not-false _ (passed _ e).0)))
 
 merge_holds : (s : Set Held) (i : ℕ) (sh : Extent) (sel : Option Selector) (st : ℕ) → Word st → WellScope s
@@ -60,14 +60,14 @@ merge_holds s i sh sel st word w =
     (slot_fits_lem FitW s (ranged.fresh 0) i w) (single_at s (ranged.fresh 0) i sh sel st e))
 
 set_holds : (t : Tracker Held) (i : ℕ) (sh : Extent) (sel : Selector) (st : ℕ) → Word st → WellTracker t
-    → unless_refused (single_refusal (head_of t.set) i sh (some sel) st)
-    (in_bounds i t.set.slots && tracker_asserts t.set.flags sh (from_use sh (some sel) st) (from_use sh (some sel) st) (slot_at
+    → unless_refused (single_refusal (head_of t.set) i sh (Some sel) st)
+    (in_bounds i t.set.slots && tracker_asserts t.set.flags sh (from_use sh (Some sel) st) (from_use sh (Some sel) st) (slot_at
     (no_ends ranged) t.set i)) ≡ true
 set_holds t i sh sel st word w =
-    unless_holds (single_refusal (head_of t.set) i sh (some sel) st) λ e. both (bounds FitEW t.set i sh (some sel) st w e)
-    (tracker_holds t.set.numbers t.set.flags sh _ (named_use sh (some sel) st) _ (named_use sh (some sel) st)
-    (slot_at (no_ends ranged) t.set i) (trackers_well.used (head_of t.set) i sh (some sel) st w.flags word e)
-    (slot_fits_lem FitEW t.set (no_ends ranged) i w) (single_at t.set (no_ends ranged) i sh (some sel) st e))
+    unless_holds (single_refusal (head_of t.set) i sh (Some sel) st) λ e. both (bounds FitEW t.set i sh (Some sel) st w e)
+    (tracker_holds t.set.numbers t.set.flags sh _ (named_use sh (Some sel) st) _ (named_use sh (Some sel) st)
+    (slot_at (no_ends ranged) t.set i) (trackers_well.used (head_of t.set) i sh (Some sel) st w.flags word e)
+    (slot_fits_lem FitEW t.set (no_ends ranged) i w) (single_at t.set (no_ends ranged) i sh (Some sel) st e))
 
 -- ---- every index that a given set owns
 module _ {H G : Type 0} (P : UsageFlags → Extent → H → Type 0) (Q : UsageFlags → Extent → G → Type 0) (s : Set H)
@@ -81,7 +81,7 @@ module _ {H G : Type 0} (P : UsageFlags → Extent → H → Type 0) (Q : UsageF
   none_owned k (x ∷ xs) c n = both (go x.owned (all_left _ (owned_checks (head_of s) k (own_extent x)) _ c))
       (none_owned (suc k) xs (all_right _ (owned_checks (head_of s) k (own_extent x)) _ c) (omega arith))
     where
-      go : (b : Bool) → Passed (owned_checks (head_of s) k (if b then some x.extent else none)) → not b ≡ true
+      go : (b : Bool) → Passed (owned_checks (head_of s) k (if b then Some x.extent else None)) → not b ≡ true
       go true c = absurd (let z = ltb-true k s.numbers.textures (not-false _ c.0) in omega arith)
       go false c = refl
 
@@ -126,7 +126,7 @@ listed_bounds t s (i ∷ is) r q c =
     (go (slot_at (ranged.fresh 0) s i).owned (rw (List_get_D_map own_extent s.slots i (empty_slot (ranged.fresh 0))) at here.1)))
     (listed_bounds t s is r q (all_right _ (sparse_checks (head_of t.set) (head_of s) i) _ c))
   where
-    go : (b : Bool) → Passed (owned_checks (head_of t.set) i (if b then some (slot_at (ranged.fresh 0) s i).extent else none))
+    go : (b : Bool) → Passed (owned_checks (head_of t.set) i (if b then Some (slot_at (ranged.fresh 0) s i).extent else None))
         → (if b then in_bounds i t.set.slots else true) ≡ true
     go true c = lt-ltb i (length t.set.slots) (rw r.room (ltb-true i t.set.numbers.textures (not-false _ c.0)))
     go false c = refl
@@ -140,15 +140,15 @@ sparse_holds t s is w y = unless_holds (sparse_refusal (head_of t.set) (head_of 
 
 -- ---- the six calls
 there : {X : Type 0} (P : X → Type 0) (l : List X) (n : ℕ) (f : X → Bool) → All P l → ((x : X) → P x → f x ≡ true)
-    → if_there (get_elem? l n) f ≡ true
+    → if_there (slice_get l n) f ≡ true
 there P l n f t h = elem_of P l n (λ o. if_there o f ≡ true) t refl h
 
 both_there : {X Y : Type 0} (P : X → Type 0) (Q : Y → Type 0) (l : List X) (m : List Y) (n j : ℕ) (f : X → Y → Bool) → All P l → All Q m
     → ((x : X) (y : Y) → P x → Q y → f x y ≡ true)
-    → if_both (get_elem? l n) (get_elem? m j) f ≡ true
+    → if_both (slice_get l n) (slice_get m j) f ≡ true
 both_there P Q l m n j f t u h =
-    elem_of P l n (λ o. if_both o (get_elem? m j) f ≡ true) t refl
-    (λ x p. elem_of Q m j (λ o. if_both (some x) o f ≡ true) u refl (λ y q. h x y p q))
+    elem_of P l n (λ o. if_both o (slice_get m j) f ≡ true) t refl
+    (λ x p. elem_of Q m j (λ o. if_both (Some x) o f ≡ true) u refl (λ y q. h x y p q))
 
 pub calls_assert : (c : Call) (k : Sets ranged) → GivenWord c → SetsFit k → call_asserts c k ≡ true
 calls_assert (call_merge_single n i sh sel st) k word well = there WellScope k.scopes n _ (well_good k well).0

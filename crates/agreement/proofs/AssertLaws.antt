@@ -1,5 +1,5 @@
 -- No strict assertion about pieces, states and UNKNOWN fires where a well-formed texture is inserted, merged or updated.
-use Rattle.model.specs.Prelude.{ℕ, zero, suc, ℕ_discrete, arith, refl, sym, ap, ◌∙◌, true, not, Bool, false, none, some, List, [], map}
+use Rattle.model.specs.Prelude.{ℕ, zero, suc, ℕ_discrete, arith, refl, sym, ap, ◌∙◌, true, not, Bool, false, None, Some, List, [], map}
 use Rattle.model.specs.Prelude.{append_assoc, append-nil, leb, eqb, length, replicate, length-replicate, length-append, take, drop}
 use Rattle.model.specs.Prelude.{take-append-drop, length-take, length-drop, le-leb, lt-ltb, eqb-false, ne_eqb}
 use Rattle.model.specs.{declared.{Extent.Extent, Range.Range, UsageFlags.UsageFlags}, Base.{every, each_at, zip₂, All, AllO}}
@@ -28,7 +28,7 @@ tab_at P f k (suc n) j t a b = go (ℕ_discrete j k) (tab_at P f (suc k) n j t.1
     go (yes e) ih = rw e t.0
     go (no e) ih = ih (omega arith) (omega arith)
 
-all_some : (P : ℕ → Type 0) (s : List ℕ) → All (AllO P) (map some s) → All P s
+all_some : (P : ℕ → Type 0) (s : List ℕ) → All (AllO P) (map Some s) → All P s
 all_some P [] t = tt
 all_some P (c ∷ s) t = (t.0, all_some P s t.1)
 
@@ -39,7 +39,7 @@ abbrev mip_pieces : ℕ → List Range → List Piece
 mip_pieces k s = map (λ (r : Range). record { selector = select k (suc k) r.start r.end; state = r.state }) s
 
 pieces_of : (p : UsageFlags) (sh : Extent) (k : ℕ) (ss : List (List Range)) → Tiled sh ss
-    → NamedFit p (map (map some) (map layer_states ss))
+    → NamedFit p (map (map Some) (map layer_states ss))
     → All (PieceFits p) (each_at mip_pieces k ss)
 pieces_of p sh k [] t f = tt
 pieces_of p sh k (s ∷ ss) t f =
@@ -54,7 +54,7 @@ pieces_of p sh k (s ∷ ss) t f =
 pieces_fit : (p : UsageFlags) (sh : Extent) (qs : List Piece) (n : Named) → Gives sh (given_many qs) n
     → NamedFit p n.states → All (PieceFits p) qs
 pieces_fit p sh qs n (gives_place {q} a b c d) f =
-    (first_of_lem (AllO (StateFits p)) (some q.state) (layer_end q.selector - layer_start q.selector) (omega arith) row, tt)
+    (first_of_lem (AllO (StateFits p)) (Some q.state) (layer_end q.selector - layer_start q.selector) (omega arith) row, tt)
   where
     here : All (AllO (StateFits p)) (named_row sh q.selector q.state (mip_start q.selector))
     here = tab_at (All (AllO (StateFits p))) (named_row sh q.selector q.state) 0 sh.mips
@@ -66,12 +66,12 @@ pieces_fit p sh qs n (gives_place {q} a b c d) f =
       lt-ltb (mip_start q.selector) (mip_end q.selector) c,
     )
 
-    row : All (AllO (StateFits p)) (replicate (layer_end q.selector - layer_start q.selector) (some q.state))
-    row = all_left (AllO (StateFits p)) (replicate (layer_end q.selector - layer_start q.selector) (some q.state))
-        (replicate (sh.layers - layer_end q.selector) none)
-        (all_right (AllO (StateFits p)) (replicate (layer_start q.selector) none)
-        (replicate (layer_end q.selector - layer_start q.selector) (some q.state)
-        ++ replicate (sh.layers - layer_end q.selector) none) (rw inside at here))
+    row : All (AllO (StateFits p)) (replicate (layer_end q.selector - layer_start q.selector) (Some q.state))
+    row = all_left (AllO (StateFits p)) (replicate (layer_end q.selector - layer_start q.selector) (Some q.state))
+        (replicate (sh.layers - layer_end q.selector) None)
+        (all_right (AllO (StateFits p)) (replicate (layer_start q.selector) None)
+        (replicate (layer_end q.selector - layer_start q.selector) (Some q.state)
+        ++ replicate (sh.layers - layer_end q.selector) None) (rw inside at here))
 pieces_fit p sh qs n (gives_set ss h t) f = pieces_of p sh 0 ss t f
 
 -- ---- so the assertions about what is handed in hold
@@ -82,8 +82,8 @@ valid p st f = rw f.compatible
 pub insert_holds : (p : UsageFlags) (sh : Extent) (g : Given) (n : Named) → Measured sh → Gives sh g n
     → NamedFit p n.states → insert_asserts p sh g ≡ true
 insert_holds p sh (given_single st) n e gives_one f =
-    valid p st (first_of_lem (AllO (StateFits p)) (some st) sh.layers e.1
-    (first_of_lem (All (AllO (StateFits p))) (replicate sh.layers (some st)) sh.mips e.0 f))
+    valid p st (first_of_lem (AllO (StateFits p)) (Some st) sh.layers e.1
+    (first_of_lem (All (AllO (StateFits p))) (replicate sh.layers (Some st)) sh.mips e.0 f))
 insert_holds p sh (given_many qs) n e g f = go qs (pieces_in sh qs n g) (pieces_fit p sh qs n g f)
   where
     go : (qs : List Piece) → All (PieceIn sh) qs → All (PieceFits p) qs → every (piece_inside p (full sh)) qs ≡ true

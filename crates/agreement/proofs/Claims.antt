@@ -2,7 +2,7 @@
 -- specs/ of this one: Grid (01's grid), Shared (what the two representations share), WellFormedSets, LogBound, Layers, Asserts and WebGpu;
 -- the other modules hold proofs alone.
 use Rattle.std.specs.Prelude.{◌≤◌, ◌<◌, ◌≡◌, ◌↔◌, ◌||◌, ◌∷◌}
-use Rattle.model.specs.Prelude.{ℕ, true, false, Option, none, some, List, map, [], length, get_elem?}
+use Rattle.model.specs.Prelude.{ℕ, true, false, Option, None, Some, List, map, [], length, slice_get}
 use Rattle.model.specs.declared.Refusal.TheVariants.{NoFreeEntry}
 use Rattle.model.specs.{declared.{Extent.Extent, Range.Range, Refusal.Refusal, Selector.Selector, UsageFlags.UsageFlags}, Base.{every, All}}
 use Rattle.model.specs.{Flags.flags_fit, Representation.Ends, Sets.{Slot, Set, Tracker, head_of, Opening}}
@@ -160,9 +160,9 @@ rule = flags_rule
 -- and kept, with the given one, do not fit
 pub judged : (scopes trackers : List Opening) (calls : List Call) → All GivenWord calls
     → (n i : ℕ) (sh : Extent) (sel : Option Selector) (st : ℕ) → Word st
-    → (r : Set Held) → get_elem? (after_calls ranged calls (newly ranged scopes trackers)).scopes n ≡ some r
-    → single_refusal (head_of r) i sh sel st ≡ none
-    → (s : Set Histories) × (get_elem? (after_calls histories calls (newly histories scopes trackers)).scopes n ≡ some s)
+    → (r : Set Held) → slice_get (after_calls ranged calls (newly ranged scopes trackers)).scopes n ≡ Some r
+    → single_refusal (head_of r) i sh sel st ≡ None
+    → (s : Set Histories) × (slice_get (after_calls histories calls (newly histories scopes trackers)).scopes n ≡ Some s)
     × (InConflict (step ranged (call_merge_single n (tracker_index i) sh sel st)
     (after_calls ranged calls (newly ranged scopes trackers))).answer ↔ Unfit s i sh sel st)
 judged scopes trackers calls w n i sh sel st word r e p = let j = uses_judged scopes trackers calls w n i sh sel st word r e p in
@@ -180,9 +180,9 @@ wgpu = wgpu_renders
 -- neither compatible nor all attachments
 pub webgpu : (bit : Usage → ℕ) (scopes trackers : List Opening) (calls : List Call) → All GivenWord calls → All (GivenUsage bit) calls
     → (n i : ℕ) (sh : Extent) (sel : Option Selector) (u : Usage) → Word (bit u)
-    → (r : Set Held) → get_elem? (after_calls ranged calls (newly ranged scopes trackers)).scopes n ≡ some r → Renders r.flags bit
-    → single_refusal (head_of r) i sh sel (bit u) ≡ none
-    → (s : Set Histories) × (get_elem? (after_calls histories calls (newly histories scopes trackers)).scopes n ≡ some s)
+    → (r : Set Held) → slice_get (after_calls ranged calls (newly ranged scopes trackers)).scopes n ≡ Some r → Renders r.flags bit
+    → single_refusal (head_of r) i sh sel (bit u) ≡ None
+    → (s : Set Histories) × (slice_get (after_calls histories calls (newly histories scopes trackers)).scopes n ≡ Some s)
     × (InConflict (step ranged (call_merge_single n (tracker_index i) sh sel (bit u))
     (after_calls ranged calls (newly ranged scopes trackers))).answer ↔ NotCompatible bit s i sh sel u)
 webgpu = usages_judged

@@ -1,6 +1,6 @@
 -- A single merge conflicts just where the uses of some named subresource, with the given one, do not fit.
-use Rattle.model.specs.Prelude.{ℕ, zero, suc, arith, refl, sym, ap, ◌∙◌, Bool, true, false, not, and-eq-true_iff, false≢true, Option, none}
-use Rattle.model.specs.Prelude.{some, Option_map, List, [], map, leb, ltb, eqb, bit_or, or_zero_r, replicate, get_or, get_or-replicate}
+use Rattle.model.specs.Prelude.{ℕ, zero, suc, arith, refl, sym, ap, ◌∙◌, Bool, true, false, not, and-eq-true_iff, false≢true, Option, None}
+use Rattle.model.specs.Prelude.{Some, option_map, List, [], map, leb, ltb, eqb, bit_or, or_zero_r, replicate, get_or, get_or-replicate}
 use Rattle.model.specs.Prelude.{List_get_D_map, leb-true, ltb-true, le-leb, lt-ltb, not-true}
 use Rattle.model.specs.declared.{Extent.Extent, Selector.Selector, UsageFlags.UsageFlags}
 use Rattle.model.specs.{Base.{Stop, ruled, or_keep, onward, walk₂, All, AllO}, Flags.incompatible, Representation.{in_mips, holds, full}}
@@ -18,8 +18,8 @@ use Rattle.agreement.proofs.LogRoom.{use_named, named_at, is_named}
 use Rattle.usage.specs.BitLaws.{and_or}
 
 abbrev has : {C : Type 0} → Option C → Bool
-has none = false
-has (some c) = true
+has None = false
+has (Some c) = true
 
 abbrev any₂ : {A B : Type 0} → (A → B → Bool) → List A → List B → Bool
 any₂ bad [] t = false
@@ -36,8 +36,8 @@ module _ {A B C : Type 0} (h : ℕ → A → B → Stop C A) (bad : A → B → 
     where
       go : (o : Option C) → has o ≡ bad a b → has (walk₂ h (suc k) s t).conflict ≡ any₂ bad s t
           → has (onward (h k a b).value o s (walk₂ h (suc k) s t)).conflict ≡ bad a b || any₂ bad s t
-      go none e ih = rw (← e) ih
-      go (some c) e ih = rw (← e)
+      go None e ih = rw (← e) ih
+      go (Some c) e ih = rw (← e)
 
 -- where one of two lists' pairs is bad, a position tells it; and back, if what stands past the ends is not bad
 or_holds : (a b : Bool) → a || b ≡ true → (a ≡ false) → b ≡ true
@@ -73,8 +73,8 @@ module _ {A B : Type 0} (bad : A → B → Bool) (x : A) (y : B) where
 
 -- ---- one subresource
 abbrev unfit : UsageFlags → History → Option History → Bool
-unfit p c none = false
-unfit p c (some g) = not (uses_fit p (c.uses ++ g.uses))
+unfit p c None = false
+unfit p c (Some g) = not (uses_fit p (c.uses ++ g.uses))
 
 twice_not : (b : Bool) → not (not b) ≡ b
 twice_not true = refl
@@ -87,21 +87,21 @@ unfit_union p c g x y =
     (sym (twice_not (incompatible p (union_of (c.uses ++ g.uses)))))
 
 has_ruled : (m l : ℕ) (f : ℕ → ℕ → Option ℕ) (c g : History) (b : Bool) → has (f c.state g.state) ≡ not b
-    → has (take_state f m l c (some g)).conflict ≡ b
+    → has (take_state f m l c (Some g)).conflict ≡ b
 has_ruled m l f c g b e = go (f c.state g.state) e
   where
     go : (o : Option ℕ) → has o ≡ not b
         → has (ruled {C = SubresourceConflict} c (record { mip = m; layer = l; old = c.state; new = g.state })
-        (Option_map (λ u. record { state = u; uses = c.uses ++ g.uses }) o)).conflict ≡ b
-    go none e = ap not e ∙ twice_not b
-    go (some u) e = ap not e ∙ twice_not b
+        (option_map (λ u. record { state = u; uses = c.uses ++ g.uses }) o)).conflict ≡ b
+    go None e = ap not e ∙ twice_not b
+    go (Some u) e = ap not e ∙ twice_not b
 
 single_has : (p : UsageFlags) (c g : History)
     → has (single_union p c.state g.state) ≡ not (incompatible p (bit_or c.state g.state))
 unfolding single_union
 single_has p c g = go (incompatible p (bit_or c.state g.state))
   where
-    go : (b : Bool) → has (if b then none else some (bit_or c.state g.state)) ≡ not b
+    go : (b : Bool) → has (if b then None else Some (bit_or c.state g.state)) ≡ not b
     go true = refl
     go false = refl
 
@@ -113,7 +113,7 @@ many_has p c g = go (incompatible p w) (eqb w 0)
     w : ℕ
     w = without p.unknown (bit_or c.state g.state)
 
-    go : (b z : Bool) → has (if b then none else if z then some c.state else some w) ≡ not b
+    go : (b z : Bool) → has (if b then None else if z then Some c.state else Some w) ≡ not b
     go true z = refl
     go false true = refl
     go false false = refl
@@ -123,8 +123,8 @@ TiedClear p c = Tied p c × Clear p c
 
 single_unfit : (p : UsageFlags) (m l : ℕ) (c : History) (o : Option History) → TiedClear p c → AllO (TiedClear p) o
     → has (take_state (single_union p) m l c o).conflict ≡ unfit p c o
-single_unfit p m l c none x y = refl
-single_unfit p m l c (some g) x y =
+single_unfit p m l c None x y = refl
+single_unfit p m l c (Some g) x y =
     let e : without p.unknown (bit_or c.state g.state) ≡ bit_or c.state g.state =
     without_clear p.unknown (bit_or c.state g.state) (and_or c.state g.state p.unknown ∙ rw (x.1, y.1)) in
     has_ruled m l (single_union p) c g (not (uses_fit p (c.uses ++ g.uses)))
@@ -132,8 +132,8 @@ single_unfit p m l c (some g) x y =
 
 many_unfit : (p : UsageFlags) (m l : ℕ) (c : History) (o : Option History) → Tied p c → AllO (Tied p) o
     → has (take_state (many_union p) m l c o).conflict ≡ unfit p c o
-many_unfit p m l c none x y = refl
-many_unfit p m l c (some g) x y =
+many_unfit p m l c None x y = refl
+many_unfit p m l c (Some g) x y =
     has_ruled m l (many_union p) c g (not (uses_fit p (c.uses ++ g.uses))) (many_has p c g ∙ ap not (unfit_union p c g x y))
 
 -- ---- one texture
@@ -174,8 +174,8 @@ merge_unfit p sh sel st h f u =
     all = use_all (UseFits p) sh sel st u
 
     kept : (o : Option SubresourceConflict) (x : Histories) → has (or_keep o h x).conflict ≡ has o
-    kept none x = refl
-    kept (some c) x = refl
+    kept None x = refl
+    kept (Some c) x = refl
 
 -- ---- the subresources that a use names
 holds_parts : (q : Selector) (m l : ℕ) → holds q m l ≡ true
@@ -186,7 +186,7 @@ holds_parts q m l h =
     let c = (and-eq-true_iff (leb q.mips.start.0 m) (ltb m q.mips.end.0)).0 b.0 in
     (leb-true _ _ c.0, ltb-true _ _ c.1, leb-true _ _ b.1, ltb-true _ _ a.1)
 
-if_named : (b : Bool) (st : ℕ) → is_named (if b then some st else none) ≡ true → b ≡ true
+if_named : (b : Bool) (st : ℕ) → is_named (if b then Some st else None) ≡ true → b ≡ true
 if_named true st e = refl
 if_named false st e = e
 
@@ -198,24 +198,24 @@ one_true false b e f = absurd (false≢true f)
 abbrev Good_selector : Extent → Option Selector → Type 0
 Good_selector sh sel = Passed (selector_checks sh sel)
 
-inner : (sh : Extent) (q : Selector) → Good_selector sh (some q) → (q.layers.start.0 < q.layers.end.0) × (q.mips.end.0 ≤ sh.mips)
+inner : (sh : Extent) (q : Selector) → Good_selector sh (Some q) → (q.layers.start.0 < q.layers.end.0) × (q.mips.end.0 ≤ sh.mips)
 inner sh q t = let w = selector_within sh q t in (w.span, w.in_mips)
 
 named_names : (sh : Extent) (sel : Option Selector) (st m l : ℕ) → Good_selector sh sel
-    → is_named (get_or (get_or (named_use sh sel st).states m []) l none) ≡ true → Names sh sel m l
-named_names sh none st m l t e = let h =
+    → is_named (get_or (get_or (named_use sh sel st).states m []) l None) ≡ true → Names sh sel m l
+named_names sh None st m l t e = let h =
     holds_parts (full sh) m l (if_named (holds (full sh) m l) st (rw (everywhere_at sh st m l) at e)) in (h.1, h.3)
-named_names sh (some q) st m l t e =
-    let n = inner sh q t in holds_parts q m l (one_true (named_at (named_use sh (some q) st) m l) (holds q m l)
+named_names sh (Some q) st m l t e =
+    let n = inner sh q t in holds_parts q m l (one_true (named_at (named_use sh (Some q) st) m l) (holds q m l)
     (use_named sh q st m l n.0 n.1) e)
 
 names_named : (sh : Extent) (sel : Option Selector) (st m l : ℕ) → Good_selector sh sel → Names sh sel m l
-    → is_named (get_or (get_or (named_use sh sel st).states m []) l none) ≡ true
-names_named sh none st m l t e =
-    rw (get_or-replicate sh.mips m (replicate sh.layers (some st)) [] e.0, get_or-replicate sh.layers l (some st) none e.1)
-names_named sh (some q) st m l t e =
+    → is_named (get_or (get_or (named_use sh sel st).states m []) l None) ≡ true
+names_named sh None st m l t e =
+    rw (get_or-replicate sh.mips m (replicate sh.layers (Some st)) [] e.0, get_or-replicate sh.layers l (Some st) None e.1)
+names_named sh (Some q) st m l t e =
     let n = inner sh q t in
-    one_true (holds q m l) (named_at (named_use sh (some q) st) m l) (sym (use_named sh q st m l n.0 n.1))
+    one_true (holds q m l) (named_at (named_use sh (Some q) st) m l) (sym (use_named sh q st m l n.0 n.1))
     (rw (
       le-leb q.mips.start.0 m e.0,
       lt-ltb m q.mips.end.0 e.1,
@@ -225,14 +225,14 @@ names_named sh (some q) st m l t e =
 
 -- ---- positions
 handed_at : (n : List (List (Option ℕ))) (m l : ℕ)
-    → get_or (get_or (map (map (Option_map one_use)) n) m []) l none ≡ Option_map one_use (get_or (get_or n m []) l none)
-handed_at n m l = ap (λ (r : List (Option History)). get_or r l none) (List_get_D_map (map (Option_map one_use)) n m [])
-    ∙ List_get_D_map (Option_map one_use) (get_or n m []) l none
+    → get_or (get_or (map (map (option_map one_use)) n) m []) l None ≡ option_map one_use (get_or (get_or n m []) l None)
+handed_at n m l = ap (λ (r : List (Option History)). get_or r l None) (List_get_D_map (map (option_map one_use)) n m [])
+    ∙ List_get_D_map (option_map one_use) (get_or n m []) l None
 
 value_at : (sh : Extent) (sel : Option Selector) (st m l : ℕ)
-    → AllO (λ (x : ℕ). x ≡ st) (get_or (get_or (named_use sh sel st).states m []) l none)
+    → AllO (λ (x : ℕ). x ≡ st) (get_or (get_or (named_use sh sel st).states m []) l None)
 value_at sh sel st m l =
-    all_get_d (AllO (λ (x : ℕ). x ≡ st)) (get_or (named_use sh sel st).states m []) l none tt
+    all_get_d (AllO (λ (x : ℕ). x ≡ st)) (get_or (named_use sh sel st).states m []) l None tt
     (all_get_d (All (AllO (λ (x : ℕ). x ≡ st))) (named_use sh sel st).states m [] tt (use_all (λ (x : ℕ). x ≡ st) sh sel st refl))
 
 abbrev uses_in : List (List History) → ℕ → ℕ → List ℕ
@@ -249,14 +249,14 @@ any_unfit_lem : (p : UsageFlags) (g : List (List History)) (sh : Extent) (sel : 
     → any_unfit p g (hand_use sh sel st).states ≡ true → UnfitIn p g sh sel st
 any_unfit_lem p g sh sel st t e =
     let a = any_at (any₂ (unfit p)) [] [] g (hand_use sh sel st).states e in
-    let b = any_at (unfit p) no_history none (get_or g a.0 []) (get_or (hand_use sh sel st).states a.0 []) a.1 in
-    go a.0 b.0 (get_or (get_or (named_use sh sel st).states a.0 []) b.0 none) refl (value_at sh sel st a.0 b.0)
+    let b = any_at (unfit p) no_history None (get_or g a.0 []) (get_or (hand_use sh sel st).states a.0 []) a.1 in
+    go a.0 b.0 (get_or (get_or (named_use sh sel st).states a.0 []) b.0 None) refl (value_at sh sel st a.0 b.0)
     (rw (handed_at (named_use sh sel st).states a.0 b.0) at b.1)
   where
-    go : (m l : ℕ) (o : Option ℕ) → get_or (get_or (named_use sh sel st).states m []) l none ≡ o → AllO (λ (x : ℕ). x ≡ st) o
-        → unfit p (get_or (get_or g m []) l no_history) (Option_map one_use o) ≡ true → UnfitIn p g sh sel st
-    go m l none q v e = absurd (false≢true e)
-    go m l (some x) q v e = record
+    go : (m l : ℕ) (o : Option ℕ) → get_or (get_or (named_use sh sel st).states m []) l None ≡ o → AllO (λ (x : ℕ). x ≡ st) o
+        → unfit p (get_or (get_or g m []) l no_history) (option_map one_use o) ≡ true → UnfitIn p g sh sel st
+    go m l None q v e = absurd (false≢true e)
+    go m l (Some x) q v e = record
         { mip = m; layer = l; names = named_names sh sel st m l t (ap is_named q); unfit = not-true _ (rw v at e) }
 
 unfit_any : (p : UsageFlags) (g : List (List History)) (sh : Extent) (sel : Option Selector) (st : ℕ) → Good_selector sh sel
@@ -264,43 +264,43 @@ unfit_any : (p : UsageFlags) (g : List (List History)) (sh : Extent) (sel : Opti
 unfit_any p g sh sel st t ok u =
     any_of (any₂ (unfit p)) [] [] (λ (r : List (Option History)). Unit {0}) (λ b q. refl) no_right g (hand_use sh sel st).states u.mip
     (all_of _ (λ r. tt) (hand_use sh sel st).states)
-    (any_of (unfit p) no_history none Q (λ b q. lone b q) (λ a. refl) (get_or g u.mip [])
+    (any_of (unfit p) no_history None Q (λ b q. lone b q) (λ a. refl) (get_or g u.mip [])
     (get_or (hand_use sh sel st).states u.mip []) u.layer
     (all_get_d (All Q) (hand_use sh sel st).states u.mip [] tt (hand_all_lem (λ (x : ℕ). x ≡ st) (λ (c : History). uses_fit p c.uses ≡ true)
     (λ x e. rw e ok) (named_use sh sel st).states (use_all (λ (x : ℕ). x ≡ st) sh sel st refl)))
     (rw (handed_at (named_use sh sel st).states u.mip u.layer)
-    (go (get_or (get_or (named_use sh sel st).states u.mip []) u.layer none) (value_at sh sel st u.mip u.layer)
+    (go (get_or (get_or (named_use sh sel st).states u.mip []) u.layer None) (value_at sh sel st u.mip u.layer)
     (names_named sh sel st u.mip u.layer t u.names))))
   where
     Q : Option History → Type 0
     Q = AllO (λ (c : History). uses_fit p c.uses ≡ true)
 
     lone : (o : Option History) → Q o → unfit p no_history o ≡ false
-    lone none q = refl
-    lone (some c) q = rw q
+    lone None q = refl
+    lone (Some c) q = rw q
 
     no_right : (r : List History) → any₂ (unfit p) r [] ≡ false
     no_right [] = refl
     no_right (c ∷ r) = refl
 
     go : (o : Option ℕ) → AllO (λ (x : ℕ). x ≡ st) o → is_named o ≡ true
-        → unfit p (get_or (get_or g u.mip []) u.layer no_history) (Option_map one_use o) ≡ true
-    go none v e = absurd (false≢true e)
-    go (some x) v e = rw (v, u.unfit)
+        → unfit p (get_or (get_or g u.mip []) u.layer no_history) (option_map one_use o) ≡ true
+    go None v e = absurd (false≢true e)
+    go (Some x) v e = rw (v, u.unfit)
 
 -- ---- the call
 conflicted_has : {C : Type 0} (i : ℕ) (o : Option C)
-    → InConflict (answer (Option_map (λ (c : C). record { index = i; what = c }) o)) → has o ≡ true
-conflicted_has i none t = absurd t
-conflicted_has i (some c) t = refl
+    → InConflict (answer (option_map (λ (c : C). record { index = i; what = c }) o)) → has o ≡ true
+conflicted_has i None t = absurd t
+conflicted_has i (Some c) t = refl
 
 has_conflicted : {C : Type 0} (i : ℕ) (o : Option C) → has o ≡ true
-    → InConflict (answer (Option_map (λ (c : C). record { index = i; what = c }) o))
-has_conflicted i none e = absurd (false≢true e)
-has_conflicted i (some c) e = tt
+    → InConflict (answer (option_map (λ (c : C). record { index = i; what = c }) o))
+has_conflicted i None e = absurd (false≢true e)
+has_conflicted i (Some c) e = tt
 
 pub conflict_unfit : (s : Set Histories) (i : ℕ) (sh : Extent) (sel : Option Selector) (st : ℕ) → SetFits TiedHeld s → Word st
-    → single_refusal (head_of s) i sh sel st ≡ none
+    → single_refusal (head_of s) i sh sel st ≡ None
     → (InConflict (merge_single histories s i sh sel st).answer → Unfit s i sh sel st) × (Unfit s i sh sel st
     → InConflict (merge_single histories s i sh sel st).answer)
 conflict_unfit s i sh sel st w word e =
@@ -333,8 +333,8 @@ conflict_unfit s i sh sel st w word e =
     of_unfit o x = record { mip = x.mip; layer = x.layer; names = x.names; unfit = rw o at x.unfit }
 
     taken : slot.owned ≡ true
-        → (InConflict (answer (Option_map (λ (c : SubresourceConflict). record { index = i; what = c }) C)) → Unfit s i sh sel st)
-        × (Unfit s i sh sel st → InConflict (answer (Option_map (λ (c : SubresourceConflict). record { index = i; what = c }) C)))
+        → (InConflict (answer (option_map (λ (c : SubresourceConflict). record { index = i; what = c }) C)) → Unfit s i sh sel st)
+        × (Unfit s i sh sel st → InConflict (answer (option_map (λ (c : SubresourceConflict). record { index = i; what = c }) C)))
     taken o =
         let t = (slot_fits_lem TiedHeld s (histories.fresh 0) i w).held o in
         let tied : TiedHeld p sh slot.held = record { sure = t.sure; states = t.states; clear = t.clear } in

@@ -1,6 +1,6 @@
 -- Scopes with their histories: their states are the grid's, and each subresource's state less UNKNOWN is the union of the uses that it has
 -- taken.
-use Rattle.model.specs.Prelude.{ℕ, suc, arith, refl, sym, ap, ap₂, ◌∙◌, Bool, true, false, false≢true, Option, none, some, Option_map, List}
+use Rattle.model.specs.Prelude.{ℕ, suc, arith, refl, sym, ap, ap₂, ◌∙◌, Bool, true, false, false≢true, Option, None, Some, option_map, List}
 use Rattle.model.specs.Prelude.{[], map, eqb, and_step, or_step, and_le_r, bit_and, bit_or, and_comm, and_self, or_zero_r, get_or, eqb-true}
 use Rattle.model.specs.Prelude.{not-false}
 use Rattle.model.specs.declared.{Extent.Extent, Selector.Selector, UsageFlags.UsageFlags}
@@ -87,26 +87,26 @@ abbrev pub after : History → History → ℕ → History
 after c g u = record { state = u; uses = c.uses ++ g.uses }
 
 single_tied : (p : UsageFlags) (c g : History) (u : ℕ) → Tied p c → Tied p g
-    → single_union p c.state g.state ≡ some u → Tied p (after c g u)
+    → single_union p c.state g.state ≡ Some u → Tied p (after c g u)
 unfolding single_union
 single_tied p c g u x y e = go (incompatible p (bit_or c.state g.state)) e
   where
-    go : (b : Bool) → (if b then none else some (bit_or c.state g.state)) ≡ some u → Tied p (after c g u)
+    go : (b : Bool) → (if b then None else Some (bit_or c.state g.state)) ≡ Some u → Tied p (after c g u)
     go true e = absurd (let z : ◌≡◌ {A = ℕ} 0 1 = cc in omega arith)
     go false e = let h : bit_or c.state g.state ≡ u = cc in
         record { union = rw (← h) (joined_union p c g x y); uses = all_join _ c.uses g.uses x.uses y.uses }
 
 single_clear : (p : UsageFlags) (c g : History) (u : ℕ) → Clear p c → Clear p g
-    → single_union p c.state g.state ≡ some u → bit_and u p.unknown ≡ 0
+    → single_union p c.state g.state ≡ Some u → bit_and u p.unknown ≡ 0
 unfolding single_union
 single_clear p c g u x y e = go (incompatible p (bit_or c.state g.state)) e
   where
-    go : (b : Bool) → (if b then none else some (bit_or c.state g.state)) ≡ some u → bit_and u p.unknown ≡ 0
+    go : (b : Bool) → (if b then None else Some (bit_or c.state g.state)) ≡ Some u → bit_and u p.unknown ≡ 0
     go true e = absurd (let z : ◌≡◌ {A = ℕ} 0 1 = cc in omega arith)
     go false e = let h : bit_or c.state g.state ≡ u = cc in rw (← h) (and_or c.state g.state p.unknown ∙ rw (x, y))
 
 many_tied : (p : UsageFlags) (c g : History) (u : ℕ) → Tied p c → Tied p g
-    → many_union p c.state g.state ≡ some u → Tied p (after c g u)
+    → many_union p c.state g.state ≡ Some u → Tied p (after c g u)
 unfolding many_union
 many_tied p c g u x y e = go (incompatible p w) (eqb w 0) refl e
   where
@@ -116,7 +116,7 @@ many_tied p c g u x y e = go (incompatible p w) (eqb w 0) refl e
     all : All (UseFits p) (c.uses ++ g.uses)
     all = all_join _ c.uses g.uses x.uses y.uses
 
-    go : (b z : Bool) → eqb w 0 ≡ z → (if b then none else if z then some c.state else some w) ≡ some u → Tied p (after c g u)
+    go : (b z : Bool) → eqb w 0 ≡ z → (if b then None else if z then Some c.state else Some w) ≡ Some u → Tied p (after c g u)
     go true z q e = absurd (let z : ◌≡◌ {A = ℕ} 0 1 = cc in omega arith)
     go false true q e =
         let h : c.state ≡ u = cc in let zero = eqb-true w 0 q in
@@ -129,16 +129,16 @@ many_tied p c g u x y e = go (incompatible p w) (eqb w 0) refl e
 
 -- ---- walks
 module _ (P : History → Type 0) (f : ℕ → ℕ → Option ℕ) (keeps : (c g : History) (u : ℕ) → P c → P g → f c.state g.state
-    ≡ some u → P (after c g u)) where
+    ≡ Some u → P (after c g u)) where
   take_keeps : (m l : ℕ) (c : History) (o : Option History) → P c → AllO P o → P (take_state f m l c o).value
-  take_keeps m l c none x y = x
-  take_keeps m l c (some g) x y = go (f c.state g.state) refl
+  take_keeps m l c None x y = x
+  take_keeps m l c (Some g) x y = go (f c.state g.state) refl
     where
       go : (o : Option ℕ) → f c.state g.state ≡ o
           → P (ruled {C = SubresourceConflict} c (record { mip = m; layer = l; old = c.state; new = g.state })
-          (Option_map (after c g) o)).value
-      go none e = x
-      go (some u) e = keeps c g u x y e
+          (option_map (after c g) o)).value
+      go None e = x
+      go (Some u) e = keeps c g u x y e
 
   pub takes_keep : (g : List (List History)) (n : List (List (Option History))) → GridAll P g → GridAll (AllO P) n
       → GridAll P (take_states f g n).value
@@ -150,7 +150,7 @@ abbrev state_of : History → ℕ
 state_of c = c.state
 
 abbrev states_o : Option History → Option ℕ
-states_o = Option_map state_of
+states_o = option_map state_of
 
 -- the walk over subresources with their uses is the grid's
 module _ {A B C : Type 0} {A' B' : Type 0} (v : A → A') (w : B → B') (h : ℕ → A → B → Stop C A) (h' : ℕ → A' → B' → Stop C A')
@@ -160,8 +160,8 @@ module _ {A B C : Type 0} {A' B' : Type 0} (v : A → A') (w : B → B') (h : �
       → o ≡ o' → map v r.value ≡ r'.value → r.conflict ≡ r'.conflict
       → (map v (onward x o was r).value ≡ (onward x' o' (map v was) r').value)
       × ((onward x o was r).conflict ≡ (onward x' o' (map v was) r').conflict)
-  onward_map x none was r x' o' r' a b c d = rw (← b) (cc, d)
-  onward_map x (some z) was r x' o' r' a b c d = rw (← b) (cc, refl)
+  onward_map x None was r x' o' r' a b c d = rw (← b) (cc, d)
+  onward_map x (Some z) was r x' o' r' a b c d = rw (← b) (cc, refl)
 
   walk_map : (k : ℕ) (s : List A) (t : List B)
       → (map v (walk₂ h k s t).value ≡ (walk₂ h' k (map v s) (map w t)).value)
@@ -175,17 +175,17 @@ module _ {A B C : Type 0} {A' B' : Type 0} (v : A → A') (w : B → B') (h : �
 state_map : (f : ℕ → ℕ → Option ℕ) (m l : ℕ) (c : History) (o : Option History)
     → ((take_state f m l c o).value.state ≡ (unite_state f m l c.state (states_o o)).value)
     × ((take_state f m l c o).conflict ≡ (unite_state f m l c.state (states_o o)).conflict)
-state_map f m l c none = (refl, refl)
-state_map f m l c (some g) = go (f c.state g.state)
+state_map f m l c None = (refl, refl)
+state_map f m l c (Some g) = go (f c.state g.state)
   where
     z : SubresourceConflict
     z = record { mip = m; layer = l; old = c.state; new = g.state }
 
     go : (o : Option ℕ)
-        → ((ruled c z (Option_map (after c g) o)).value.state ≡ (ruled c.state z o).value)
-        × ((ruled c z (Option_map (after c g) o)).conflict ≡ (ruled c.state z o).conflict)
-    go none = (refl, refl)
-    go (some u) = (refl, refl)
+        → ((ruled c z (option_map (after c g) o)).value.state ≡ (ruled c.state z o).value)
+        × ((ruled c z (option_map (after c g) o)).conflict ≡ (ruled c.state z o).conflict)
+    go None = (refl, refl)
+    go (Some u) = (refl, refl)
 
 states_map : (f : ℕ → ℕ → Option ℕ) (g : List (List History)) (n : List (List (Option History)))
     → (map (map state_of) (take_states f g n).value ≡ (unite_states f (map (map state_of) g) (map (map states_o) n)).value)
@@ -205,7 +205,7 @@ pub record TiedGiven (p : UsageFlags) (sh : Extent) (g : HandedIn) (n : Named) :
   pub same : named g ≡ n
   pub states : GridAll (AllO (Tied p)) g.states
   pub clear : g.single ≡ true → GridAll (AllO (Clear p)) g.states
-  pub single : g.single ≡ true → GridAll (λ (o : Option History). o ≡ none → ⊥) g.states
+  pub single : g.single ≡ true → GridAll (λ (o : Option History). o ≡ None → ⊥) g.states
 
 history_merged : (p : UsageFlags) (sh : Extent) (h : Histories) (g : HandedIn) (n : Named) → TiedGiven p sh g n → TiedHeld p sh h
     → TiedHeld p sh (history_merge p sh h g).value
@@ -227,9 +227,9 @@ history_merged p sh h g n r f =
       ),
     )))
   where
-    idle : (o : Option SubresourceConflict) → Option_map (λ (c : SubresourceConflict). c) o ≡ o
-    idle none = refl
-    idle (some c) = refl
+    idle : (o : Option SubresourceConflict) → option_map (λ (c : SubresourceConflict). c) o ≡ o
+    idle None = refl
+    idle (Some c) = refl
 
     W : Stop SubresourceConflict (List (List History))
     W = take_states (single_union p) h.states g.states
@@ -241,7 +241,7 @@ history_merged p sh h g n r f =
         → TiedHeld p sh (or_keep o h (record { single = g.single; states = W.value })).value
         × Sim states_of (λ (c : SubresourceConflict). c) (or_keep o h (record { single = g.single; states = W.value })) (or_keep o'
         (states_of h) (record { single = g.single; states = V₀.value }))
-    both e none o' q = rw (← q) (
+    both e None o' q = rw (← q) (
       record {
         sure = f.sure;
         states = takes_keep (Tied p) (single_union p) (single_tied p) h.states g.states f.states r.states;
@@ -249,52 +249,52 @@ history_merged p sh h g n r f =
       },
       (ap (λ (x : List (List ℕ)). record { single = g.single; states = x }) (states_map (single_union p) h.states g.states).0, refl),
     )
-    both e (some c) o' q = rw (← q) (f, (refl, refl))
+    both e (Some c) o' q = rw (← q) (f, (refl, refl))
 
 -- ---- what is handed in
-grid_states : (g : List (List (Option ℕ))) → map (map states_o) (map (map (Option_map one_use)) g) ≡ g
-grid_states = grid_back (Option_map one_use) states_o one
+grid_states : (g : List (List (Option ℕ))) → map (map states_o) (map (map (option_map one_use)) g) ≡ g
+grid_states = grid_back (option_map one_use) states_o one
   where
-    one : (o : Option ℕ) → states_o (Option_map one_use o) ≡ o
-    one none = refl
-    one (some x) = refl
+    one : (o : Option ℕ) → states_o (option_map one_use o) ≡ o
+    one None = refl
+    one (Some x) = refl
 
 -- check 12, and the sixteen bits
 pub use_state : (h : Head) (i : ℕ) (sh : Extent) (sel : Option Selector) (st : ℕ) → Word st
-    → single_refusal h i sh sel st ≡ none → UseFits h.flags st
+    → single_refusal h i sh sel st ≡ None → UseFits h.flags st
 use_state h i sh sel st w e =
     let c = (single_passed h i sh sel st e).state in
     record { nonzero = c.nonzero; word = w; known = eqb-true (bit_and st h.flags.unknown) 0 (not-false _ c.known) }
 
 pub hand_all_lem : (P : ℕ → Type 0) (Q : History → Type 0) → ((x : ℕ) → P x → Q (one_use x))
     → (g : List (List (Option ℕ))) → GridAll (AllO P) g
-    → GridAll (AllO Q) (map (map (Option_map one_use)) g)
-hand_all_lem P Q h g t = grid_map (AllO P) (AllO Q) (Option_map one_use) one g t
+    → GridAll (AllO Q) (map (map (option_map one_use)) g)
+hand_all_lem P Q h g t = grid_map (AllO P) (AllO Q) (option_map one_use) one g t
   where
-    one : (o : Option ℕ) → AllO P o → AllO Q (Option_map one_use o)
-    one none t = tt
-    one (some x) t = h x t
+    one : (o : Option ℕ) → AllO P o → AllO Q (option_map one_use o)
+    one None t = tt
+    one (Some x) t = h x t
 
 abbrev There : {A : Type 0} → Option A → Type 0
-There o = o ≡ none → ⊥
+There o = o ≡ None → ⊥
 
-some_there : {A : Type 0} (x : A) → There (some x)
+some_there : {A : Type 0} (x : A) → There (Some x)
 some_there x e = let h : ◌≡◌ {A = ℕ} 0 1 = cc in omega arith
 
-hand_there : (g : List (List (Option ℕ))) → GridAll There g → GridAll There (map (map (Option_map one_use)) g)
-hand_there g t = grid_map There There (Option_map one_use) one g t
+hand_there : (g : List (List (Option ℕ))) → GridAll There g → GridAll There (map (map (option_map one_use)) g)
+hand_there g t = grid_map There There (option_map one_use) one g t
   where
-    one : (o : Option ℕ) → There o → There (Option_map one_use o)
-    one none t = absurd (t refl)
-    one (some x) t = some_there (one_use x)
+    one : (o : Option ℕ) → There o → There (option_map one_use o)
+    one None t = absurd (t refl)
+    one (Some x) t = some_there (one_use x)
 
 use_there : (sh : Extent) (sel : Option Selector) (st : ℕ) → (named_use sh sel st).single ≡ true
     → GridAll There (named_use sh sel st).states
-use_there sh none st e = grid_everywhere There sh (some st) (some_there st)
-use_there sh (some q) st e = rw (full_grid sh q st e) (grid_everywhere There sh (some st) (some_there st))
+use_there sh None st e = grid_everywhere There sh (Some st) (some_there st)
+use_there sh (Some q) st e = rw (full_grid sh q st e) (grid_everywhere There sh (Some st) (some_there st))
 
 history_used : (h : Head) (i : ℕ) (sh : Extent) (sel : Option Selector) (st : ℕ) → flags_fit h.flags ≡ true → Word st
-    → single_refusal h i sh sel st ≡ none
+    → single_refusal h i sh sel st ≡ None
     → TiedGiven h.flags sh (hand_use sh sel st) (named_use sh sel st)
 history_used h i sh sel st s w e =
     let u = use_state h i sh sel st w e in let all = use_all (UseFits h.flags) sh sel st u in record {
@@ -305,12 +305,12 @@ history_used h i sh sel st s w e =
       single = λ m. hand_there (named_use sh sel st).states (use_there sh sel st m);
     }
 
-grid_pass : (g : List (List History)) → map (map states_o) (map (map some) g) ≡ map (map some) (map (map state_of) g)
-grid_pass = grid_square some states_o state_of some (λ c. refl)
+grid_pass : (g : List (List History)) → map (map states_o) (map (map Some) g) ≡ map (map Some) (map (map state_of) g)
+grid_pass = grid_square Some states_o state_of Some (λ c. refl)
 
-pub pass_all : (P : History → Type 0) (Q : Option History → Type 0) → ((c : History) → P c → Q (some c)) → (g : List (List History))
-    → GridAll P g → GridAll Q (map (map some) g)
-pass_all P Q h g t = grid_map P Q some h g t
+pub pass_all : (P : History → Type 0) (Q : Option History → Type 0) → ((c : History) → P c → Q (Some c)) → (g : List (List History))
+    → GridAll P g → GridAll Q (map (map Some) g)
+pass_all P Q h g t = grid_map P Q Some h g t
 
 history_passed : (p : UsageFlags) (sh : Extent) (h : Histories) → TiedHeld p sh h → TiedGiven p sh (hand_all h) (named_all (states_of h))
 history_passed p sh h f = record {
@@ -330,14 +330,14 @@ grid_insert_lem : (p : UsageFlags) (g : List (List (Option History)))
 grid_insert_lem p = grid_square (named_or (blank_of p)) state_of states_o (named_or p.unknown) one
   where
     one : (o : Option History) → state_of (named_or (blank_of p) o) ≡ named_or p.unknown (states_o o)
-    one none = refl
-    one (some c) = refl
+    one None = refl
+    one (Some c) = refl
 
 row_clear : (p : UsageFlags) (r : List (Option History)) → All (AllO (Clear p)) r → All There r
     → All (Clear p) (map (named_or (blank_of p)) r)
 row_clear p [] a b = tt
-row_clear p (none ∷ r) a b = absurd (b.0 refl)
-row_clear p (some c ∷ r) a b = (a.0, row_clear p r a.1 b.1)
+row_clear p (None ∷ r) a b = absurd (b.0 refl)
+row_clear p (Some c ∷ r) a b = (a.0, row_clear p r a.1 b.1)
 
 grid_clear : (p : UsageFlags) (g : List (List (Option History))) → GridAll (AllO (Clear p)) g → GridAll There g
     → GridAll (Clear p) (map (map (named_or (blank_of p))) g)
@@ -345,8 +345,8 @@ grid_clear p [] a b = tt
 grid_clear p (r ∷ g) a b = (row_clear p r a.0 b.0, grid_clear p g a.1 b.1)
 
 or_else_tied : (p : UsageFlags) (o : Option History) → AllO (Tied p) o → Tied p (named_or (blank_of p) o)
-or_else_tied p none t = blank_state p
-or_else_tied p (some c) t = t
+or_else_tied p None t = blank_state p
+or_else_tied p (Some c) t = t
 
 insert_states : (p : UsageFlags) (sh : Extent) (g : HandedIn) (n : Named) → named g ≡ n
     → states_of (history_insert p sh g) ≡ grid_insert p sh n
@@ -405,6 +405,6 @@ history_trackers = record {
       );
   logged = λ p mask sh e a b c d r f m l. (
     ap (λ (n : Named). grid_at m l (grid_barrier p mask sh (states_of e.end) n)) r.0,
-    at_most_one (get_or (get_or (grid_barrier p mask sh (states_of e.end) (named a)) m []) l none),
+    at_most_one (get_or (get_or (grid_barrier p mask sh (states_of e.end) (named a)) m []) l None),
   );
 }

@@ -1,5 +1,5 @@
 -- From one texture to any list of calls on any sets, for any two representations.
-use Rattle.model.specs.Prelude.{ℕ, arith, refl, ap, ◌∙◌, true, Option, none, some, Option_map, List, [], map, eqb, length, set, get_elem?}
+use Rattle.model.specs.Prelude.{ℕ, arith, refl, ap, ◌∙◌, true, Option, None, Some, option_map, List, [], map, eqb, length, set, slice_get}
 use Rattle.model.specs.{declared.{Extent.Extent, Refusal.Refusal, UsageFlags.UsageFlags}, Base.{each, All, AllO}}
 use Rattle.model.specs.{Representation.{Representation, Ends}, Sets.{Set, Tracker, Opening, open_set, open_tracker}, Refusals.opens}
 use Rattle.model.specs.Calls.{Answer, CallResult, Call, call_merge_single, call_merge_usage_scope, call_set_single}
@@ -85,8 +85,8 @@ module _ (K L : Representation) (v : Extent → K.Held → L.Held) (cl : K.Confl
     plain_answer a b m = rw (m.1, m.2) (go m.0)
       where
         go : (o : Option Refusal) → map_answer cl (plain o) ≡ plain o
-        go none = refl
-        go (some r) = refl
+        go None = refl
+        go (Some r) = refl
 
     put_tracker_lem : (k : Sets K) (n : ℕ) (r : CallResult K.Conflict K.Log (Tracker K.Held)) (u : CallResult L.Conflict
         L.Log (Tracker L.Held)) → Good k
@@ -128,27 +128,27 @@ module _ (K L : Representation) (v : Extent → K.Held → L.Held) (cl : K.Confl
     with_one : {A B : Type 0} (P : A → Type 0) (F : A → B) (k : Sets K) (l : List A) (n : ℕ) (r : A → ResultK) (u : B → ResultL) → Good k
         → All P l
         → ((x : A) → P x → Stepped (r x) (u (F x)))
-        → Stepped (with₁ K k (get_elem? l n) r) (with₁ L (image_sets k) (get_elem? (map F l) n) u)
-    with_one {A} P F k l n r u t w h = rw (elem_map F l n) (go (get_elem? l n) (all_elem P l n w))
+        → Stepped (with₁ K k (slice_get l n) r) (with₁ L (image_sets k) (slice_get (map F l) n) u)
+    with_one {A} P F k l n r u t w h = rw (elem_map F l n) (go (slice_get l n) (all_elem P l n w))
       where
-        go : (o : Option A) → AllO P o → Stepped (with₁ K k o r) (with₁ L (image_sets k) (Option_map F o) u)
-        go none p = idle k t
-        go (some x) p = h x p
+        go : (o : Option A) → AllO P o → Stepped (with₁ K k o r) (with₁ L (image_sets k) (option_map F o) u)
+        go None p = idle k t
+        go (Some x) p = h x p
 
     with_two : {A B C D : Type 0} (P : A → Type 0) (Q : C → Type 0) (F : A → B) (G : C → D) (k : Sets K) (l : List A)
         (n : ℕ) (l' : List C) (n' : ℕ)
         (r : A → C → ResultK) (u : B → D → ResultL) → Good k → All P l → All Q l'
         → ((x : A) (y : C) → P x → Q y → Stepped (r x y) (u (F x) (G y)))
-        → Stepped (with₂ K k (get_elem? l n) (get_elem? l' n') r) (with₂ L (image_sets k)
-        (get_elem? (map F l) n) (get_elem? (map G l') n') u)
+        → Stepped (with₂ K k (slice_get l n) (slice_get l' n') r) (with₂ L (image_sets k)
+        (slice_get (map F l) n) (slice_get (map G l') n') u)
     with_two {A} {B} {C} {D} P Q F G k l n l' n' r u t w w' h =
-        rw (elem_map F l n, elem_map G l' n') (go (get_elem? l n) (get_elem? l' n') (all_elem P l n w) (all_elem Q l' n' w'))
+        rw (elem_map F l n, elem_map G l' n') (go (slice_get l n) (slice_get l' n') (all_elem P l n w) (all_elem Q l' n' w'))
       where
         go : (o : Option A) (o' : Option C) → AllO P o → AllO Q o'
-            → Stepped (with₂ K k o o' r) (with₂ L (image_sets k) (Option_map F o) (Option_map G o') u)
-        go none o' p q = idle k t
-        go (some x) none p q = idle k t
-        go (some x) (some y) p q = h x y p q
+            → Stepped (with₂ K k o o' r) (with₂ L (image_sets k) (option_map F o) (option_map G o') u)
+        go None o' p q = idle k t
+        go (Some x) None p q = idle k t
+        go (Some x) (Some y) p q = h x y p q
 
     pub stepped : (c : Call) (k : Sets K) → Words W N c → Good k → Stepped (step K c k) (step L c (image_sets k))
     unfolding step

@@ -1,5 +1,5 @@
 -- From one texture to the sets of any two representations: where the rules for a texture agree, the two merges do.
-use Rattle.model.specs.Prelude.{ℕ, suc, refl, ap, ◌∙◌, true, Option, none, some, Option_map, List, [], set}
+use Rattle.model.specs.Prelude.{ℕ, suc, refl, ap, ◌∙◌, true, Option, None, Some, option_map, List, [], set}
 use Rattle.model.specs.{declared.{Extent.Extent, Selector.Selector, UsageFlags.UsageFlags}, Base.{Stop, walk₂, All}, Flags.flags_fit}
 use Rattle.model.specs.{Representation.Representation, Sets.{Numbers, Slot, Set, Head, head_of, slot_at, with_slots}}
 use Rattle.model.specs.Refusals.{single_refusal, set_refusal}
@@ -25,7 +25,7 @@ module _ (K L : Representation) (v : Extent → K.Held → L.Held) (cl : K.Confl
   pub record Textures : Type 0 where
     pub fresh : (n : ℕ) → v (record { mips = 0; layers = 0 }) (K.fresh n) ≡ L.fresh n
     pub used : (h : Head) (i : ℕ) (sh : Extent) (sel : Option Selector) (st : ℕ) → flags_fit h.flags ≡ true → Word st
-        → single_refusal h i sh sel st ≡ none
+        → single_refusal h i sh sel st ≡ None
         → Gives h.flags sh (K.use_of sh sel st) (L.use_of sh sel st)
     pub passed_on : (p : UsageFlags) (sh : Extent) (h : K.Held) → Fit p sh h → Gives p sh (K.pass h) (L.pass (v sh h))
     pub inserted : (p : UsageFlags) (sh : Extent) (g : K.Given) (n : L.Given) → Gives p sh g n
@@ -41,15 +41,15 @@ module _ (K L : Representation) (v : Extent → K.Held → L.Held) (cl : K.Confl
     pub after : image_set v r.after ≡ u.after
     pub quiet : (r.log ≡ []) × (u.log ≡ [])
 
-  answer_map : (o : Option (Indexed K.Conflict)) → map_answer cl (answer o) ≡ answer (Option_map (map_conflict cl) o)
-  answer_map none = refl
-  answer_map (some c) = refl
+  answer_map : (o : Option (Indexed K.Conflict)) → map_answer cl (answer o) ≡ answer (option_map (map_conflict cl) o)
+  answer_map None = refl
+  answer_map (Some c) = refl
 
   index_map : (i : ℕ) (o : Option K.Conflict)
-      → Option_map (map_conflict cl) (Option_map (λ (c : K.Conflict). record { index = i; what = c }) o)
-      ≡ Option_map (λ (c : L.Conflict). record { index = i; what = c }) (Option_map cl o)
-  index_map i none = refl
-  index_map i (some c) = refl
+      → option_map (map_conflict cl) (option_map (λ (c : K.Conflict). record { index = i; what = c }) o)
+      ≡ option_map (λ (c : L.Conflict). record { index = i; what = c }) (option_map cl o)
+  index_map i None = refl
+  index_map i (Some c) = refl
 
   module _ (R : Textures) where
     abbrev Slots : Numbers → UsageFlags → Stop (Indexed K.Conflict) (Slot K.Held)
@@ -67,7 +67,7 @@ module _ (K L : Representation) (v : Extent → K.Held → L.Held) (cl : K.Confl
           (
             ap (owning sh) w.1.0,
             index_map i (K.merge p sh s.held g).conflict
-                ∙ ap (Option_map (λ (c : L.Conflict). record { index = i; what = c })) w.1.1,
+                ∙ ap (option_map (λ (c : L.Conflict). record { index = i; what = c })) w.1.1,
           ),
         ))
         (λ e. let w = R.inserted p sh g m r in (record { extent = λ o. h.within; held = λ o. w.0 }, (ap (owning sh) w.1, refl)))

@@ -1,5 +1,5 @@
 -- From one texture to the trackers of any two representations: the four tracker calls, with the transitions of each subresource.
-use Rattle.model.specs.Prelude.{ℕ, zero, suc, arith, refl, sym, ap, ◌∙◌, Bool, true, false, false≢true, true≢false, Option, none, some}
+use Rattle.model.specs.Prelude.{ℕ, zero, suc, arith, refl, sym, ap, ◌∙◌, Bool, true, false, false≢true, true≢false, Option, None, Some}
 use Rattle.model.specs.Prelude.{List, [], append-nil, eqb, leb, length, get_or, set, List_get_D_map, get_or-set_other, eqb-true, not-false}
 use Rattle.model.specs.Prelude.{ne_eqb, lt-leb, leb-false}
 use Rattle.model.specs.declared.{Extent.Extent, Refusal.Refusal, Selector.Selector, UsageFlags.UsageFlags}
@@ -53,8 +53,8 @@ module _ {A B : Type 0} (f : ℕ → ℕ → A → List Move) (g : ℕ → ℕ �
 
 -- ---- trackers: no call on them conflicts
 abbrev pub plain : {C : Type 0} → Option Refusal → Answer C
-plain none = done
-plain (some r) = refused r
+plain None = done
+plain (Some r) = refused r
 
 -- logs that tell nothing more of the indices in `has`
 abbrev any : ℕ → Bool
@@ -76,7 +76,7 @@ module _ (K L : Representation) (v : Extent → K.Held → L.Held) (Word : ℕ �
   pub record Tracks : Type 0 where
     pub fresh : (n : ℕ) → v (record { mips = 0; layers = 0 }) (K.fresh n) ≡ L.fresh n
     pub used : (h : Head) (i : ℕ) (sh : Extent) (sel : Option Selector) (st : ℕ) → flags_fit h.flags ≡ true → Word st
-        → single_refusal h i sh sel st ≡ none
+        → single_refusal h i sh sel st ≡ None
         → Pairs h.flags sh (K.use_of sh sel st) (L.use_of sh sel st) (K.use_of sh sel st) (L.use_of sh sel st)
     pub passed_on : (p : UsageFlags) (sh : Extent) (h : K.Held) → Fit p sh h
         → Pairs p sh (K.pass h) (L.pass (v sh h)) (K.pass h) (L.pass (v sh h))
@@ -129,20 +129,20 @@ module _ (K L : Representation) (v : Extent → K.Held → L.Held) (Word : ℕ �
     away : (t : Tracker K.Held) (r : Refusal) → SetFits FitE t.set
         → MatchesT any (record { answer = refused r; log = []; after = t }) (record
         { answer = refused r; log = []; after = image_tracker v t })
-    away t r w = record { fit = w; answer = (some r, refl, refl); after = refl; logs = no_logs f g any }
+    away t r w = record { fit = w; answer = (Some r, refl, refl); after = refl; logs = no_logs f g any }
 
     pub single_set : (t : Tracker K.Held) (i : ℕ) (sh : Extent) (sel : Selector) (st : ℕ) → Word st → SetFits FitE t.set
         → MatchesT any (set_single K t i sh sel st) (set_single L (image_tracker v t) i sh sel st)
     single_set t i sh sel st word w =
         rw (extents_image (image_ends v) t.set.slots)
-        (unless_by₂ (MatchesT any) (single_refusal (head_of t.set) i sh (some sel) st) (λ r. away t r w) λ e.
-        let p = t.set.flags in let a = K.use_of sh (some sel) st in let b = L.use_of sh (some sel) st in
-        let slot = slot_at (no_ends K) t.set i in let r = R.used (head_of t.set) i sh (some sel) st w.flags word e in
-        let x = slot_fits_lem FitE t.set (no_ends K) i w in let y = single_at t.set (no_ends K) i sh (some sel) st e in
+        (unless_by₂ (MatchesT any) (single_refusal (head_of t.set) i sh (Some sel) st) (λ r. away t r w) λ e.
+        let p = t.set.flags in let a = K.use_of sh (Some sel) st in let b = L.use_of sh (Some sel) st in
+        let slot = slot_at (no_ends K) t.set i in let r = R.used (head_of t.set) i sh (Some sel) st w.flags word e in
+        let x = slot_fits_lem FitE t.set (no_ends K) i w in let y = single_at t.set (no_ends K) i sh (Some sel) st e in
         let m = slot_set t.set.numbers p sh a b a b i slot r x y in
         rw (track_same t i) record {
           fit = put_slot FitE t.set i (set_slot K p sh a a slot) w m.0;
-          answer = (none, refl, refl);
+          answer = (None, refl, refl);
           after = ap (with_tracker (image_tracker v t)) (set_map ends t.set.slots i (set_slot K p sh a a slot)
               ∙ ap (set (grid_slots (image_ends v) t.set.slots) i) m.1);
           logs = all_indices f g (slot_log t.set.numbers p sh a b a b i slot r x y t.mask);
@@ -175,7 +175,7 @@ module _ (K L : Representation) (v : Extent → K.Held → L.Held) (Word : ℕ �
           (λ k xs c. ((tt, refl), no_logs f g (λ j. leb k j))) rest next w.slots (rw (flags_same t.set x e) y.slots) in
           record {
             fit = put_slots FitE t.set _ w (over_length _ 0 t.set.slots x.slots) m.0.0;
-            answer = (none, refl, refl);
+            answer = (None, refl, refl);
             after = ap (with_tracker (image_tracker v t)) m.0.1;
             logs = all_indices f g m.1;
           })
@@ -307,7 +307,7 @@ module _ (K L : Representation) (v : Extent → K.Held → L.Held) (Word : ℕ �
               (List_get_D_map own_extent t.set.slots i (empty_slot (no_ends K))) checks
 
       pub each_listed : (t : Tracker K.Held) (s : Set K.Held) (is : List ℕ) → SetFits FitE t.set → SetFits Fit s
-          → sparse_refusal (head_of t.set) (head_of s) is ≡ none → F is t s
+          → sparse_refusal (head_of t.set) (head_of s) is ≡ None → F is t s
       each_listed t s is w y e =
           let c = passed _ e in one_by_one is t s w y (same_flags_lem t.set.flags s.flags (not-false _ c.0)) (alike t s is c.1)
 
@@ -346,7 +346,7 @@ module _ (K L : Representation) (v : Extent → K.Held → L.Held) (Word : ℕ �
         rw (scope_same s i, track_same t i, k.owned, ← tracker, ← scope) record {
           fit = ih.fit;
           fits = ih.fits;
-          answer = (none, refl, refl);
+          answer = (None, refl, refl);
           tracker = ih.tracker;
           scope = ih.scope;
           logs = join_logs f g (λ j. eqb i j) (λ j. (scope_slot (s₁ t s i) j).owned) (λ j. (scope_slot s j).owned) _ _ _ _
@@ -360,19 +360,19 @@ module _ (K L : Representation) (v : Extent → K.Held → L.Held) (Word : ℕ �
         → Owned is t s → Owned (i ∷ is) t s
     skip_one i is t s e ih =
         rw (scope_same s i, e) record
-        { fit = ih.fit; fits = ih.fits; answer = (none, refl, refl); tracker = ih.tracker; scope = ih.scope; logs = ih.logs }
+        { fit = ih.fit; fits = ih.fits; answer = (None, refl, refl); tracker = ih.tracker; scope = ih.scope; logs = ih.logs }
 
     pub sparse_set : (t : Tracker K.Held) (s : Set K.Held) (is : List ℕ) → SetFits FitE t.set → SetFits Fit s
         → MatchesB any (set_and_remove_sparse K t s is) (set_and_remove_sparse L (image_tracker v t) (image_set v s) is)
     sparse_set t s is w y =
         rw (extents_image (image_ends v) t.set.slots, extents_image v s.slots)
         (unless_by₂ (MatchesB any) (sparse_refusal (head_of t.set) (head_of s) is)
-        (λ r. record { fit = w; fits = y; answer = (some r, refl, refl); tracker = refl; scope = refl; logs = no_logs f g any }) λ e.
+        (λ r. record { fit = w; fits = y; answer = (Some r, refl, refl); tracker = refl; scope = refl; logs = no_logs f g any }) λ e.
         let m = each_listed Owned
         (λ t s w y. record {
           fit = w;
           fits = y;
-          answer = (none, refl, refl);
+          answer = (None, refl, refl);
           tracker = refl;
           scope = refl;
           logs = no_logs f g (λ j. (scope_slot s j).owned);

@@ -1,8 +1,8 @@
 -- The entries that one call adds are no more than the subresources that it names, nor than those that its tracker owns, so a log with a
 -- free entry for each never refuses it.
 use Rattle.model.specs.Prelude.{ℕ, zero, suc, le_trans, zero-add, mul-le-mul, mul_assoc, suc-mul, ℕ_discrete, arith, refl, ◌∙◌, sym, ap}
-use Rattle.model.specs.Prelude.{Bool, true, false, and-eq-true_iff, false≢true, true≢false, Option, none, some, List, [], map, ltb, eqb}
-use Rattle.model.specs.Prelude.{length, get_or, set, get_elem?, length-append, length-map, le-leb, lt-ltb, ltb-true, eq-eqb, ne_eqb, le-ltb}
+use Rattle.model.specs.Prelude.{Bool, true, false, and-eq-true_iff, false≢true, true≢false, Option, None, Some, List, [], map, ltb, eqb}
+use Rattle.model.specs.Prelude.{length, get_or, set, slice_get, length-append, length-map, le-leb, lt-ltb, ltb-true, eq-eqb, ne_eqb, le-ltb}
 use Rattle.model.specs.declared.Refusal.TheVariants.{NoFreeEntry}
 use Rattle.model.specs.declared.{Extent.Extent, InvalidUse.InvalidUse, Range.Range, Selector.Selector, UsageFlags.UsageFlags}
 use Rattle.model.specs.{Base.{each_at₂, zip₂, All}, Representation.{select, full, in_mips, holds, Ends}, StateRules.{Move, move_of}}
@@ -126,8 +126,8 @@ filter_in_lem a e w (r ∷ s) h t =
     (λ b. ih)
 
 entry_in : (sh : Extent) (q : Selector) (o : Option Move) → In sh q → All (EntryIn sh) (entry q o)
-entry_in sh q none h = tt
-entry_in sh q (some m) h = (h, tt)
+entry_in sh q None h = tt
+entry_in sh q (Some m) h = (h, tt)
 
 ranges_in : (sh : Extent) (f : ℕ → Option Move) (k : ℕ) (s : List Range) → k < sh.mips → All (RangeIn sh.layers) s
     → All (EntryIn sh) (mip_entries f k s)
@@ -171,16 +171,16 @@ barrier_in p mask sh (many ss) (given_many qs) n e f g =
 
 -- ---- a subresource that is not named has no transition
 abbrev pub is_named : Option ℕ → Bool
-is_named none = false
-is_named (some c) = true
+is_named None = false
+is_named (Some c) = true
 
 texture_few : (p : UsageFlags) (mask : ℕ) (sh : Extent) (h : Held) (g : Given) (n : Named) → Measured sh → Fit sh h → Gives sh g n
-    → ((m l : ℕ) → length (entries_at m l (barrier p mask sh h g)) ≤ one_if (is_named (get_or (get_or n.states m []) l none)))
-    → length (barrier p mask sh h g) ≤ count_states sh (λ m l. is_named (get_or (get_or n.states m []) l none))
+    → ((m l : ℕ) → length (entries_at m l (barrier p mask sh h g)) ≤ one_if (is_named (get_or (get_or n.states m []) l None)))
+    → length (barrier p mask sh h g) ≤ count_states sh (λ m l. is_named (get_or (get_or n.states m []) l None))
 texture_few p mask sh h g n e f r few =
     let a = entries_few sh (barrier p mask sh h g) (barrier_in p mask sh h g n e f r) in
     let b = state_le sh (λ m l. length (entries_at m l (barrier p mask sh h g)))
-    (λ m l. one_if (is_named (get_or (get_or n.states m []) l none))) few in
+    (λ m l. one_if (is_named (get_or (get_or n.states m []) l None))) few in
     omega arith
 
 -- no test passes at more subresources than there are
@@ -199,27 +199,27 @@ states_most sh test = grid_most test sh.layers 0 sh.mips
 
 -- ---- nor has the grid one there
 row_few : (p : UsageFlags) (mask : ℕ) (r : List ℕ) (q : List (Option ℕ)) (l : ℕ)
-    → length (to_list (get_or (zip₂ (named_transition p mask) r q) l none)) ≤ one_if (is_named (get_or q l none))
+    → length (to_list (get_or (zip₂ (named_transition p mask) r q) l None)) ≤ one_if (is_named (get_or q l None))
 row_few p mask [] q l = omega arith
 row_few p mask (c ∷ r) [] l = omega arith
-row_few p mask (c ∷ r) (none ∷ q) zero = omega arith
-row_few p mask (c ∷ r) (some x ∷ q) zero = at_most_one (named_transition p mask c (some x))
+row_few p mask (c ∷ r) (None ∷ q) zero = omega arith
+row_few p mask (c ∷ r) (Some x ∷ q) zero = at_most_one (named_transition p mask c (Some x))
 row_few p mask (c ∷ r) (o ∷ q) (suc l) = row_few p mask r q l
 
 grid_few : (p : UsageFlags) (mask : ℕ) (g : List (List ℕ)) (n : List (List (Option ℕ))) (m l : ℕ)
-    → length (grid_at m l (zip₂ (zip₂ (named_transition p mask)) g n)) ≤ one_if (is_named (get_or (get_or n m []) l none))
+    → length (grid_at m l (zip₂ (zip₂ (named_transition p mask)) g n)) ≤ one_if (is_named (get_or (get_or n m []) l None))
 grid_few p mask [] n m l = omega arith
 grid_few p mask (r ∷ g) [] m l = omega arith
 grid_few p mask (r ∷ g) (q ∷ n) zero l = row_few p mask r q l
 grid_few p mask (r ∷ g) (q ∷ n) (suc m) l = grid_few p mask g n m l
 
 grids_few : (p : UsageFlags) (mask : ℕ) (sh : Extent) (s : Grid) (n : Named) (m l : ℕ)
-    → length (grid_at m l (grid_barrier p mask sh s n)) ≤ one_if (is_named (get_or (get_or n.states m []) l none))
+    → length (grid_at m l (grid_barrier p mask sh s n)) ≤ one_if (is_named (get_or (get_or n.states m []) l None))
 unfolding grid_barrier
 grids_few p mask sh s n m l = grid_few p mask s.states n.states m l
 
 abbrev pub named_at : Named → ℕ → ℕ → Bool
-named_at n m l = is_named (get_or (get_or n.states m []) l none)
+named_at n m l = is_named (get_or (get_or n.states m []) l None)
 
 -- ---- one index
 module _ (n : Numbers) (p : UsageFlags) (mask : ℕ) (sh : Extent) (a : Given) (b : Named) (c : Given) (d : Named)
@@ -249,9 +249,9 @@ entries_append (e ∷ x) y = let h = entries_append x y in omega arith
 
 -- ---- a single use
 pub use_named : (sh : Extent) (q : Selector) (st m l : ℕ) → q.layers.start.0 < q.layers.end.0 → q.mips.end.0 ≤ sh.mips
-    → one_if (named_at (named_use sh (some q) st) m l) ≡ one_if (holds q m l)
+    → one_if (named_at (named_use sh (Some q) st) m l) ≡ one_if (holds q m l)
 use_named sh q st m l h g = sym (sym (left (holds q m l)) ∙ ap length (lookup_place sh (λ st. v ∷ []) m l q st h g)
-    ∙ right (get_or (get_or (tab (named_row sh q st) 0 sh.mips) m []) l none))
+    ∙ right (get_or (get_or (tab (named_row sh q st) 0 sh.mips) m []) l None))
   where
     v : Move
     v = record { old = 0; new = 0 }
@@ -261,8 +261,8 @@ use_named sh q st m l h g = sym (sym (left (holds q m l)) ∙ ap length (lookup_
     left false = refl
 
     right : (o : Option ℕ) → length (or_none (λ st. v ∷ []) o) ≡ one_if (is_named o)
-    right none = refl
-    right (some x) = refl
+    right None = refl
+    right (Some x) = refl
 
 -- one slot of many
 slot_in : {H : Type 0} (h : H) (l : List (Slot H)) (i : ℕ) → slot_states (get_or l i (empty_slot h)) ≤ owned_states l
@@ -277,13 +277,13 @@ Within a b o = (entries o.log ≤ a) × (entries o.log ≤ b)
 single_few : (t : Tracker Held) (i : ℕ) (sh : Extent) (sel : Selector) (st : ℕ) → Word st → WellTracker t
     → Within (count_states sh (holds sel)) (owned_states t.set.slots) (set_single ranged t i sh sel st)
 single_few t i sh sel st word w =
-    unless_by (Within (count_states sh (holds sel)) (owned_states t.set.slots)) (single_refusal (head_of t.set) i sh (some sel) st)
+    unless_by (Within (count_states sh (holds sel)) (owned_states t.set.slots)) (single_refusal (head_of t.set) i sh (Some sel) st)
     (λ r. (omega arith, omega arith)) λ e.
-    let q = selector_within sh sel (single_passed (head_of t.set) i sh (some sel) st e).selector in let a = from_use sh (some sel) st in
-    let b = named_use sh (some sel) st in let slot =
+    let q = selector_within sh sel (single_passed (head_of t.set) i sh (Some sel) st e).selector in let a = from_use sh (Some sel) st in
+    let b = named_use sh (Some sel) st in let slot =
     slot_at (no_ends ranged) t.set i in
-    let r = trackers_well.used (head_of t.set) i sh (some sel) st w.flags word e in
-    let x = slot_fits_lem FitEW t.set (no_ends ranged) i w in let y = single_at t.set (no_ends ranged) i sh (some sel) st e in
+    let r = trackers_well.used (head_of t.set) i sh (Some sel) st w.flags word e in
+    let x = slot_fits_lem FitEW t.set (no_ends ranged) i w in let y = single_at t.set (no_ends ranged) i sh (Some sel) st e in
     let few = slot_few t.set.numbers t.set.flags t.mask sh a b a b i slot r x y in
     let same = state_eq sh (λ m l. one_if (named_at b m l)) (λ m l. one_if (holds sel m l))
     (λ m l. use_named sh sel st m l q.span q.in_mips) in (
@@ -415,12 +415,12 @@ sparse_few t s is w y =
 with_two : {Y : Type 0} (P : Y → Type 0) (a : Option Y → ℕ) (k : Sets ranged) (n m : ℕ) (l : List Y) (f : Tracker Held → Y
     → CallResult InvalidUse (List Entry) (Sets ranged))
     → All WellTracker k.trackers → All P l
-    → ((t : Tracker Held) (y : Y) → WellTracker t → P y → Within (a (some y)) (owned_states t.set.slots) (f t y))
-    → Within (a (get_elem? l m)) (of_tracker (get_elem? k.trackers n)) (with₂ ranged k (get_elem? k.trackers n) (get_elem? l m) f)
+    → ((t : Tracker Held) (y : Y) → WellTracker t → P y → Within (a (Some y)) (owned_states t.set.slots) (f t y))
+    → Within (a (slice_get l m)) (of_tracker (slice_get k.trackers n)) (with₂ ranged k (slice_get k.trackers n) (slice_get l m) f)
 with_two P a k n m l f t u h =
-    elem_of WellTracker k.trackers n (λ o. Within (a (get_elem? l m)) (of_tracker o) (with₂ ranged k o (get_elem? l m) f)) t
+    elem_of WellTracker k.trackers n (λ o. Within (a (slice_get l m)) (of_tracker o) (with₂ ranged k o (slice_get l m) f)) t
     (omega arith, omega arith)
-    (λ x q. elem_of P l m (λ o. Within (a o) (owned_states x.set.slots) (with₂ ranged k (some x) o f)) u
+    (λ x q. elem_of P l m (λ o. Within (a o) (owned_states x.set.slots) (with₂ ranged k (Some x) o f)) u
     (omega arith, omega arith) (λ y r. h x y q r))
 
 pub few_entries : (c : Call) (k : Sets ranged) → GivenWord c → SetsFit k
@@ -436,8 +436,8 @@ few_entries (call_merge_usage_scope n m) k word well =
     let g = (well_good k well).0 in let f : Set Held → Set Held → CallResult InvalidUse (List Entry) (Sets ranged) =
     λ s x. into ranged (merge_usage_scope ranged s x) (λ x. with_scopes ranged k (set k.scopes n x)) in
     by_test (Within 0 0) (eqb n m) (λ e. (omega arith, omega arith))
-    (λ e. elem_of WellScope k.scopes n (λ o. Within 0 0 (with₂ ranged k o (get_elem? k.scopes m) f)) g (omega arith, omega arith)
-    (λ s q. elem_of WellScope k.scopes m (λ o. Within 0 0 (with₂ ranged k (some s) o f)) g (omega arith, omega arith)
+    (λ e. elem_of WellScope k.scopes n (λ o. Within 0 0 (with₂ ranged k o (slice_get k.scopes m) f)) g (omega arith, omega arith)
+    (λ s q. elem_of WellScope k.scopes m (λ o. Within 0 0 (with₂ ranged k (Some s) o f)) g (omega arith, omega arith)
     (λ x r. unless_by (Within 0 0) (set_refusal (head_of s) (head_of x)) (λ r. (omega arith, omega arith))
     (λ e. (omega arith, omega arith)))))
 few_entries (call_set_single n i sh sel st) k word well =
@@ -451,7 +451,7 @@ few_entries (call_set_from_usage_scope n m) k word well =
     (λ t s q r. from_few grid_of FitW from_held from_held named_all named_all trackers_well.passed_on t s q r)
 few_entries (call_set_from_tracker n m) k word well =
     let g = well_good k well in
-    by_test (Within (of_tracker (get_elem? k.trackers m)) (of_tracker (get_elem? k.trackers n))) (eqb n m)
+    by_test (Within (of_tracker (slice_get k.trackers m)) (of_tracker (slice_get k.trackers n))) (eqb n m)
     (λ e. (omega arith, omega arith))
     (λ e. with_two WellTracker of_tracker k n m k.trackers _ g.1 g.1
     (λ t s q r. from_few grid_ends FitEW (λ (e : Ends Held). from_held e.start) (λ (e : Ends Held). from_held e.end)
@@ -500,7 +500,7 @@ tracker_most t f = rw (mul_assoc, ← f.room) (slots_bound EndsFit t.set.numbers
 pub owned_most : (c : Call) (k : Sets ranged) → well_formed k ≡ true → owned_of c k ≤ capacity_of c k
 owned_most c k e = go c
   where
-    at : (n : ℕ) → of_tracker (get_elem? k.trackers n) ≤ tracker_capacity (get_elem? k.trackers n)
+    at : (n : ℕ) → of_tracker (slice_get k.trackers n) ≤ tracker_capacity (slice_get k.trackers n)
     at n = elem_of (λ (t : Tracker Held). SetFits EndsFit t.set) k.trackers n (λ o. of_tracker o ≤ tracker_capacity o)
         (sets_to k e).trackers (omega arith) tracker_most
 

@@ -1,11 +1,11 @@
 -- An opening that is not refused has numbers and flags that fit.
 use Rattle.std.specs.Prelude.{◌≡◌, if◌then◌else◌}
-use Rattle.model.specs.Prelude.{refl, Bool, true, false, not, false≢true, Option, some}
+use Rattle.model.specs.Prelude.{refl, Bool, true, false, not, false≢true, Option, Some}
 use Rattle.model.specs.{declared.Refusal.Refusal, declared.Refusal.TheVariants.{NumbersOutOfLimits, FlagsBreakRule}}
 use Rattle.model.specs.{Flags.flags_fit, Sets.{Opening, numbers_fit}, Refusals.{first_failing, opening_refusal, accepted, opens}}
 
 first_two : (a b : Bool) (more : Option Refusal)
-    → accepted (if not a then some NumbersOutOfLimits else if not b then some FlagsBreakRule else more) ≡ true → (a ≡ true) × (b ≡ true)
+    → accepted (if not a then Some NumbersOutOfLimits else if not b then Some FlagsBreakRule else more) ≡ true → (a ≡ true) × (b ≡ true)
 first_two true true more e = (refl, refl)
 first_two true false more e = absurd (false≢true e)
 first_two false b more e = absurd (false≢true e)

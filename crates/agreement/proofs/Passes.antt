@@ -1,8 +1,8 @@
 -- Passes over a texture's mips, one for each piece that is handed in, are one walk over its subresources: for any S that holds a mip, seen
 -- as a list by `view`, with Ok for what holds of it.
 use Rattle.std.specs.Prelude.{◌-◌, ◌+◌, ◌≤◌, ◌<◌, ◌≡◌, ◌&&◌, ◌∷◌, ◌++◌, if◌then◌else◌}
-use Rattle.model.specs.Prelude.{ℕ, zero, suc, arith, refl, sym, ap, ◌∙◌, Bool, true, false, Option, none}
-use Rattle.model.specs.Prelude.{some, Option_map, List, [], map, append_assoc, append-nil, map-append, leb, ltb, replicate}
+use Rattle.model.specs.Prelude.{ℕ, zero, suc, arith, refl, sym, ap, ◌∙◌, Bool, true, false, Option, None}
+use Rattle.model.specs.Prelude.{Some, option_map, List, [], map, append_assoc, append-nil, map-append, leb, ltb, replicate}
 use Rattle.model.specs.Prelude.{length, length-replicate, length-append, take, drop, take-append-drop, length-take, le-leb, lt-ltb, le-ltb}
 use Rattle.model.specs.Prelude.{leb-true}
 use Rattle.model.specs.declared.{Extent.Extent, Range.Range}
@@ -19,7 +19,7 @@ piece_at k r = record { selector = select k (suc k) r.start r.end; state = r.sta
 pub own_mip : (k a e : ℕ) → in_mips (select k (suc k) a e) k ≡ true
 own_mip k a e = rw (le-leb k k (omega arith), lt-ltb k (suc k) (omega arith))
 
-map_band : (n st : ℕ) (s : List ℕ) → map {A = ℕ} {B = Option ℕ} some (replicate n st ++ s) ≡ replicate n (some st) ++ map some s
+map_band : (n st : ℕ) (s : List ℕ) → map {A = ℕ} {B = Option ℕ} Some (replicate n st ++ s) ≡ replicate n (Some st) ++ map Some s
 map_band zero st s = refl
 map_band (suc n) st s = rw (map_band n st s)
 
@@ -41,34 +41,34 @@ passes_append {C} {Q} {S} f (q ∷ x) y s = rw (passes_append f x y (f q s).valu
     go : (o : Option C) → and_then o (f q s).value (and_then P.conflict P.value (passes f y P.value))
         ≡ and_then (and_then o (f q s).value P).conflict (and_then o (f q s).value P).value (passes f y
         (and_then o (f q s).value P).value)
-    go none = refl
-    go (some c) = refl
+    go None = refl
+    go (Some c) = refl
 
 onward_same : {C A : Type 0} (x : A) (o : Option C) (s : List A) → onward x o s (fine s) ≡ record { value = x ∷ s; conflict = o }
-onward_same x none s = refl
-onward_same x (some c) s = refl
+onward_same x None s = refl
+onward_same x (Some c) s = refl
 
 module _ {S C K D : Type 0} (view : S → List C) (Ok : S → Type 0) (cl : K → D) where
   after_piece : (x y z : List C) (s : S) (o : Option K) (o' : Option D) (more : Stop K S) (v : Stop D (List C))
-      → Ok s → view s ≡ x ++ (y ++ z) → Option_map cl o ≡ o'
+      → Ok s → view s ≡ x ++ (y ++ z) → option_map cl o ≡ o'
       → RunsOf view Ok cl more (record { value = (x ++ y) ++ v.value; conflict = v.conflict })
       → RunsOf view Ok cl (and_then o s more) (record { value = x ++ (join_stop y o' z v).value; conflict = (join_stop y o' z v).conflict })
-  after_piece x y z s none o' more v t e q ih = rw (← q) (rw append_assoc at ih)
-  after_piece x y z s (some c) o' more v t e q ih = rw (← q) record { ok = t; same = e; conflict = refl }
+  after_piece x y z s None o' more v t e q ih = rw (← q) (rw append_assoc at ih)
+  after_piece x y z s (Some c) o' more v t e q ih = rw (← q) record { ok = t; same = e; conflict = refl }
 
   after_row : (d : List S) (x : S) (l : List S) (y : List C) (o : Option K) (o' : Option D)
       (more : Stop K (List S)) (v : Stop D (List (List C)))
-      → All Ok (d ++ (x ∷ l)) → view x ≡ y → Option_map cl o ≡ o' → GridsOf view Ok cl (map view (d ++ (x ∷ []))) more v
+      → All Ok (d ++ (x ∷ l)) → view x ≡ y → option_map cl o ≡ o' → GridsOf view Ok cl (map view (d ++ (x ∷ []))) more v
       → GridsOf view Ok cl (map view d) (and_then o (d ++ (x ∷ l)) more) (onward y o' (map view l) v)
-  after_row d x l y none o' more v t e q ih =
+  after_row d x l y None o' more v t e q ih =
       rw (← q) record { tiled = ih.tiled; same = ih.same ∙ rw (map-append view d, append_assoc, e); conflict = ih.conflict }
-  after_row d x l y (some c) o' more v t e q ih = rw (← q) record { tiled = t; same = rw (map-append view d, e); conflict = refl }
+  after_row d x l y (Some c) o' more v t e q ih = rw (← q) record { tiled = t; same = rw (map-append view d, e); conflict = refl }
 
 -- Passes over mips, one for each piece: what a pass does with the layers that it names, by the subresources' rule f.
 -- Q holds of the subresources that no pass has met yet.
 module _ {S C K D : Type 0} (view : S → List C) (Ok : S → Type 0) (cl : K → D) (sh : Extent) (full_length : (s : S) → Ok s
     → length (view s) ≡ sh.layers)
-    (U : ℕ → ℕ → C → Option ℕ → Stop D C) (blank : (k l : ℕ) (c : C) → U k l c none ≡ fine c) (Q : C → Type 0)
+    (U : ℕ → ℕ → C → Option ℕ → Stop D C) (blank : (k l : ℕ) (c : C) → U k l c None ≡ fine c) (Q : C → Type 0)
     (pass : Piece → ℕ → S → Stop K S) where
   pub record Pass : Type 0 where
     pub skips : (q : Piece) (k : ℕ) (s : S) → in_mips q.selector k ≡ false → pass q k s ≡ fine s
@@ -77,7 +77,7 @@ module _ {S C K D : Type 0} (view : S → List C) (Ok : S → Type 0) (cl : K �
         → length x ≡ q.selector.layers.start.0 → length y ≡ q.selector.layers.end.0 - q.selector.layers.start.0
         → view s ≡ x ++ (y ++ z) → All Q y
         → (let v = walk₂ (U k) q.selector.layers.start.0 y
-        (replicate (q.selector.layers.end.0 - q.selector.layers.start.0) (some q.state)) in
+        (replicate (q.selector.layers.end.0 - q.selector.layers.start.0) (Some q.state)) in
         RunsOf view Ok cl (pass q k s) (record { value = x ++ (v.value ++ z); conflict = v.conflict }))
 
   module _ (R : Pass) where
@@ -88,8 +88,8 @@ module _ {S C K D : Type 0} (view : S → List C) (Ok : S → Type 0) (cl : K �
       row_passes_lem : (t : List Range) (s : S) (a : ℕ) (x y : List C) → Tiles a t sh.layers → Ok s
           → length x ≡ a → view s ≡ x ++ y → All Q y
           → RunsOf view Ok cl (row_passes t s) (record {
-            value = x ++ (walk₂ (U k) a y (map some (layer_states t))).value;
-            conflict = (walk₂ (U k) a y (map some (layer_states t))).conflict;
+            value = x ++ (walk₂ (U k) a y (map Some (layer_states t))).value;
+            conflict = (walk₂ (U k) a y (map Some (layer_states t))).conflict;
           })
       unfolding layer_states
       row_passes_lem [] s a x y t u hx e o = rw walk_none record { ok = u; same = e; conflict = refl }
@@ -103,24 +103,24 @@ module _ {S C K D : Type 0} (view : S → List C) (Ok : S → Type 0) (cl : K �
           go : (y z : List C) → view s ≡ x ++ (y ++ z) → length y ≡ r.end - r.start → All Q (y ++ z)
               → ((s : S) (x y : List C) → Ok s → length x ≡ r.end → view s ≡ x ++ y → All Q y
               → RunsOf view Ok cl (row_passes t s) (record {
-                value = x ++ (walk₂ (U k) r.end y (map some (layer_states t))).value;
-                conflict = (walk₂ (U k) r.end y (map some (layer_states t))).conflict;
+                value = x ++ (walk₂ (U k) r.end y (map Some (layer_states t))).value;
+                conflict = (walk₂ (U k) r.end y (map Some (layer_states t))).conflict;
               }))
               → RunsOf view Ok cl (row_passes (r ∷ t) s)
               (record {
-                value = x ++ (walk₂ (U k) a (y ++ z) (map some (layer_states (r ∷ t)))).value;
-                conflict = (walk₂ (U k) a (y ++ z) (map some (layer_states (r ∷ t)))).conflict;
+                value = x ++ (walk₂ (U k) a (y ++ z) (map Some (layer_states (r ∷ t)))).value;
+                conflict = (walk₂ (U k) a (y ++ z) (map Some (layer_states (r ∷ t)))).conflict;
               })
           go y z e hy o ih =
               let n = r.end - r.start in let w = pass (piece_at k r) k s in
               let m = R.names (piece_at k r) k s x y z (own_mip k r.start r.end) (omega arith)
               (tiles_le t r.end sh.layers g.2) u (omega arith) hy e (all_left Q y z o) in
-              let l : length y ≡ length (replicate {A = Option ℕ} n (some r.state)) = rw length-replicate hy in
-              let long = walk_length (U k) r.start y (replicate n (some r.state)) in
+              let l : length y ≡ length (replicate {A = Option ℕ} n (Some r.state)) = rw length-replicate hy in
+              let long = walk_length (U k) r.start y (replicate n (Some r.state)) in
               let at_end : r.start + length y ≡ r.end = omega arith in
               rw (← g.0, map_band, walk_append (U k) r.start y z, at_end)
               (after_piece view Ok cl x _ z w.value w.conflict _ _ _ m.ok m.same m.conflict
-              (ih w.value (x ++ (walk₂ (U k) r.start y (replicate n (some r.state))).value) z m.ok
+              (ih w.value (x ++ (walk₂ (U k) r.start y (replicate n (Some r.state))).value) z m.ok
               (rw (length-append, long) (omega arith)) (rw append_assoc m.same) (all_right Q y z o)))
 
       -- a piece of mip k goes past every other mip
@@ -154,13 +154,13 @@ module _ {S C K D : Type 0} (view : S → List C) (Ok : S → Type 0) (cl : K �
           go : (o : Option K) (x : S) (y : Stop K S)
               → and_then o (d ++ (x ∷ l)) (record { value = d ++ (y.value ∷ l); conflict = y.conflict })
               ≡ record { value = d ++ ((and_then o x y).value ∷ l); conflict = (and_then o x y).conflict }
-          go none x y = refl
-          go (some c) x y = refl
+          go None x y = refl
+          go (Some c) x y = refl
 
     grid_passes_lem : (k : ℕ) (d l : List S) (t : List (List Range)) → length d ≡ k → length l ≡ length t → All Ok d → All Ok l → Tiled sh t
         → All (λ (s : S). All Q (view s)) l
         → GridsOf view Ok cl (map view d) (grid_passes k (each_at (λ j. map (piece_at j)) k t) (d ++ l))
-        (walk₂ (λ m. walk₂ (U m) 0) k (map view l) (map (map some) (map layer_states t)))
+        (walk₂ (λ m. walk₂ (U m) 0) k (map view l) (map (map Some) (map layer_states t)))
     grid_passes_lem k d [] [] hd hl td tl tg o = rw append-nil record { tiled = td; same = rw append-nil; conflict = refl }
     grid_passes_lem k d [] (r ∷ t) hd hl td tl tg o = absurd (omega arith)
     grid_passes_lem k d (s ∷ l) [] hd hl td tl tg o = absurd (omega arith)
@@ -176,7 +176,7 @@ module _ {S C K D : Type 0} (view : S → List C) (Ok : S → Type 0) (cl : K �
     -- a Many texture handed in: its pieces, and all of its subresources
     pub set_passes : (l : List S) (t : List (List Range)) → length l ≡ length t → All Ok l → Tiled sh t → All (λ (s : S). All Q (view s)) l
         → GridsOf view Ok cl [] (passes (λ (q : Piece). walk (pass q) 0) (pieces_of t) l) (walk₂ (λ m. walk₂ (U m) 0) 0 (map view l)
-        (map (map some) (map layer_states t)))
+        (map (map Some) (map layer_states t)))
     set_passes l t hl tl tg o = grid_passes_lem 0 [] l t refl hl tt tl tg o
 
     -- a selector handed in: one piece
@@ -198,8 +198,8 @@ module _ {S C K D : Type 0} (view : S → List C) (Ok : S → Type 0) (cl : K �
           where
             go : (b : Bool) → in_mips q.selector k ≡ b → Ok (pass q k s).value
                 × Sim view cl (pass q k s) (walk₂ (U k) 0 (view s)
-                (if b then band q.selector.layers.start.0 q.selector.layers.end.0 sh.layers (some q.state) none
-                else replicate sh.layers none))
+                (if b then band q.selector.layers.start.0 q.selector.layers.end.0 sh.layers (Some q.state) None
+                else replicate sh.layers None))
             go true b =
                 let a = q.selector.layers.start.0 in let e = q.selector.layers.end.0 in
                 let d = thirds (view s) a e (omega arith) (omega (arith, full_length s t.0)) in

@@ -1,6 +1,6 @@
 -- Passes over the mips of ranged states: the general laws (Passes) where a mip is seen by its states and its ranges tile all layers.
 use Rattle.std.specs.Prelude.{◌≤◌, ◌<◌, ◌≡◌, ◌∷◌}
-use Rattle.model.specs.Prelude.{ℕ, arith, refl, Option, some, List, [], map, length}
+use Rattle.model.specs.Prelude.{ℕ, arith, refl, Option, Some, List, [], map, length}
 use Rattle.model.specs.{declared.{Extent.Extent, InvalidUse.InvalidUse, Range.Range}, Base.{Stop, passes, walk, All}}
 use Rattle.model.specs.{RangedStates.{layer_states, Tiles}, Texture.{Piece, pieces_of}, RangeLaws.tiles_length}
 use Rattle.agreement.specs.{Grid.{SubresourceConflict, unite_state, unite_states, tab, named_row}, Shared.first_of}
@@ -26,7 +26,7 @@ module _ (sh : Extent) (f : ℕ → ℕ → Option ℕ) (Q : ℕ → Type 0) (pa
   pub set_passes : (l t : List (List Range)) → length l ≡ length t → Tiled sh l → Tiled sh t
       → All (λ (s : List Range). All Q (layer_states s)) l
       → GridsAll sh [] (passes (λ (q : Piece). walk (pass q) 0) (pieces_of t) l) (unite_states f (map layer_states l)
-      (map (map some) (map layer_states t)))
+      (map (map Some) (map layer_states t)))
   set_passes = Passes.set_passes layer_states (Tiling sh) first_of sh (tiling_length sh) (λ k. unite_state f k) (λ k l c. refl) Q pass R
 
   -- a selector handed in: one piece

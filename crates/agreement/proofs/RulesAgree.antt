@@ -1,6 +1,6 @@
 -- The grid's rules are the ranged model's. Below here the proofs go by the ranged model's rules, on both sides.
 use Rattle.std.specs.Prelude.{◌≡◌, ◌&&◌, ◌||◌, if◌then◌else◌}
-use Rattle.model.specs.Prelude.{ℕ, arith, refl, ap, ◌∙◌, fun_ext, Bool, true, false, not, Option, none, some, List, eqb}
+use Rattle.model.specs.Prelude.{ℕ, arith, refl, ap, ◌∙◌, fun_ext, Bool, true, false, not, Option, None, Some, List, eqb}
 use Rattle.model.specs.Prelude.{bit_and, bit_or, and_comm, and_le_l, xor_add_and, eqb-true}
 use Rattle.model.specs.{declared.{Extent.Extent, UsageFlags.UsageFlags}, Base.{Stop, or_keep, zip₂, zip₃}, Flags.incompatible}
 use Rattle.model.specs.{Representation.Ends, StateRules.{Move, invalid_state, skip_barrier, less, unite, unite_known, move_of, end_after}}
@@ -20,14 +20,14 @@ unfolding single_union unite
 single_state p = refl
 
 by_zero : (p : UsageFlags) (old u : ℕ)
-    → (if incompatible p u then none else if eqb u 0 then some old else some u)
-    ≡ (if eqb u 0 then some old else if invalid_state p u then none else some u)
+    → (if incompatible p u then None else if eqb u 0 then Some old else Some u)
+    ≡ (if eqb u 0 then Some old else if invalid_state p u then None else Some u)
 unfolding incompatible invalid_state
 by_zero p old u = go (eqb u 0) refl
   where
     go : (b : Bool) → eqb u 0 ≡ b
-        → (if incompatible p u then none else if b then some old else some u)
-        ≡ (if b then some old else if invalid_state p u then none else some u)
+        → (if incompatible p u then None else if b then Some old else Some u)
+        ≡ (if b then Some old else if invalid_state p u then None else Some u)
     go true e = rw (eqb-true u 0 e)
     go false e = refl
 
@@ -41,10 +41,10 @@ unfolding transition move_of skipped skip_barrier
 same_move p mask old new = rw (and_comm old mask) (go (eqb old p.unknown) (eqb new p.unknown))
   where
     m : Option Move
-    m = some (record { old = old; new = new })
+    m = Some (record { old = old; new = new })
 
-    go : (a b : Bool) → (if a then none else if b then none else if eqb old new && eqb (bit_and mask old) old then none else m)
-        ≡ (if a || b || (eqb old new && eqb (bit_and mask old) old) then none else m)
+    go : (a b : Bool) → (if a then None else if b then None else if eqb old new && eqb (bit_and mask old) old then None else m)
+        ≡ (if a || b || (eqb old new && eqb (bit_and mask old) old) then None else m)
     go true b = refl
     go false true = refl
     go false false = refl
@@ -81,20 +81,20 @@ rule_merge p sh s g =
     record { value = record { single = false; states = w.value }; conflict = w.conflict })
 
 abbrev pub rule_move : UsageFlags → ℕ → ℕ → Option ℕ → Option Move
-rule_move p mask c none = none
-rule_move p mask c (some new) = move_of p.unknown mask c new
+rule_move p mask c None = None
+rule_move p mask c (Some new) = move_of p.unknown mask c new
 
 unfoldable pub rule_log : UsageFlags → ℕ → Extent → Grid → Named → List (List (Option Move))
 unfolding move_of
 rule_log p mask sh s g = zip₂ (zip₂ (rule_move p mask)) s.states g.states
 
 abbrev pub rule_end : UsageFlags → ℕ → Option ℕ → ℕ
-rule_end p c none = c
-rule_end p c (some new) = end_after p.unknown c new
+rule_end p c None = c
+rule_end p c (Some new) = end_after p.unknown c new
 
 abbrev pub rule_start : UsageFlags → ℕ → ℕ → Option ℕ → ℕ
-rule_start p start c none = start
-rule_start p start c (some new) = start_after p.unknown start c new
+rule_start p start c None = start
+rule_start p start c (Some new) = start_after p.unknown start c new
 
 abbrev rule_update : UsageFlags → Extent → Ends Grid → Named → Ends Grid
 rule_update p sh e g = record {
@@ -110,8 +110,8 @@ move_rule : (p : UsageFlags) (mask : ℕ) → named_transition p mask ≡ rule_m
 move_rule p mask = fun_ext λ c. fun_ext (go c)
   where
     go : (c : ℕ) (o : Option ℕ) → named_transition p mask c o ≡ rule_move p mask c o
-    go c none = refl
-    go c (some new) = same_move p mask c new
+    go c None = refl
+    go c (Some new) = same_move p mask c new
 
 pub log_rule : (p : UsageFlags) (mask : ℕ) (sh : Extent) (s : Grid) (g : Named) → grid_barrier p mask sh s g ≡ rule_log p mask sh s g
 unfolding grid_barrier rule_log
@@ -121,15 +121,15 @@ end_rule : (p : UsageFlags) → named_end p ≡ rule_end p
 end_rule p = fun_ext λ c. fun_ext (go c)
   where
     go : (c : ℕ) (o : Option ℕ) → named_end p c o ≡ rule_end p c o
-    go c none = refl
-    go c (some new) = same_end p c new
+    go c None = refl
+    go c (Some new) = same_end p c new
 
 start_rule : (p : UsageFlags) → named_start p ≡ rule_start p
 start_rule p = fun_ext λ s. fun_ext λ c. fun_ext (go s c)
   where
     go : (s c : ℕ) (o : Option ℕ) → named_start p s c o ≡ rule_start p s c o
-    go s c none = refl
-    go s c (some new) = same_start p s c new
+    go s c None = refl
+    go s c (Some new) = same_start p s c new
 
 pub update_rule : (p : UsageFlags) (sh : Extent) (e : Ends Grid) (g : Named) → grid_update p sh e g ≡ rule_update p sh e g
 update_rule p sh e g = λ i. record {

@@ -1,6 +1,6 @@
 -- A set slot by slot: what the checks tell of an index, what holds of every slot, and the set seen through a view of what its slots hold.
-use Rattle.model.specs.Prelude.{ℕ, suc, zero-add, add-suc, suc-add, add-zero, refl, sym, ap, ◌∙◌, true, false, false≢true, Option, none}
-use Rattle.model.specs.Prelude.{some, List, [], map, length, length-set, length-replicate, replicate, get_or, set, List_get_D_map}
+use Rattle.model.specs.Prelude.{ℕ, suc, zero-add, add-suc, suc-add, add-zero, refl, sym, ap, ◌∙◌, true, false, false≢true, Option, None}
+use Rattle.model.specs.Prelude.{Some, List, [], map, length, length-set, length-replicate, replicate, get_or, set, List_get_D_map}
 use Rattle.model.specs.Prelude.{not-false}
 use Rattle.model.specs.{declared.{Extent.Extent, Refusal.Refusal, Selector.Selector, UsageFlags.UsageFlags}, Base.{each_at, All}}
 use Rattle.model.specs.Representation.{Ends}
@@ -15,16 +15,16 @@ use Rattle.agreement.proofs.OpeningLaws.{opened_numbers, opened_fits}
 
 -- ---- a call and its refusal
 pub unless_by : {C L X : Type 0} (P : CallResult C L X → Type 0) (o : Option Refusal) {was : X} {out : CallResult C L X}
-    → ((r : Refusal) → P (turned_away r was)) → (o ≡ none → P out) → P (unless o was out)
-unless_by P none a b = b refl
-unless_by P (some r) a b = a r
+    → ((r : Refusal) → P (turned_away r was)) → (o ≡ None → P out) → P (unless o was out)
+unless_by P None a b = b refl
+unless_by P (Some r) a b = a r
 
 -- two calls that are refused alike
 pub unless_by₂ : {C L X C' L' X' : Type 0} (P : CallResult C L X → CallResult C' L' X' → Type 0) (o : Option Refusal) {was : X}
     {out : CallResult C L X} {was' : X'} {out' : CallResult C' L' X'}
-    → ((r : Refusal) → P (turned_away r was) (turned_away r was')) → (o ≡ none → P out out') → P (unless o was out) (unless o was' out')
-unless_by₂ P none a b = b refl
-unless_by₂ P (some r) a b = a r
+    → ((r : Refusal) → P (turned_away r was) (turned_away r was')) → (o ≡ None → P out out') → P (unless o was out) (unless o was' out')
+unless_by₂ P None a b = b refl
+unless_by₂ P (Some r) a b = a r
 
 -- ---- seen through a view of what a slot holds
 module _ {H J : Type 0} (v : Extent → H → J) where
@@ -104,7 +104,7 @@ pub record At {H : Type 0} (n : Numbers) (s : Slot H) (sh : Extent) : Type 0 whe
   pub within : ExtentFits n sh
   pub own : s.owned ≡ true → s.extent ≡ sh
 
-pub texture_at : {H : Type 0} (h : Head) (i : ℕ) (s : Slot H) (sh : Extent) → get_or h.extents i none ≡ own_extent s
+pub texture_at : {H : Type 0} (h : Head) (i : ℕ) (s : Slot H) (sh : Extent) → get_or h.extents i None ≡ own_extent s
     → Passed (texture_checks h i sh) → At h.numbers s sh
 texture_at h i s sh d c =
     let o = neither (outside sh.mips h.numbers.mips) (outside sh.layers h.numbers.layers) c.1.0 in
@@ -112,13 +112,13 @@ texture_at h i s sh d c =
     record { within = record { mip = a.0; mips = a.1; layer = b.0; layers = b.1 }; own = own_extent_lem s sh (rw d at c.1.1.0) }
 
 pub single_at : {H : Type 0} (s : Set H) (h : H) (i : ℕ) (sh : Extent) (sel : Option Selector) (st : ℕ)
-    → single_refusal (head_of s) i sh sel st ≡ none → At s.numbers (slot_at h s i) sh
+    → single_refusal (head_of s) i sh sel st ≡ None → At s.numbers (slot_at h s i) sh
 single_at s h i sh sel st e =
     texture_at (head_of s) i (slot_at h s i) sh (List_get_D_map own_extent s.slots i (empty_slot h))
     (single_passed (head_of s) i sh sel st e).texture
 
 -- 6: two sets have the same flags
-pub flags_same : {H G : Type 0} (s : Set H) (g : Set G) → set_refusal (head_of s) (head_of g) ≡ none → s.flags ≡ g.flags
+pub flags_same : {H G : Type 0} (s : Set H) (g : Set G) → set_refusal (head_of s) (head_of g) ≡ None → s.flags ≡ g.flags
 flags_same s g e = same_flags_lem s.flags g.flags (not-false _ (passed _ e).0)
 
 -- 7 to 9 at every index that a given set owns: an induction along the slots of both
@@ -128,7 +128,7 @@ module _ {H G : Type 0} (h : Head) (P : Slot H → Type 0) (Q : Slot G → Type 
     (next : (k : ℕ) (s : Slot H) (l : List (Slot H)) (x : Slot G) (xs : List (Slot G)) → P s → All P l → Q x
     → (x.owned ≡ true → At h.numbers s x.extent) → F (suc k) l xs → F k (s ∷ l) (x ∷ xs)) where
   along : (k : ℕ) (l : List (Slot H)) (xs : List (Slot G)) → All P l → All Q xs
-      → ((j : ℕ) → get_or h.extents (k + j) none ≡ get_or (map own_extent l) j none)
+      → ((j : ℕ) → get_or h.extents (k + j) None ≡ get_or (map own_extent l) j None)
       → Passed (each_at (owned_checks h) k (map own_extent xs)) → F k l xs
   along k [] xs t u d c = past k xs c
   along k (s ∷ l) [] t u d c = rest k (s ∷ l) t
@@ -137,7 +137,7 @@ module _ {H G : Type 0} (h : Head) (P : Slot H → Type 0) (Q : Slot G → Type 
       (rw e at (all_left _ (owned_checks h k (own_extent x)) _ c)))
       (along (suc k) l xs t.1 u.1 (λ j. rw (suc-add, ← add-suc) (d (suc j))) (all_right _ (owned_checks h k (own_extent x)) _ c))
 
-pub each_owned_lem : {H G : Type 0} (s : Set H) (g : Set G) → set_refusal (head_of s) (head_of g) ≡ none
+pub each_owned_lem : {H G : Type 0} (s : Set H) (g : Set G) → set_refusal (head_of s) (head_of g) ≡ None
     → (P : Slot H → Type 0) (Q : Slot G → Type 0) (F : ℕ → List (Slot H) → List (Slot G) → Type 0)
     → ((k : ℕ) (xs : List (Slot G)) → Passed (each_at (owned_checks (head_of s)) k (map own_extent xs)) → F k [] xs)
     → ((k : ℕ) (l : List (Slot H)) → All P l → F k l [])

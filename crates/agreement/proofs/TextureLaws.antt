@@ -1,5 +1,5 @@
 -- One texture in a scope: the ranged model's insert and merge are the grid's.
-use Rattle.model.specs.Prelude.{ℕ, zero, suc, dec_lt, arith, refl, sym, ap, ◌∙◌, Bool, true, false, Option, none, some, Option_map, List}
+use Rattle.model.specs.Prelude.{ℕ, zero, suc, dec_lt, arith, refl, sym, ap, ◌∙◌, Bool, true, false, Option, None, Some, option_map, List}
 use Rattle.model.specs.Prelude.{[], map, append-nil, replicate, length, length-replicate, length-append, length-map, le-leb, lt-ltb, lt-leb}
 use Rattle.model.specs.declared.{Extent.Extent, InvalidUse.InvalidUse, Range.Range, Selector.Selector, UsageFlags.UsageFlags}
 use Rattle.model.specs.Base.{each_at, Stop, fine, stopped, ruled, or_keep, and_then, passes, onward, walk, walk₂, zip₂, All}
@@ -27,12 +27,12 @@ Fit sh (many ss) = Measured sh × (length ss ≡ sh.mips) × Tiled sh ss
 
 -- one use, as the ranged model and as the grid are given it
 pub data Gives (sh : Extent) : Given → Named → Type 0 where
-  gives_one : {st : ℕ} → Gives sh (given_single st) (record { single = true; states = everywhere sh (some st) })
+  gives_one : {st : ℕ} → Gives sh (given_single st) (record { single = true; states = everywhere sh (Some st) })
   gives_place : {q : Piece} → q.selector.layers.start.0 < q.selector.layers.end.0 → q.selector.layers.end.0 ≤ sh.layers
       → q.selector.mips.start.0 < q.selector.mips.end.0 → q.selector.mips.end.0 ≤ sh.mips
       → Gives sh (given_many (q ∷ [])) (record { single = false; states = tab (named_row sh q.selector q.state) 0 sh.mips })
   gives_set : (ss : List (List Range)) → length ss ≡ sh.mips → Tiled sh ss
-      → Gives sh (given_many (pieces_of ss)) (record { single = false; states = map (map some) (map layer_states ss) })
+      → Gives sh (given_many (pieces_of ss)) (record { single = false; states = map (map Some) (map layer_states ss) })
 
 pub record Manys (sh : Extent) (f : ℕ → ℕ → Option ℕ) (pass : Piece → ℕ → List Range → Stop InvalidUse (List Range))
     (ss : List (List Range)) (qs : List Piece) (n : Named) : Type 0 where
@@ -100,7 +100,7 @@ tab_same x k (suc n) = rw (tab_same x (suc k) n)
 every_range_list : (p : UsageFlags) (sh : Extent) (new k : ℕ) (s : List Range) → Tiles 0 s sh.layers
     → Tiles 0 (merge_every p new k s).value sh.layers
     × Sim layer_states first_of (merge_every p new k s) (walk₂ (unite_state (unite_known p) k) 0 (layer_states s)
-    (replicate sh.layers (some new)))
+    (replicate sh.layers (Some new)))
 unfolding merge_every
 every_range_list p sh new k s t =
     let r = run_sim p k new s 0 sh.layers 0 t in
@@ -109,51 +109,51 @@ every_range_list p sh new k s t =
     (q.0, (q.1 ∙ (rw z at r.same), rw z at r.conflict))
 
 many_one : (p : UsageFlags) (sh : Extent) (ss : List (List Range)) (new : ℕ) → Measured sh → length ss ≡ sh.mips → Tiled sh ss
-    → Merges p sh (many ss) (given_single new) (record { single = true; states = everywhere sh (some new) })
+    → Merges p sh (many ss) (given_single new) (record { single = true; states = everywhere sh (Some new) })
 unfolding merge rule_merge grid_of
 many_one p sh ss new e h t =
     let r = lockstep layer_states first_of (λ (s : List Range). Tiles 0 s sh.layers)
     (λ (s : List Range). Tiles 0 s sh.layers) (λ s t. t) (merge_every p new)
-    (λ m. walk₂ (unite_state (unite_known p) m) 0) (λ j. replicate sh.layers (some new)) (every_range_list p sh new) 0 ss t in
-    let q = rw (h, tab_same (replicate sh.layers (some new)) 0 sh.mips) at r.1 in
-    let g : GridsAll sh [] (walk (merge_every p new) 0 ss) (unite_states (unite_known p) (map layer_states ss) (everywhere sh (some new))) =
+    (λ m. walk₂ (unite_state (unite_known p) m) 0) (λ j. replicate sh.layers (Some new)) (every_range_list p sh new) 0 ss t in
+    let q = rw (h, tab_same (replicate sh.layers (Some new)) 0 sh.mips) at r.1 in
+    let g : GridsAll sh [] (walk (merge_every p new) 0 ss) (unite_states (unite_known p) (map layer_states ss) (everywhere sh (Some new))) =
     record { tiled = r.0; same = q.0; conflict = q.1 } in (
-      (e, grids_length sh (unite_known p) (walk (merge_every p new) 0 ss) ss (everywhere sh (some new)) g ∙ h, r.0),
+      (e, grids_length sh (unite_known p) (walk (merge_every p new) 0 ss) ss (everywhere sh (Some new)) g ∙ h, r.0),
       (ap (λ (x : List (List ℕ)). record { single = false; states = x }) q.0, q.1),
     )
 
 -- ---- subresources of one state that are given one state
 module _ (f : ℕ → ℕ → Option ℕ) (cur new : ℕ) where
-  grid_united : (w u : ℕ) → f cur new ≡ some u → (k n : ℕ)
-      → walk₂ (λ m. walk₂ (unite_state f m) 0) k (replicate n (replicate w cur)) (replicate n (replicate w (some new)))
+  grid_united : (w u : ℕ) → f cur new ≡ Some u → (k n : ℕ)
+      → walk₂ (λ m. walk₂ (unite_state f m) 0) k (replicate n (replicate w cur)) (replicate n (replicate w (Some new)))
       ≡ fine (replicate n (replicate w u))
   grid_united w u e k zero = refl
   grid_united w u e k (suc n) = rw (row_united f k cur new u e 0 w, grid_united w u e (suc k) n)
 
-  grid_conflict : (w : ℕ) → f cur new ≡ none → (k n : ℕ) → 0 < n → 0 < w
-      → walk₂ (λ m. walk₂ (unite_state f m) 0) k (replicate n (replicate w cur)) (replicate n (replicate w (some new)))
+  grid_conflict : (w : ℕ) → f cur new ≡ None → (k n : ℕ) → 0 < n → 0 < w
+      → walk₂ (λ m. walk₂ (unite_state f m) 0) k (replicate n (replicate w cur)) (replicate n (replicate w (Some new)))
       ≡ stopped (replicate n (replicate w cur)) (record { mip = k; layer = 0; old = cur; new = new })
   grid_conflict w e k zero h g = absurd (omega arith)
   grid_conflict w e k (suc n) h g = rw (row_conflict f k cur new e 0 w g)
 
 single_one : (p : UsageFlags) (sh : Extent) (cur new : ℕ) → Measured sh
-    → Merges p sh (single cur) (given_single new) (record { single = true; states = everywhere sh (some new) })
+    → Merges p sh (single cur) (given_single new) (record { single = true; states = everywhere sh (Some new) })
 unfolding merge rule_merge grid_of
 single_one p sh cur new e = go (unite p cur new) refl
   where
     v : Stop SubresourceConflict (List (List ℕ))
-    v = unite_states (unite p) (everywhere sh cur) (everywhere sh (some new))
+    v = unite_states (unite p) (everywhere sh cur) (everywhere sh (Some new))
 
     go : (o : Option ℕ) → unite p cur new ≡ o
-        → (let w = ruled (single cur) (invalid_use (full sh) cur new) (Option_map single o) in
+        → (let w = ruled (single cur) (invalid_use (full sh) cur new) (option_map single o) in
         Fit sh w.value × Sim (grid_of sh) first_of w (or_keep v.conflict (record { single = true; states = everywhere sh cur })
         (record { single = true; states = v.value })))
-    go none q = rw (grid_conflict (unite p) cur new sh.layers q 0 sh.mips e.0 e.1) (e, (refl, refl))
-    go (some u) q = rw (grid_united (unite p) cur new sh.layers u q 0 sh.mips) (e, (refl, refl))
+    go None q = rw (grid_conflict (unite p) cur new sh.layers q 0 sh.mips e.0 e.1) (e, (refl, refl))
+    go (Some u) q = rw (grid_united (unite p) cur new sh.layers u q 0 sh.mips) (e, (refl, refl))
 
 -- ---- insert
 row_painted : (k l st : ℕ) (y : List ℕ) (n : ℕ) → length y ≡ n
-    → walk₂ (unite_state (λ c new. some new) k) l y (replicate n (some st)) ≡ fine (replicate n st)
+    → walk₂ (unite_state (λ c new. Some new) k) l y (replicate n (Some st)) ≡ fine (replicate n st)
 row_painted k l st [] zero h = refl
 row_painted k l st [] (suc n) h = absurd (omega arith)
 row_painted k l st (c ∷ y) zero h = absurd (omega arith)
@@ -163,7 +163,7 @@ abbrev insert_pass : ℕ → Piece → ℕ → List Range → Stop InvalidUse (L
 insert_pass u q k s = fine (if in_mips q.selector k then paint u q.selector.layers.start.0 q.selector.layers.end.0 q.state s
     else s)
 
-insert_pass_lem : (u : ℕ) (sh : Extent) → Pass sh (λ c new. some new) (λ c. Unit {0}) (insert_pass u)
+insert_pass_lem : (u : ℕ) (sh : Extent) → Pass sh (λ c new. Some new) (λ c. Unit {0}) (insert_pass u)
 insert_pass_lem u sh = record {
   skips = λ q k s e. rw e;
   names = λ q k s x y z b h g t hx hy e o.
@@ -208,23 +208,23 @@ fills_place sh q st k zero h g = tt
 fills_place sh q st k (suc n) h g = (
   by_test (λ (r : List (Option ℕ)). length r ≡ sh.layers) (in_mips q k)
       (λ b. simp (length-append, length-replicate) (omega arith))
-      (λ b. length-replicate sh.layers none),
+      (λ b. length-replicate sh.layers None),
   fills_place sh q st (suc k) n h g,
 )
 
 fills_set : (sh : Extent) (ss : List (List Range)) → Tiled sh ss
-    → All (λ (r : List (Option ℕ)). length r ≡ sh.layers) (map (map some) (map layer_states ss))
+    → All (λ (r : List (Option ℕ)). length r ≡ sh.layers) (map (map Some) (map layer_states ss))
 fills_set sh [] t = tt
-fills_set sh (s ∷ ss) t = (length-map (layer_states s) some ∙ tiles_length s 0 sh.layers t.0 ∙ omega arith, fills_set sh ss t.1)
+fills_set sh (s ∷ ss) t = (length-map (layer_states s) Some ∙ tiles_length s 0 sh.layers t.0 ∙ omega arith, fills_set sh ss t.1)
 
 pub fills : (sh : Extent) (qs : List Piece) (n : Named) → Gives sh (given_many qs) n → Fills sh n.states
 fills sh qs n (gives_place {q} a b c d) =
     (length_tab (named_row sh q.selector q.state) 0 sh.mips, fills_place sh q.selector q.state 0 sh.mips a b)
-fills sh qs n (gives_set g hg tg) = (length-map (map layer_states g) (map some) ∙ length-map g layer_states ∙ hg, fills_set sh g tg)
+fills sh qs n (gives_set g hg tg) = (length-map (map layer_states g) (map Some) ∙ length-map g layer_states ∙ hg, fills_set sh g tg)
 
-over_fine : (m l c : ℕ) (o : Option ℕ) → unite_state (λ c new. some new) m l c o ≡ fine (named_or c o)
-over_fine m l c none = refl
-over_fine m l c (some st) = refl
+over_fine : (m l c : ℕ) (o : Option ℕ) → unite_state (λ c new. Some new) m l c o ≡ fine (named_or c o)
+over_fine m l c None = refl
+over_fine m l c (Some st) = refl
 
 zip_replicate : {A B D : Type 0} (f : A → B → D) (x : A) (t : List B) (n : ℕ) → length t ≡ n → zip₂ f (replicate n x) t ≡ map (f x) t
 zip_replicate f x [] zero h = refl
@@ -238,21 +238,21 @@ zip_rows u w [] t = refl
 zip_rows u w (r ∷ n) t = rw (zip_replicate named_or u r w t.0, zip_rows u w n t.1)
 
 over_everywhere : (u : ℕ) (sh : Extent) (n : List (List (Option ℕ))) → Fills sh n
-    → unite_states (λ c new. some new) (everywhere sh u) n ≡ fine (map (map (named_or u)) n)
+    → unite_states (λ c new. Some new) (everywhere sh u) n ≡ fine (map (map (named_or u)) n)
 over_everywhere u sh n f =
     let row = length-replicate sh.layers u in
-    grid_walks named_or (unite_state (λ c new. some new)) over_fine 0 sh.layers (everywhere sh u) n (length-replicate sh.mips _
+    grid_walks named_or (unite_state (λ c new. Some new)) over_fine 0 sh.layers (everywhere sh u) n (length-replicate sh.mips _
     ∙ sym f.0) (all_replicate (λ (r : List ℕ). length r ≡ sh.layers) _ sh.mips row) f.1
     ∙ rw (zip_replicate (zip₂ named_or) (replicate sh.layers u) n sh.mips f.0, zip_rows u sh.layers n f.1)
 
 pub inserted : (p : UsageFlags) (sh : Extent) (g : Given) (n : Named) → Measured sh → Gives sh g n
     → Fit sh (insert p sh g) × (grid_of sh (insert p sh g) ≡ grid_insert p sh n)
 unfolding insert grid_of
-inserted p sh (given_single st) n e gives_one = (e, rw (map_everywhere (named_or p.unknown) sh (some st)))
+inserted p sh (given_single st) n e gives_one = (e, rw (map_everywhere (named_or p.unknown) sh (Some st)))
 inserted p sh (given_many qs) n e g = (
   (
     e,
-    grids_length sh (λ c new. some new) (fine (paint_all p.unknown qs (fresh_mips sh p.unknown))) (fresh_mips sh
+    grids_length sh (λ c new. Some new) (fine (paint_all p.unknown qs (fresh_mips sh p.unknown))) (fresh_mips sh
         p.unknown) n.states G ∙ long,
     G.tiled,
   ),
@@ -262,13 +262,13 @@ inserted p sh (given_many qs) n e g = (
     long : length (fresh_mips sh p.unknown) ≡ sh.mips
     long = length-replicate sh.mips _
 
-    m : Manys sh (λ c new. some new) (insert_pass p.unknown) (fresh_mips sh p.unknown) qs n
-    m = many_pass sh (λ c new. some new) (λ c. Unit {0}) (insert_pass p.unknown) (insert_pass_lem p.unknown sh)
+    m : Manys sh (λ c new. Some new) (insert_pass p.unknown) (fresh_mips sh p.unknown) qs n
+    m = many_pass sh (λ c new. Some new) (λ c. Unit {0}) (insert_pass p.unknown) (insert_pass_lem p.unknown sh)
         (fresh_mips sh p.unknown) long
         (mips_tiled sh p.unknown e.1) (any_ranges (fresh_mips sh p.unknown)) qs n g
 
     G : GridsAll sh [] (fine (paint_all p.unknown qs (fresh_mips sh p.unknown)))
-        (unite_states (λ c new. some new) (map layer_states (fresh_mips sh p.unknown)) n.states)
+        (unite_states (λ c new. Some new) (map layer_states (fresh_mips sh p.unknown)) n.states)
     G = rw (passes_fine p.unknown qs (fresh_mips sh p.unknown)) at m.grids
 
     same : map layer_states (paint_all p.unknown qs (fresh_mips sh p.unknown)) ≡ map (map (named_or p.unknown)) n.states
@@ -284,7 +284,7 @@ abbrev spread_pass : UsageFlags → ℕ → Piece → ℕ → List Range → Sto
 spread_pass p cur q k s =
     if in_mips q.selector k then
     ruled s (invalid_use (select k (suc k) q.selector.layers.start.0 q.selector.layers.end.0) cur q.state)
-    (Option_map (λ u. coalesce (paint p.unknown q.selector.layers.start.0 q.selector.layers.end.0 u s))
+    (option_map (λ u. coalesce (paint p.unknown q.selector.layers.start.0 q.selector.layers.end.0 u s))
     (unite p cur q.state))
     else fine s
 
@@ -300,18 +300,18 @@ spread_pass_lem p sh cur = record {
         → layer_states s ≡ x ++ (y ++ z) → All (λ (c : ℕ). c ≡ cur) y
         → (r : Option ℕ) → unite p cur q.state ≡ r
         → (let v = walk₂ (unite_state (unite p) k) q.selector.layers.start.0 y
-        (replicate (q.selector.layers.end.0 - q.selector.layers.start.0) (some q.state)) in
+        (replicate (q.selector.layers.end.0 - q.selector.layers.start.0) (Some q.state)) in
         Runs 0 sh.layers (ruled s
         (invalid_use (select k (suc k) q.selector.layers.start.0 q.selector.layers.end.0) cur q.state)
-        (Option_map (λ u. coalesce (paint p.unknown q.selector.layers.start.0 q.selector.layers.end.0 u s)) r))
+        (option_map (λ u. coalesce (paint p.unknown q.selector.layers.start.0 q.selector.layers.end.0 u s)) r))
         (record { value = x ++ (v.value ++ z); conflict = v.conflict }))
-    named q k s x y z h g t hx hy e o none d =
+    named q k s x y z h g t hx hy e o None d =
         let c : y ≡ replicate (q.selector.layers.end.0 - q.selector.layers.start.0) cur = all_same cur y o
         ∙ ap (λ (n : ℕ). replicate n cur) hy in
         let w = row_conflict (unite p) k cur q.state d q.selector.layers.start.0
         (q.selector.layers.end.0 - q.selector.layers.start.0) (omega arith) in
         rw (c, w) record { ok = t; same = rw c at e; conflict = refl }
-    named q k s x y z h g t hx hy e o (some u) d =
+    named q k s x y z h g t hx hy e o (Some u) d =
         let c : y ≡ replicate (q.selector.layers.end.0 - q.selector.layers.start.0) cur = all_same cur y o
         ∙ ap (λ (n : ℕ). replicate n cur) hy in
         let w = row_united (unite p) k cur q.state u d q.selector.layers.start.0
@@ -354,8 +354,8 @@ InMips n q = (q.selector.mips.start.0 < q.selector.mips.end.0) × (q.selector.mi
 -- the Rust's pass over a piece, and the same mip by mip
 spread_same : (p : UsageFlags) (cur n : ℕ) (qs : List Piece) (ss : List (List Range)) → length ss ≡ n → All (InMips n) qs
     → ((passes (spread_piece p cur) qs ss).value ≡ (passes (λ (q : Piece). walk (spread_pass p cur q) 0) qs ss).value)
-    × (Option_map first_of (passes (spread_piece p cur) qs ss).conflict
-    ≡ Option_map first_of (passes (λ (q : Piece). walk (spread_pass p cur q) 0) qs ss).conflict)
+    × (option_map first_of (passes (spread_piece p cur) qs ss).conflict
+    ≡ option_map first_of (passes (λ (q : Piece). walk (spread_pass p cur q) 0) qs ss).conflict)
 unfolding spread_piece
 spread_same p cur n [] ss h t = (refl, refl)
 spread_same p cur n (q ∷ qs) ss h t = go (unite p cur q.state) (λ ss' h'. spread_same p cur n qs ss' h' t.1)
@@ -363,11 +363,11 @@ spread_same p cur n (q ∷ qs) ss h t = go (unite p cur q.state) (λ ss' h'. spr
     F : Option ℕ → ℕ → List Range → Stop InvalidUse (List Range)
     F o k s = if in_mips q.selector k
         then ruled s (invalid_use (select k (suc k) q.selector.layers.start.0 q.selector.layers.end.0) cur q.state)
-        (Option_map (λ u. coalesce (paint p.unknown q.selector.layers.start.0 q.selector.layers.end.0 u s)) o) else fine s
+        (option_map (λ u. coalesce (paint p.unknown q.selector.layers.start.0 q.selector.layers.end.0 u s)) o) else fine s
 
     S : Option ℕ → Stop InvalidUse (List (List Range))
     S o = ruled ss (invalid_use q.selector cur q.state)
-        (Option_map (λ u. on_mips q.selector
+        (option_map (λ u. on_mips q.selector
         (λ s. coalesce (paint p.unknown q.selector.layers.start.0 q.selector.layers.end.0 u s)) 0 ss) o)
 
     A : List (List Range) → Stop InvalidUse (List (List Range))
@@ -378,15 +378,15 @@ spread_same p cur n (q ∷ qs) ss h t = go (unite p cur q.state) (λ ss' h'. spr
 
     go : (o : Option ℕ)
         → ((x : List (List Range)) → length x ≡ n → ((A x).value ≡ (B x).value)
-        × (Option_map first_of (A x).conflict ≡ Option_map first_of (B x).conflict))
+        × (option_map first_of (A x).conflict ≡ option_map first_of (B x).conflict))
         → ((and_then (S o).conflict (S o).value (A (S o).value)).value
         ≡ (and_then (walk (F o) 0 ss).conflict (walk (F o) 0 ss).value (B (walk (F o) 0 ss).value)).value)
-        × (Option_map first_of (and_then (S o).conflict (S o).value (A (S o).value)).conflict
-        ≡ Option_map first_of (and_then (walk (F o) 0 ss).conflict (walk (F o) 0 ss).value (B (walk (F o) 0 ss).value)).conflict)
-    go none ih =
+        × (option_map first_of (and_then (S o).conflict (S o).value (A (S o).value)).conflict
+        ≡ option_map first_of (and_then (walk (F o) 0 ss).conflict (walk (F o) 0 ss).value (B (walk (F o) 0 ss).value)).conflict)
+    go None ih =
         rw (walk_first q.selector (λ j. invalid_use (select j (suc j) q.selector.layers.start.0 q.selector.layers.end.0) cur
         q.state) 0 ss (omega arith) t.0.0 (omega arith)) (refl, refl)
-    go (some u) ih =
+    go (Some u) ih =
         rw (walk_painted q.selector
         (λ s. coalesce (paint p.unknown q.selector.layers.start.0 q.selector.layers.end.0 u s)) 0 ss)
         (ih _ (length_on_mips q.selector _ 0 ss ∙ h))
@@ -410,14 +410,14 @@ all_cur sh cur = all_replicate (λ (s : List Range). All (λ (c : ℕ). c ≡ cu
 
 kept_sim : (sh : Extent) (cur : ℕ) (ss : List (List Range)) (o : Option InvalidUse) (y : List (List ℕ))
     (o' : Option SubresourceConflict) (mk : Bool)
-    → Measured sh → length ss ≡ sh.mips → Tiled sh ss → map layer_states ss ≡ y → Option_map first_of o ≡ o' → mk ≡ false
+    → Measured sh → length ss ≡ sh.mips → Tiled sh ss → map layer_states ss ≡ y → option_map first_of o ≡ o' → mk ≡ false
     → Fit sh (or_keep o (single cur) (many ss)).value
     × Sim (grid_of sh) first_of (or_keep o (single cur) (many ss)) (or_keep o' (record { single = true; states = everywhere sh cur })
     (record { single = mk; states = y }))
 unfolding grid_of
-kept_sim sh cur ss none y o' mk e h t q c m =
+kept_sim sh cur ss None y o' mk e h t q c m =
     rw (← c, m) ((e, h, t), (ap (λ (x : List (List ℕ)). record { single = false; states = x }) q, refl))
-kept_sim sh cur ss (some z) y o' mk e h t q c m = rw (← c) (e, (refl, refl))
+kept_sim sh cur ss (Some z) y o' mk e h t q c m = rw (← c) (e, (refl, refl))
 
 single_many : (p : UsageFlags) (sh : Extent) (cur : ℕ) (qs : List Piece) (n : Named) → Measured sh → Gives sh (given_many qs) n
     → Merges p sh (single cur) (given_many qs) n

@@ -1,5 +1,5 @@
 -- One texture in a tracker: what holds of it, and that insert and update keep it and are the grid's.
-use Rattle.model.specs.Prelude.{ℕ, zero, suc, arith, refl, sym, ap, ◌∙◌, true, false, Option, none, some, List, [], map, append-nil, eqb}
+use Rattle.model.specs.Prelude.{ℕ, zero, suc, arith, refl, sym, ap, ◌∙◌, true, false, Option, None, Some, List, [], map, append-nil, eqb}
 use Rattle.model.specs.Prelude.{bit_and, and_self, replicate, length, length-replicate, length-map, ne_eqb, eqb-false}
 use Rattle.model.specs.declared.{Extent.Extent, InvalidUse.InvalidUse, Range.Range, UsageFlags.UsageFlags}
 use Rattle.model.specs.{Base.{zip₂, zip₃, Stop, fine, passes, walk, All}, Representation.{in_mips, Ends}, StateRules.end_after}
@@ -79,7 +79,7 @@ known_everywhere u st sh k = grid_everywhere (Known u) sh st k
 
 -- ---- the end of a use of one state
 row_end_one : (p : UsageFlags) (new : ℕ) → eqb new p.unknown ≡ false → (r : List ℕ) (w : ℕ) → length r ≡ w
-    → zip₂ (rule_end p) r (replicate w (some new)) ≡ replicate w new
+    → zip₂ (rule_end p) r (replicate w (Some new)) ≡ replicate w new
 row_end_one p new e [] zero h = refl
 row_end_one p new e [] (suc w) h = absurd (omega arith)
 row_end_one p new e (c ∷ r) zero h = absurd (omega arith)
@@ -87,7 +87,7 @@ row_end_one p new e (c ∷ r) (suc w) h = rw (e, row_end_one p new e r w (omega 
 
 grid_end_one : (p : UsageFlags) (new w : ℕ) → eqb new p.unknown ≡ false → (g : List (List ℕ)) (m : ℕ) → length g ≡ m
     → All (λ (r : List ℕ). length r ≡ w) g
-    → zip₂ (zip₂ (rule_end p)) g (replicate m (replicate w (some new))) ≡ replicate m (replicate w new)
+    → zip₂ (zip₂ (rule_end p)) g (replicate m (replicate w (Some new))) ≡ replicate m (replicate w new)
 grid_end_one p new w e [] zero h t = refl
 grid_end_one p new w e [] (suc m) h t = absurd (omega arith)
 grid_end_one p new w e (r ∷ g) zero h t = absurd (omega arith)
@@ -95,8 +95,8 @@ grid_end_one p new w e (r ∷ g) (suc m) h t = rw (row_end_one p new e r w t.0, 
 
 -- ---- a start under a known end stays
 state_start : (p : UsageFlags) (s c : ℕ) (n : Option ℕ) → Known p.unknown c → rule_start p s c n ≡ s
-state_start p s c none k = refl
-state_start p s c (some new) k = by_test (λ (x : ℕ). x ≡ s) (eqb new p.unknown) (λ b. refl) (λ b. rw (ne_eqb c p.unknown k))
+state_start p s c None k = refl
+state_start p s c (Some new) k = by_test (λ (x : ℕ). x ≡ s) (eqb new p.unknown) (λ b. refl) (λ b. rw (ne_eqb c p.unknown k))
 
 row_start_known : (p : UsageFlags) (s e : List ℕ) (n : List (Option ℕ)) (w : ℕ) → length s ≡ w → length e ≡ w
     → length n ≡ w → All (Known p.unknown) e
@@ -131,8 +131,8 @@ start_known p sh s e n ds de dn k = grid_start_known p sh.layers s e n sh.mips d
 
 -- ---- a known end stays known
 state_end_known : (p : UsageFlags) (c : ℕ) (n : Option ℕ) → Known p.unknown c → Known p.unknown (rule_end p c n)
-state_end_known p c none k = k
-state_end_known p c (some new) k = by_test (Known p.unknown) (eqb new p.unknown) (λ b. k) (λ b. eqb-false new p.unknown b)
+state_end_known p c None k = k
+state_end_known p c (Some new) k = by_test (Known p.unknown) (eqb new p.unknown) (λ b. k) (λ b. eqb-false new p.unknown b)
 
 end_known : (p : UsageFlags) (e : List (List ℕ)) (n : List (List (Option ℕ))) → KnownAll p.unknown e
     → KnownAll p.unknown (zip₂ (zip₂ (rule_end p)) e n)
@@ -141,22 +141,22 @@ end_known p e n k = grid_zip (Known p.unknown) (λ o. Unit {0}) (Known p.unknown
 
 -- ---- a Single end that is given pieces
 end_fine : (p : UsageFlags) (m l c : ℕ) (o : Option ℕ)
-    → unite_state (λ c new. some (end_after p.unknown c new)) m l c o ≡ fine (rule_end p c o)
-end_fine p m l c none = refl
-end_fine p m l c (some new) = refl
+    → unite_state (λ c new. Some (end_after p.unknown c new)) m l c o ≡ fine (rule_end p c o)
+end_fine p m l c None = refl
+end_fine p m l c (Some new) = refl
 
 abbrev end_pass : ℕ → ℕ → Piece → ℕ → List Range → Stop InvalidUse (List Range)
 end_pass u cur q k s = fine (if in_mips q.selector k
     then coalesce (paint u q.selector.layers.start.0 q.selector.layers.end.0 (end_after u cur q.state) s) else s)
 
 end_pass_lem : (p : UsageFlags) (sh : Extent) (cur : ℕ)
-    → Pass sh (λ c new. some (end_after p.unknown c new)) (λ (c : ℕ). c ≡ cur) (end_pass p.unknown cur)
+    → Pass sh (λ c new. Some (end_after p.unknown c new)) (λ (c : ℕ). c ≡ cur) (end_pass p.unknown cur)
 end_pass_lem p sh cur = record {
   skips = λ q k s e. rw e;
   names = λ q k s x y z b h g t hx hy e o.
       let n = q.selector.layers.end.0 - q.selector.layers.start.0 in
       let c : y ≡ replicate n cur = all_same cur y o ∙ ap (λ (n : ℕ). replicate n cur) hy in
-      let w = row_united (λ c new. some (end_after p.unknown c new)) k cur q.state (end_after p.unknown cur q.state) refl
+      let w = row_united (λ c new. Some (end_after p.unknown c new)) k cur q.state (end_after p.unknown cur q.state) refl
       q.selector.layers.start.0 n in
       let m = painted_states p.unknown q.selector.layers.start.0 q.selector.layers.end.0
       (end_after p.unknown cur q.state) sh.layers s x y z h g t hx hy e in
@@ -177,13 +177,13 @@ single_spread : (p : UsageFlags) (sh : Extent) (cur : ℕ) (qs : List Piece) (n 
     × (map layer_states (spread_end p.unknown cur qs (fresh_mips sh cur)) ≡ zip₂ (zip₂ (rule_end p)) (everywhere sh cur) n.states)
 single_spread p sh cur qs n e g =
     let long = length-replicate sh.mips (range 0 sh.layers cur ∷ []) in
-    let m = many_pass sh (λ c new. some (end_after p.unknown c new)) (λ (c : ℕ). c ≡ cur) (end_pass p.unknown cur) (end_pass_lem p sh cur)
+    let m = many_pass sh (λ c new. Some (end_after p.unknown c new)) (λ (c : ℕ). c ≡ cur) (end_pass p.unknown cur) (end_pass_lem p sh cur)
     (fresh_mips sh cur) long (mips_tiled sh cur e.1) (all_cur sh cur) qs n g in
     let r = rw (end_passes p.unknown cur qs (fresh_mips sh cur)) at m.grids in
     let d = fills sh qs n g in let ev = dims_everywhere sh cur in
-    let z = grid_walks (rule_end p) (unite_state (λ c new. some (end_after p.unknown c new))) (end_fine p) 0 sh.layers
+    let z = grid_walks (rule_end p) (unite_state (λ c new. Some (end_after p.unknown c new))) (end_fine p) 0 sh.layers
     (everywhere sh cur) n.states (ev.0 ∙ sym d.0) ev.1 d.1 in (
-      grids_length sh (λ c new. some (end_after p.unknown c new)) (fine (spread_end p.unknown cur qs (fresh_mips sh cur)))
+      grids_length sh (λ c new. Some (end_after p.unknown c new)) (fine (spread_end p.unknown cur qs (fresh_mips sh cur)))
           (fresh_mips sh cur) n.states r ∙ long,
       r.tiled,
       r.same ∙ rw (mips_states sh cur, z),
@@ -191,7 +191,7 @@ single_spread p sh cur qs n e g =
 
 -- ---- a Many end that is given one state
 row_learned : (p : UsageFlags) (new : ℕ) → eqb new p.unknown ≡ false → (s e : List ℕ) (w : ℕ) → length s ≡ w → length e ≡ w
-    → zip₃ (rule_start p) s e (replicate w (some new)) ≡ zip₂ (learned p.unknown new) s e
+    → zip₃ (rule_start p) s e (replicate w (Some new)) ≡ zip₂ (learned p.unknown new) s e
 row_learned p new b [] e w h g = refl
 row_learned p new b (x ∷ s) [] w h g = absurd (omega arith)
 row_learned p new b (x ∷ s) (y ∷ e) zero h g = absurd (omega arith)
@@ -201,7 +201,7 @@ learn_grid : (p : UsageFlags) (sh : Extent) (new k : ℕ) → eqb new p.unknown 
     → length ts ≡ m → Tiled sh ss → Tiled sh ts
     → (length (learn_all (λ k s. s) p.unknown new k ss ts) ≡ m) × Tiled sh (learn_all (λ k s. s) p.unknown new k ss ts)
     × (map layer_states (learn_all (λ k s. s) p.unknown new k ss ts)
-    ≡ zip₃ (zip₃ (rule_start p)) (map layer_states ts) (map layer_states ss) (replicate m (replicate sh.layers (some new))))
+    ≡ zip₃ (zip₃ (rule_start p)) (map layer_states ts) (map layer_states ss) (replicate m (replicate sh.layers (Some new))))
 learn_grid p sh new k b [] [] zero h g a c = (refl, tt, refl)
 learn_grid p sh new k b [] [] (suc m) h g a c = absurd (omega arith)
 learn_grid p sh new k b [] (t ∷ ts) m h g a c = absurd (omega arith)
@@ -255,14 +255,14 @@ fit_ends p sh e s d f a b c g k =
     record { sure = f.sure; measured = f.measured; start = a; start_clear = b; end = c; end_clear = g; known = k }
 
 keeps_single_one : (p : UsageFlags) (sh : Extent) (s : Held) (cur new : ℕ) → FitEnds p sh (held_ends s (single cur)) → Clear p new
-    → Keeps p sh s (single cur) (given_single new) (record { single = true; states = everywhere sh (some new) })
+    → Keeps p sh s (single cur) (given_single new) (record { single = true; states = everywhere sh (Some new) })
 unfolding update grid_of
 keeps_single_one p sh s cur new f c =
     let k = clear_known p new f.sure c in let ev = dims_everywhere sh cur in
     record {
       fit = fit_ends p sh _ s (single new) f f.start f.start_clear f.measured c
           (known_of p s _ (known_everywhere p.unknown new sh k));
-      start = stays p sh s (everywhere sh cur) (everywhere sh (some new)) f.start ev (dims_everywhere sh (some new))
+      start = stays p sh s (everywhere sh cur) (everywhere sh (Some new)) f.start ev (dims_everywhere sh (Some new))
           (known_everywhere p.unknown cur sh (clear_known p cur f.sure f.end_clear));
       end = rw (grid_end_one p new sh.layers (ne_eqb new p.unknown k) (everywhere sh cur) sh.mips ev.0 ev.1);
     }
@@ -284,7 +284,7 @@ keeps_single_many p sh s cur qs n f g =
 
 keeps_many_one : (p : UsageFlags) (sh : Extent) (s : Held) (ss : List (List Range)) (new : ℕ)
     → FitEnds p sh (held_ends s (many ss)) → Clear p new
-    → Keeps p sh s (many ss) (given_single new) (record { single = true; states = everywhere sh (some new) })
+    → Keeps p sh s (many ss) (given_single new) (record { single = true; states = everywhere sh (Some new) })
 unfolding update grid_of
 keeps_many_one p sh (single st) ss new f c =
     let k = clear_known p new f.sure c in let d = dims_states sh ss f.end.1 f.end.2 in
@@ -298,8 +298,8 @@ keeps_many_one p sh (single st) ss new f c =
         end_clear = c;
         known = known_everywhere p.unknown new sh k;
       };
-      start = stays p sh (single st) (map layer_states ss) (everywhere sh (some new)) f.start d
-          (dims_everywhere sh (some new)) f.known;
+      start = stays p sh (single st) (map layer_states ss) (everywhere sh (Some new)) f.start d
+          (dims_everywhere sh (Some new)) f.known;
       end = rw (grid_end_one p new sh.layers (ne_eqb new p.unknown k) (map layer_states ss) sh.mips d.0 d.1);
     }
 keeps_many_one p sh (many ts) ss new f c =
@@ -374,8 +374,8 @@ updated p sh s (many ss) (given_many qs) n f g c = keeps_many_many p sh s ss qs 
 
 -- ---- insert, of a start and an end
 abbrev pub KnownO : ℕ → Option ℕ → Type 0
-KnownO u none = ⊥
-KnownO u (some c) = Known u c
+KnownO u None = ⊥
+KnownO u (Some c) = Known u c
 
 -- where the given start is one state, every subresource of the given end is known
 abbrev pub KnownGiven : UsageFlags → Given → Named → Type 0
@@ -386,8 +386,8 @@ insert_known : (u : ℕ) (g : List (List (Option ℕ))) → All (All (KnownO u))
 insert_known u = grid_map (KnownO u) (Known u) (named_or u) one
   where
     one : (o : Option ℕ) → KnownO u o → Known u (named_or u o)
-    one none k = absurd k
-    one (some c) k = k
+    one None k = absurd k
+    one (Some c) k = k
 
 pub insert_clear : (p : UsageFlags) (sh : Extent) (g : Given) → ClearGiven p g → ClearHeld p (insert p sh g)
 unfolding insert

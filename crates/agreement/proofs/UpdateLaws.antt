@@ -1,6 +1,6 @@
 -- A Many texture in a tracker, its start and its end side by side: an update of both is the grid's.
 use Rattle.std.specs.Prelude.{◌-◌, ◌≤◌, ◌<◌, ◌≡◌, ◌∷◌, ◌++◌, if◌then◌else◌}
-use Rattle.model.specs.Prelude.{ℕ, zero, suc, arith, refl, sym, ap, ◌∙◌, true, false, Bool, Option, none, some, List}
+use Rattle.model.specs.Prelude.{ℕ, zero, suc, arith, refl, sym, ap, ◌∙◌, true, false, Bool, Option, None, Some, List}
 use Rattle.model.specs.Prelude.{[], map, map-append, eqb, replicate, length, length-replicate, length-map}
 use Rattle.model.specs.declared.{Extent.Extent, InvalidUse.InvalidUse, Range.Range, UsageFlags.UsageFlags}
 use Rattle.model.specs.{Base.{zip₂, Stop, fine, walk₂, zip₃, passes, walk, All}, Representation.in_mips, StateRules.end_after}
@@ -68,10 +68,10 @@ abbrev pub after : ℕ → ℕ → Pair → Pair
 after u new c = pair (end_after u c.end new) (start_after u c.start c.end new)
 
 abbrev pub U : ℕ → ℕ → ℕ → Pair → Option ℕ → Stop SubresourceConflict Pair
-U u k l c none = fine c
-U u k l c (some new) = fine (after u new c)
+U u k l c None = fine c
+U u k l c (Some new) = fine (after u new c)
 
-row_after : (u k l new : ℕ) (y : List Pair) (n : ℕ) → length y ≡ n → walk₂ (U u k) l y (replicate n (some new)) ≡ fine (map (after u new) y)
+row_after : (u k l new : ℕ) (y : List Pair) (n : ℕ) → length y ≡ n → walk₂ (U u k) l y (replicate n (Some new)) ≡ fine (map (after u new) y)
 row_after u k l new [] zero h = refl
 row_after u k l new [] (suc n) h = absurd (omega arith)
 row_after u k l new (c ∷ y) zero h = absurd (omega arith)
@@ -180,25 +180,25 @@ Dims sh n = (length n ≡ sh.mips) × All (λ r. length r ≡ sh.layers) n
 
 -- ---- the pairs' walk, as the grid has it
 abbrev after_o : ℕ → Pair → Option ℕ → Pair
-after_o u c none = c
-after_o u c (some new) = after u new c
+after_o u c None = c
+after_o u c (Some new) = after u new c
 
 after_fine : (u m l : ℕ) (c : Pair) (o : Option ℕ) → U u m l c o ≡ fine (after_o u c o)
-after_fine u m l c none = refl
-after_fine u m l c (some new) = refl
+after_fine u m l c None = refl
+after_fine u m l c (Some new) = refl
 
 row_ends : (p : UsageFlags) (r : List Pair) (n : List (Option ℕ)) → ends (zip₂ (after_o p.unknown) r n) ≡ zip₂ (rule_end p) (ends r) n
 row_ends p [] n = refl
 row_ends p (c ∷ r) [] = refl
-row_ends p (c ∷ r) (none ∷ n) = rw (row_ends p r n)
-row_ends p (c ∷ r) (some x ∷ n) = rw (row_ends p r n)
+row_ends p (c ∷ r) (None ∷ n) = rw (row_ends p r n)
+row_ends p (c ∷ r) (Some x ∷ n) = rw (row_ends p r n)
 
 row_starts : (p : UsageFlags) (r : List Pair) (n : List (Option ℕ))
     → starts (zip₂ (after_o p.unknown) r n) ≡ zip₃ (rule_start p) (starts r) (ends r) n
 row_starts p [] n = refl
 row_starts p (c ∷ r) [] = refl
-row_starts p (c ∷ r) (none ∷ n) = rw (row_starts p r n)
-row_starts p (c ∷ r) (some x ∷ n) = rw (row_starts p r n)
+row_starts p (c ∷ r) (None ∷ n) = rw (row_starts p r n)
+row_starts p (c ∷ r) (Some x ∷ n) = rw (row_starts p r n)
 
 grid_ends_lem : (p : UsageFlags) (g : List (List Pair)) (n : List (List (Option ℕ)))
     → map ends (zip₂ (zip₂ (after_o p.unknown)) g n) ≡ zip₂ (zip₂ (rule_end p)) (map ends g) n

@@ -1,7 +1,7 @@
 -- The WebGPU rule after every list of calls: single merges conflict just where the uses of some named subresource do not fit, and the same
 -- in the specification's own usages.
-use Rattle.model.specs.Prelude.{ℕ, zero, suc, arith, refl, sym, ap, ◌∙◌, subst, true, false≢true, Option, none, some, Option_map, List, []}
-use Rattle.model.specs.Prelude.{map, bit_and, get_elem?, get_or}
+use Rattle.model.specs.Prelude.{ℕ, zero, suc, arith, refl, sym, ap, ◌∙◌, subst, true, false≢true, Option, None, Some, option_map, List, []}
+use Rattle.model.specs.Prelude.{map, bit_and, slice_get, get_or}
 use Rattle.model.specs.{declared.{Extent.Extent, Selector.Selector, UsageFlags.UsageFlags}, Sets.{Set, Head, head_of, Opening, slot_at}}
 use Rattle.model.specs.Refusals.{tracker_index, single_refusal}
 use Rattle.model.specs.Calls.{Answer, done, refused, in_conflict, Call, call_merge_single, Sets, step, newly, merge_single}
@@ -79,12 +79,12 @@ module _ (os ts : List Opening) (cs : List Call) (w : All GivenWord cs) where
       sym (image_conflict first_of (step ranged c KR).answer) ∙ ap InConflict (ranges_answer c ∙ sym (histories_answer c word))
       ∙ image_conflict same (step histories c KT).answer
 
-  elem_good : {A : Type 0} (P : A → Type 0) (l : List A) (n : ℕ) (x : A) → All P l → get_elem? l n ≡ some x → P x
+  elem_good : {A : Type 0} (P : A → Type 0) (l : List A) (n : ℕ) (x : A) → All P l → slice_get l n ≡ Some x → P x
   elem_good P [] n x t e = absurd (let z : ◌≡◌ {A = ℕ} 0 1 = cc in native.Mathlib.Nat.not-suc-le-zero (native.Mathlib.Nat.le_of_eq (sym z)))
   elem_good P (y ∷ l) zero x t e = let h : y ≡ x = cc in subst P h t.0
   elem_good P (y ∷ l) (suc n) x t e = elem_good P l n x t.1 e
 
-  one_merge : (n i : ℕ) (sh : Extent) (sel : Option Selector) (st : ℕ) (s : Set Histories) → get_elem? KT.scopes n ≡ some s
+  one_merge : (n i : ℕ) (sh : Extent) (sel : Option Selector) (st : ℕ) (s : Set Histories) → slice_get KT.scopes n ≡ Some s
       → (step histories (call_merge_single n (tracker_index i) sh sel st) KT).answer ≡ (merge_single histories s i sh sel st).answer
   unfolding step
   one_merge n i sh sel st s e = rw e
@@ -92,7 +92,7 @@ module _ (os ts : List Opening) (cs : List Call) (w : All GivenWord cs) where
   -- "WebGPU judges each subresource by the uses made of it": for a single merge that passes its checks, after any list of calls, on any
   -- scope
   webgpu_judges : (n i : ℕ) (sh : Extent) (sel : Option Selector) (st : ℕ) → Word st → (s : Set Histories)
-      → get_elem? KT.scopes n ≡ some s → single_refusal (head_of s) i sh sel st ≡ none
+      → slice_get KT.scopes n ≡ Some s → single_refusal (head_of s) i sh sel st ≡ None
       → (InConflict (step ranged (call_merge_single n (tracker_index i) sh sel st) KR).answer → Unfit s i sh sel st)
       × (Unfit s i sh sel st → InConflict (step ranged (call_merge_single n (tracker_index i) sh sel st) KR).answer)
   webgpu_judges n i sh sel st word s e r =
@@ -100,41 +100,41 @@ module _ (os ts : List Opening) (cs : List Call) (w : All GivenWord cs) where
       let one = conflicts (call_merge_single n (tracker_index i) sh sel st) word ∙ ap InConflict (one_merge n i sh sel st s e) in
       (λ t. m.0 (coe 0 1 (k. one k) t), λ u. coe 1 0 (k. one k) (m.1 u))
 
-  beside : (n : ℕ) (r : Set Held) → get_elem? KR.scopes n ≡ some r
-      → (s : Set Histories) × (get_elem? KT.scopes n ≡ some s) × (head_of s ≡ head_of r)
-  beside n r e = go (get_elem? KT.scopes n) refl
+  beside : (n : ℕ) (r : Set Held) → slice_get KR.scopes n ≡ Some r
+      → (s : Set Histories) × (slice_get KT.scopes n ≡ Some s) × (head_of s ≡ head_of r)
+  beside n r e = go (slice_get KT.scopes n) refl
     where
-      both : Option_map (image_set plain_view) (get_elem? KT.scopes n) ≡ some (grid_scope r)
+      both : option_map (image_set plain_view) (slice_get KT.scopes n) ≡ Some (grid_scope r)
       both =
           sym (elem_map (image_set plain_view) KT.scopes n)
-          ∙ ap (λ (k : Sets grid). get_elem? k.scopes n) (run_histories.1 ∙ sym run_ranges.1)
-          ∙ elem_map grid_scope KR.scopes n ∙ ap (Option_map grid_scope) e
+          ∙ ap (λ (k : Sets grid). slice_get k.scopes n) (run_histories.1 ∙ sym run_ranges.1)
+          ∙ elem_map grid_scope KR.scopes n ∙ ap (option_map grid_scope) e
 
-      go : (o : Option (Set Histories)) → get_elem? KT.scopes n ≡ o
-          → (s : Set Histories) × (get_elem? KT.scopes n ≡ some s) × (head_of s ≡ head_of r)
-      go none q = absurd (let z : none ≡ some (grid_scope r) = rw q at both in unlike (grid_scope r) z)
+      go : (o : Option (Set Histories)) → slice_get KT.scopes n ≡ o
+          → (s : Set Histories) × (slice_get KT.scopes n ≡ Some s) × (head_of s ≡ head_of r)
+      go None q = absurd (let z : None ≡ Some (grid_scope r) = rw q at both in unlike (grid_scope r) z)
         where
-          unlike : (x : Set Grid) → none ≡ some x → ⊥
+          unlike : (x : Set Grid) → None ≡ Some x → ⊥
           unlike x e = let h : ◌≡◌ {A = ℕ} 0 1 = cc in omega arith
-      go (some s) q =
-          let z : some (image_set plain_view s) ≡ some (grid_scope r) = rw q at both in
+      go (Some s) q =
+          let z : Some (image_set plain_view s) ≡ Some (grid_scope r) = rw q at both in
           let y : image_set plain_view s ≡ grid_scope r = cc in
           (s, q, sym (head_image plain_view s) ∙ ap head_of y ∙ head_image grid_of r)
 
-  pub uses_judged : (n i : ℕ) (sh : Extent) (sel : Option Selector) (st : ℕ) → Word st → (r : Set Held) → get_elem? KR.scopes n ≡ some r
-      → single_refusal (head_of r) i sh sel st ≡ none
-      → (s : Set Histories) × (get_elem? KT.scopes n ≡ some s) × (head_of s ≡ head_of r)
+  pub uses_judged : (n i : ℕ) (sh : Extent) (sel : Option Selector) (st : ℕ) → Word st → (r : Set Held) → slice_get KR.scopes n ≡ Some r
+      → single_refusal (head_of r) i sh sel st ≡ None
+      → (s : Set Histories) × (slice_get KT.scopes n ≡ Some s) × (head_of s ≡ head_of r)
       × (InConflict (step ranged (call_merge_single n (tracker_index i) sh sel st) KR).answer → Unfit s i sh sel st)
       × (Unfit s i sh sel st → InConflict (step ranged (call_merge_single n (tracker_index i) sh sel st) KR).answer)
   uses_judged n i sh sel st word r e c =
       let b = beside n r e in let j = webgpu_judges n i sh sel st word b.0 b.1
-      (subst (λ (h : Head). single_refusal h i sh sel st ≡ none) (sym b.2) c) in (b.0, b.1, b.2, j.0, j.1)
+      (subst (λ (h : Head). single_refusal h i sh sel st ≡ None) (sym b.2) c) in (b.0, b.1, b.2, j.0, j.1)
 
 -- ---- what holds of every use that single merges are given holds of every use that a scope has taken
 -- a conflict seen as it is
-same_option : {C : Type 0} (o : Option C) → Option_map (λ (c : C). c) o ≡ o
-same_option none = refl
-same_option (some c) = refl
+same_option : {C : Type 0} (o : Option C) → option_map (λ (c : C). c) o ≡ o
+same_option None = refl
+same_option (Some c) = refl
 
 module _ (W : ℕ → Type 0) where
   abbrev UsesAll : History → Type 0
@@ -150,8 +150,8 @@ module _ (W : ℕ → Type 0) where
   used_all sh sel st w = hand_all_lem W UsesAll (λ x h. (h, tt)) (named_use sh sel st).states (use_all W sh sel st w)
 
   or_blank : (p : UsageFlags) (o : Option History) → AllO UsesAll o → UsesAll (named_or (blank_of p) o)
-  or_blank p none t = tt
-  or_blank p (some c) t = t
+  or_blank p None t = tt
+  or_blank p (Some c) t = t
 
   inserted_all : (p : UsageFlags) (sh : Extent) (g : HandedIn) → HandedAll g → HeldAll (history_insert p sh g)
   inserted_all p sh g t = grid_map (AllO UsesAll) UsesAll (named_or (blank_of p)) (or_blank p) g.states t
@@ -170,8 +170,8 @@ module _ (W : ℕ → Type 0) where
     where
       kept : (o : Option SubresourceConflict)
           → HeldAll (or_keep o h (record { single = g.single; states = (take_states (single_union p) h.states g.states).value })).value
-      kept none = takes_all (single_union p) h.states g.states x y
-      kept (some c) = x
+      kept None = takes_all (single_union p) h.states g.states x y
+      kept (Some c) = x
 
   -- ---- the lifting, of histories beside themselves
   abbrev FitU : UsageFlags → Extent → Histories → Type 0
@@ -202,7 +202,7 @@ module _ (W : ℕ → Type 0) where
     updated = λ p sh e a b c d r f. (tt, ap (histories.update p sh e) r.1);
     logged = λ p mask sh e a b c d r f m l. (
       ap (λ (n : HandedIn). grid_at m l (histories.log p mask sh e.end n)) r.0,
-      at_most_one (get_or (get_or (grid_barrier p mask sh (states_of e.end) (named a)) m []) l none),
+      at_most_one (get_or (get_or (grid_barrier p mask sh (states_of e.end) (named a)) m []) l None),
     );
   }
 
@@ -327,15 +327,15 @@ module _ (bit : Usage → ℕ) where
 
   pub usages_judged : (scopes trackers : List Opening) (calls : List Call) → All GivenWord calls → All (GivenUsage bit) calls
       → (n i : ℕ) (sh : Extent) (sel : Option Selector) (u : Usage) → Word (bit u)
-      → (r : Set Held) → get_elem? (after_calls ranged calls (newly ranged scopes trackers)).scopes n ≡ some r → Renders r.flags bit
-      → single_refusal (head_of r) i sh sel (bit u) ≡ none
-      → (s : Set Histories) × (get_elem? (after_calls histories calls (newly histories scopes trackers)).scopes n ≡ some s)
+      → (r : Set Held) → slice_get (after_calls ranged calls (newly ranged scopes trackers)).scopes n ≡ Some r → Renders r.flags bit
+      → single_refusal (head_of r) i sh sel (bit u) ≡ None
+      → (s : Set Histories) × (slice_get (after_calls histories calls (newly histories scopes trackers)).scopes n ≡ Some s)
       × (InConflict (step ranged (call_merge_single n (tracker_index i) sh sel (bit u))
       (after_calls ranged calls (newly ranged scopes trackers))).answer ↔ NotCompatible bit s i sh sel u)
   usages_judged os ts cs w g n i sh sel u word r e rr p =
       let j = uses_judged os ts cs w n i sh sel (bit u) word r e p in let s = j.0 in
       let same : s.flags ≡ r.flags = ap (λ (h : Head). h.flags) j.2 in let rs : Renders s.flags bit = rw same rr in
-      let kept : AllO (SetFits (FitU (Rendered bit))) (some s) =
+      let kept : AllO (SetFits (FitU (Rendered bit))) (Some s) =
       rw j.1 at (all_elem (SetFits (FitU (Rendered bit))) (after_calls histories cs (newly histories os ts)).scopes n
       (uses_kept (Rendered bit) os ts cs g)) in
       (s, j.1, (λ c. to_usages s rs i sh sel u kept (j.3 c), λ c. j.4 (from_usages s rs i sh sel u c)))

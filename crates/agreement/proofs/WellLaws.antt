@@ -1,5 +1,5 @@
 -- Every call keeps every set well formed.
-use Rattle.model.specs.Prelude.{ℕ, arith, refl, sym, ap, ◌∙◌, subst, Option, none, List, [], map, eqb, bit_and, replicate, eqb-true}
+use Rattle.model.specs.Prelude.{ℕ, arith, refl, sym, ap, ◌∙◌, subst, Option, None, List, [], map, eqb, bit_and, replicate, eqb-true}
 use Rattle.model.specs.Prelude.{eqb-false, not-false, ne_eqb}
 use Rattle.model.specs.{declared.{Extent.Extent, Range.Range, Selector.Selector, UsageFlags.UsageFlags}, Representation.Ends}
 use Rattle.model.specs.{Sets.{Set, Tracker, Head, Opening}, Refusals.single_refusal}
@@ -52,7 +52,7 @@ pub record PairsW (p : UsageFlags) (sh : Extent) (a : Given) (b : Named) (c : Gi
 
 -- checks 12 and 13, and the sixteen bits
 state_fits_lem : (h : Head) (i : ℕ) (sh : Extent) (sel : Option Selector) (st : ℕ) → Word st
-    → single_refusal h i sh sel st ≡ none → StateFits h.flags st
+    → single_refusal h i sh sel st ≡ None → StateFits h.flags st
 state_fits_lem h i sh sel st w e =
     let c = (single_passed h i sh sel st e).state in
     record {

@@ -1,6 +1,6 @@
 -- The rules for one subresource keep its state well formed, and so do the grid's merge, insert and update.
-use Rattle.model.specs.Prelude.{ℕ, zero, suc, arith, refl, sym, ◌∙◌, Bool, true, false, not, and-eq-true_iff, Option, none, some, List, []}
-use Rattle.model.specs.Prelude.{map, ltb, eqb, bit_and, bit_or, or_lt, replicate, eqb-true, eqb-false, ltb-true, not-true, not-false}
+use Rattle.model.specs.Prelude.{ℕ, zero, suc, arith, refl, sym, ◌∙◌, Bool, true, false, not, and-eq-true_iff, Option, None, Some, List, []}
+use Rattle.model.specs.Prelude.{map, ltb, eqb, bit_and, bit_or, or_lt, replicate, eqb-true, eqb-false, ltb-true, not-true}
 use Rattle.model.specs.declared.{Extent.Extent, Selector.Selector, UsageFlags.UsageFlags}
 use Rattle.model.specs.Base.{Stop, ruled, or_keep, walk₂, zip₂, zip₃, All, AllO}
 use Rattle.model.specs.{Flags.{incompatible, meets, one_bit, is_bit, apart, flags_fit}, Representation.in_mips, StateRules.less}
@@ -72,11 +72,11 @@ union_fits p a b x y c = record {
   plain = and_or a b p.complex ∙ rw (x.plain, y.plain);
 }
 
-single_state_fits : (p : UsageFlags) (c new u : ℕ) → StateFits p c → StateFits p new → single_union p c new ≡ some u → StateFits p u
+single_state_fits : (p : UsageFlags) (c new u : ℕ) → StateFits p c → StateFits p new → single_union p c new ≡ Some u → StateFits p u
 unfolding single_union
 single_state_fits p c new u x y e = go (incompatible p (bit_or c new)) refl e
   where
-    go : (b : Bool) → incompatible p (bit_or c new) ≡ b → (if b then none else some (bit_or c new)) ≡ some u → StateFits p u
+    go : (b : Bool) → incompatible p (bit_or c new) ≡ b → (if b then None else Some (bit_or c new)) ≡ Some u → StateFits p u
     go true q e = absurd (let z : ◌≡◌ {A = ℕ} 0 1 = cc in omega arith)
     go false q e = let h : bit_or c new ≡ u = cc in rw h at (union_fits p c new x y q)
 
@@ -92,7 +92,7 @@ less_fits p s w k d c = record {
       (sym (and_or (less p.unknown s) (bit_and p.unknown s) p.complex) ∙ rw (split_bits s p.unknown) k)).0;
 }
 
-many_fits : (p : UsageFlags) (c new u : ℕ) → StateFits p c → StateFits p new → many_union p c new ≡ some u → StateFits p u
+many_fits : (p : UsageFlags) (c new u : ℕ) → StateFits p c → StateFits p new → many_union p c new ≡ Some u → StateFits p u
 unfolding many_union
 many_fits p c new u x y e = go (incompatible p w) refl (eqb w 0) refl e
   where
@@ -100,7 +100,7 @@ many_fits p c new u x y e = go (incompatible p w) refl (eqb w 0) refl e
     w = without p.unknown (bit_or c new)
 
     go : (b : Bool) → incompatible p w ≡ b → (z : Bool) → eqb w 0 ≡ z
-        → (if b then none else if z then some c else some w) ≡ some u → StateFits p u
+        → (if b then None else if z then Some c else Some w) ≡ Some u → StateFits p u
     go true q z r e = absurd (let z : ◌≡◌ {A = ℕ} 0 1 = cc in omega arith)
     go false q true r e = let h : c ≡ u = cc in rw h at x
     go false q false r e = let h : w ≡ u = cc in
@@ -129,14 +129,14 @@ all_tab : {A : Type 0} (P : A → Type 0) (f : ℕ → A) (k n : ℕ) → ((j : 
 all_tab P f k zero h = tt
 all_tab P f k (suc n) h = (h k, all_tab P f (suc k) n h)
 
-module _ (S : ℕ → Type 0) (f : ℕ → ℕ → Option ℕ) (keeps : (c new u : ℕ) → S c → S new → f c new ≡ some u → S u) where
+module _ (S : ℕ → Type 0) (f : ℕ → ℕ → Option ℕ) (keeps : (c new u : ℕ) → S c → S new → f c new ≡ Some u → S u) where
   state_keeps : (m l c : ℕ) (o : Option ℕ) → S c → AllO S o → S (unite_state f m l c o).value
-  state_keeps m l c none x y = x
-  state_keeps m l c (some new) x y = go (f c new) refl
+  state_keeps m l c None x y = x
+  state_keeps m l c (Some new) x y = go (f c new) refl
     where
       go : (o : Option ℕ) → f c new ≡ o → S (ruled {C = SubresourceConflict} c (record { mip = m; layer = l; old = c; new = new }) o).value
-      go none e = x
-      go (some u) e = keeps c new u x y e
+      go None e = x
+      go (Some u) e = keeps c new u x y e
 
   states_keep : (g : List (List ℕ)) (n : List (List (Option ℕ))) → GridAll S g → GridAll (AllO S) n → GridAll S (unite_states f g n).value
   states_keep g n a b =
@@ -161,12 +161,12 @@ merge_fits p sh s n a b =
     kept : (o : Option SubresourceConflict)
         → StatesFit p (or_keep o s
         (record { single = n.single; states = (unite_states (single_union p) s.states n.states).value })).value.states
-    kept none = states_keep (StateFits p) (single_union p) (single_state_fits p) s.states n.states a b
-    kept (some c) = a
+    kept None = states_keep (StateFits p) (single_union p) (single_state_fits p) s.states n.states a b
+    kept (Some c) = a
 
 or_else_fits : (p : UsageFlags) → FlagFacts p → (o : Option ℕ) → AllO (StateFits p) o → StateFits p (named_or p.unknown o)
-or_else_fits p s none t = unknown_fits p s
-or_else_fits p s (some x) t = t
+or_else_fits p s None t = unknown_fits p s
+or_else_fits p s (Some x) t = t
 
 pub insert_fits : (p : UsageFlags) (sh : Extent) (n : Named) → FlagFacts p → NamedFit p n.states
     → StatesFit p (grid_insert p sh n).states
@@ -175,14 +175,14 @@ insert_fits p sh n s t =
 
 end_fits : (p : UsageFlags) (c : ℕ) (o : Option ℕ) → StateFits p c → AllO (StateFits p) o → StateFits p (named_end p c o)
 unfolding end_state
-end_fits p c none x y = x
-end_fits p c (some new) x y = by_test (StateFits p) (not (eqb new p.unknown)) (λ b. y) (λ b. x)
+end_fits p c None x y = x
+end_fits p c (Some new) x y = by_test (StateFits p) (not (eqb new p.unknown)) (λ b. y) (λ b. x)
 
 start_fits : (p : UsageFlags) (s c : ℕ) (o : Option ℕ) → StateFits p s → StateFits p c → AllO (StateFits p) o
     → StateFits p (named_start p s c o)
 unfolding start_state
-start_fits p s c none w x y = w
-start_fits p s c (some new) w x y = by_test (StateFits p) (not (eqb new p.unknown) && eqb c p.unknown) (λ b. y) (λ b. w)
+start_fits p s c None w x y = w
+start_fits p s c (Some new) w x y = by_test (StateFits p) (not (eqb new p.unknown) && eqb c p.unknown) (λ b. y) (λ b. w)
 
 pub update_end_fits : (p : UsageFlags) (e : List (List ℕ)) (n : List (List (Option ℕ))) → StatesFit p e → NamedFit p n
     → StatesFit p (zip₂ (zip₂ (named_end p)) e n)
@@ -200,8 +200,8 @@ update_start_fits p s e n a b c =
 state_alike : (p : UsageFlags) (s e : ℕ) (o : Option ℕ) → eqb s p.unknown ≡ eqb e p.unknown
     → eqb (named_start p s e o) p.unknown ≡ eqb (named_end p e o) p.unknown
 unfolding start_state end_state
-state_alike p s e none h = h
-state_alike p s e (some new) h = go (eqb new p.unknown) refl (eqb e p.unknown) refl
+state_alike p s e None h = h
+state_alike p s e (Some new) h = go (eqb new p.unknown) refl (eqb e p.unknown) refl
   where
     go : (a : Bool) → eqb new p.unknown ≡ a → (b : Bool) → eqb e p.unknown ≡ b
         → eqb (if not a && b then new else s) p.unknown ≡ eqb (if not a then new else e) p.unknown
@@ -233,20 +233,20 @@ grid_alike p (x ∷ s) (y ∷ e) (z ∷ n) h =
 
 -- ---- what is handed in
 pub use_all : (P : ℕ → Type 0) (sh : Extent) (sel : Option Selector) (st : ℕ) → P st → GridAll (AllO P) (named_use sh sel st).states
-use_all P sh none st h = grid_everywhere (AllO P) sh (some st) h
-use_all P sh (some q) st h = all_tab (All (AllO P)) (named_row sh q st) 0 sh.mips
+use_all P sh None st h = grid_everywhere (AllO P) sh (Some st) h
+use_all P sh (Some q) st h = all_tab (All (AllO P)) (named_row sh q st) 0 sh.mips
     (λ j. by_test (All (AllO P)) (in_mips q j)
-    (λ b. all_join _ (replicate q.layers.start.0 none) _ (all_replicate _ none q.layers.start.0 tt)
-    (all_join _ (replicate (q.layers.end.0 - q.layers.start.0) (some st)) _
-    (all_replicate _ (some st) (q.layers.end.0 - q.layers.start.0) h) (all_replicate _ none (sh.layers - q.layers.end.0) tt)))
-    (λ b. all_replicate _ none sh.layers tt))
+    (λ b. all_join _ (replicate q.layers.start.0 None) _ (all_replicate _ None q.layers.start.0 tt)
+    (all_join _ (replicate (q.layers.end.0 - q.layers.start.0) (Some st)) _
+    (all_replicate _ (Some st) (q.layers.end.0 - q.layers.start.0) h) (all_replicate _ None (sh.layers - q.layers.end.0) tt)))
+    (λ b. all_replicate _ None sh.layers tt))
 
 pub use_fits_lem : (p : UsageFlags) (sh : Extent) (sel : Option Selector) (st : ℕ) → StateFits p st
     → NamedFit p (named_use sh sel st).states
 use_fits_lem p sh sel st h = use_all (StateFits p) sh sel st h
 
 pub pass_fits : (p : UsageFlags) (s : Grid) → StatesFit p s.states → NamedFit p (named_all s).states
-pass_fits p s t = grid_map (StateFits p) (AllO (StateFits p)) some (λ c x. x) s.states t
+pass_fits p s t = grid_map (StateFits p) (AllO (StateFits p)) Some (λ c x. x) s.states t
 
-pub insert_back : (u : ℕ) (g : List (List ℕ)) → map (map (named_or u)) (map (map some) g) ≡ g
-insert_back u = grid_back some (named_or u) (λ c. refl)
+pub insert_back : (u : ℕ) (g : List (List ℕ)) → map (map (named_or u)) (map (map Some) g) ≡ g
+insert_back u = grid_back Some (named_or u) (λ c. refl)

@@ -1,6 +1,6 @@
 -- The strict assertions of the Rust's texture.rs that the six calls reach, as tests over the ranged model; numbers in comments are lines of
 -- texture.rs. (range.rs asserts in its tests alone.) Each test says at least what the assertion says wherever a call reaches it.
-use Rattle.model.specs.Prelude.{ℕ, suc, Bool, true, false, not, Option, none, some, List, [], leb, ltb, eqb, length, get_elem?}
+use Rattle.model.specs.Prelude.{ℕ, suc, Bool, true, false, not, Option, None, Some, List, [], leb, ltb, eqb, length, slice_get}
 use Rattle.model.specs.{declared.{Extent.Extent, Range.Range, Refusal.Refusal, Selector.Selector, UsageFlags.UsageFlags}, Base.every}
 use Rattle.model.specs.Representation.{mip_start, mip_end, layer_start, layer_end, full, Ends}
 use Rattle.model.specs.{Sets.{Slot, Set, Tracker, head_of, slot_at}, Refusals.{single_refusal, set_refusal, sparse_refusal}}
@@ -110,8 +110,8 @@ in_bounds i l = ltb i (length l)
 
 -- a call that is turned away reaches none
 abbrev pub unless_refused : Option Refusal → Bool → Bool
-unless_refused none b = b
-unless_refused (some r) b = true
+unless_refused None b = b
+unless_refused (Some r) b = true
 
 -- at each index that a given set owns: past the end of the set's own slots an owned one breaks the bounds
 abbrev pub each_owned : {H G : Type 0} → (Slot H → Slot G → Bool) → List (Slot H) → List (Slot G) → Bool
@@ -141,33 +141,33 @@ sparse_asserts (i ∷ is) ts =
 
 -- with the sets that a call names, if they are there
 abbrev pub if_there : {X : Type 0} → Option X → (X → Bool) → Bool
-if_there none f = true
-if_there (some x) f = f x
+if_there None f = true
+if_there (Some x) f = f x
 
 -- and with two
 abbrev pub if_both : {X Y : Type 0} → Option X → Option Y → (X → Y → Bool) → Bool
-if_both none y f = true
-if_both (some x) none f = true
-if_both (some x) (some y) f = f x y
+if_both None y f = true
+if_both (Some x) None f = true
+if_both (Some x) (Some y) f = f x y
 
 -- ---- The six calls
 abbrev pub call_asserts : Call → Sets ranged → Bool
 call_asserts (call_merge_single n i sh sel st) k =
-    if_there (get_elem? k.scopes n) (λ s. unless_refused (single_refusal (head_of s) i.0 sh sel st)
+    if_there (slice_get k.scopes n) (λ s. unless_refused (single_refusal (head_of s) i.0 sh sel st)
     (in_bounds i.0 s.slots && scope_asserts s.flags sh (from_use sh sel st) (slot_at (ranged.fresh 0) s i.0)))
 call_asserts (call_merge_usage_scope n m) k =
-    if eqb n m then true else if_both (get_elem? k.scopes n) (get_elem? k.scopes m) (λ s g.
+    if eqb n m then true else if_both (slice_get k.scopes n) (slice_get k.scopes m) (λ s g.
     unless_refused (set_refusal (head_of s) (head_of g))
     (each_owned (λ x y. scope_asserts s.flags y.extent (from_held y.held) x) s.slots g.slots))
 call_asserts (call_set_single n i sh sel st) k =
-    if_there (get_elem? k.trackers n) (λ t. unless_refused (single_refusal (head_of t.set) i.0 sh (some sel) st)
-    (in_bounds i.0 t.set.slots && tracker_asserts t.set.flags sh (from_use sh (some sel) st) (from_use sh (some sel) st) (slot_at
+    if_there (slice_get k.trackers n) (λ t. unless_refused (single_refusal (head_of t.set) i.0 sh (Some sel) st)
+    (in_bounds i.0 t.set.slots && tracker_asserts t.set.flags sh (from_use sh (Some sel) st) (from_use sh (Some sel) st) (slot_at
     (no_ends ranged) t.set i.0)))
-call_asserts (call_set_from_usage_scope n m) k = if_both (get_elem? k.trackers n) (get_elem? k.scopes m)
+call_asserts (call_set_from_usage_scope n m) k = if_both (slice_get k.trackers n) (slice_get k.scopes m)
     (λ t g. set_asserts from_held from_held t g)
 call_asserts (call_set_from_tracker n m) k =
-    if eqb n m then true else if_both (get_elem? k.trackers n) (get_elem? k.trackers m)
+    if eqb n m then true else if_both (slice_get k.trackers n) (slice_get k.trackers m)
     (λ t g. set_asserts (λ (e : Ends Held). from_held e.start) (λ (e : Ends Held). from_held e.end) t g.set)
 call_asserts (call_set_and_remove_sparse n m is) k =
-    if_both (get_elem? k.trackers n) (get_elem? k.scopes m) (λ t s. unless_refused (sparse_refusal (head_of t.set) (head_of s) is)
+    if_both (slice_get k.trackers n) (slice_get k.scopes m) (λ t s. unless_refused (sparse_refusal (head_of t.set) (head_of s) is)
     (every (listed_in_bounds t s) is && sparse_asserts is (t, s)))

@@ -2,7 +2,7 @@
 -- grid, cell for a subresource, mark for the flag `single`, whole and parted for Single and Many, clash for a conflict, shape for an
 -- extent.
 use Rattle.std.specs.Prelude.{◌-◌, ◌&&◌, ◌∷◌, ◌++◌, if◌then◌else◌}
-use Rattle.model.specs.Prelude.{ℕ, zero, suc, Bool, true, false, not, Option, none, some, List, [], map, eqb, bit_and}
+use Rattle.model.specs.Prelude.{ℕ, zero, suc, Bool, true, false, not, Option, None, Some, List, [], map, eqb, bit_and}
 use Rattle.model.specs.Prelude.{bit_or, bit_xor, replicate}
 use Rattle.model.specs.declared.{Extent.Extent, Selector.Selector, UsageFlags.UsageFlags}
 use Rattle.model.specs.{Base.{Stop, fine, ruled, or_keep, walk₂, zip₂, zip₃}, Flags.incompatible}
@@ -30,16 +30,16 @@ tab f k (suc n) = f k ∷ tab f (suc k) n
 
 -- mip k of a selector's use
 abbrev pub named_row : Extent → Selector → ℕ → ℕ → List (Option ℕ)
-named_row sh q st k = if in_mips q k then band (layer_start q) (layer_end q) sh.layers (some st) none else replicate sh.layers none
+named_row sh q st k = if in_mips q k then band (layer_start q) (layer_end q) sh.layers (Some st) None else replicate sh.layers None
 
 -- "A use is *whole* if no selector is given or it equals the full shape, otherwise *parted*."
 abbrev pub named_use : Extent → Option Selector → ℕ → Named
-named_use sh none st = record { single = true; states = everywhere sh (some st) }
-named_use sh (some q) st = record { single = is_full sh q; states = tab (named_row sh q st) 0 sh.mips }
+named_use sh None st = record { single = true; states = everywhere sh (Some st) }
+named_use sh (Some q) st = record { single = is_full sh q; states = tab (named_row sh q st) 0 sh.mips }
 
 -- "A set passes on its own mark and all its cells."
 abbrev pub named_all : Grid → Named
-named_all s = record { single = s.single; states = map (map some) s.states }
+named_all s = record { single = s.single; states = map (map Some) s.states }
 
 -- ---- The rules for one subresource, from 01's words; they share nothing with the Rust's
 -- "less UNKNOWN"
@@ -49,13 +49,13 @@ without bits s = bit_xor s (bit_and s bits)
 -- "A union .. that is incompatible is a clash"; "Whole with whole: union"; "Whole with parted: named cells take the union, UNKNOWN left in"
 unfoldable pub single_union : UsageFlags → ℕ → ℕ → Option ℕ
 unfolding incompatible
-single_union p old new = if incompatible p (bit_or old new) then none else some (bit_or old new)
+single_union p old new = if incompatible p (bit_or old new) then None else Some (bit_or old new)
 
 -- "Parted with either: union less UNKNOWN, a cell left empty keeps its state"
 unfoldable pub many_union : UsageFlags → ℕ → ℕ → Option ℕ
 unfolding incompatible without
 many_union p old new =
-    let u = without p.unknown (bit_or old new) in if incompatible p u then none else if eqb u 0 then some old else some u
+    let u = without p.unknown (bit_or old new) in if incompatible p u then None else if eqb u 0 then Some old else Some u
 
 -- "A transition is skipped when old equals new and the mask contains old."
 unfoldable pub skipped : ℕ → ℕ → ℕ → Bool
@@ -65,8 +65,8 @@ skipped mask old new = eqb old new && eqb (bit_and old mask) old
 unfoldable pub transition : UsageFlags → ℕ → ℕ → ℕ → Option Move
 unfolding skipped
 transition p mask end start =
-    if eqb end p.unknown then none else if eqb start p.unknown then none else if skipped mask end start then none
-    else some (record { old = end; new = start })
+    if eqb end p.unknown then None else if eqb start p.unknown then None else if skipped mask end start then None
+    else Some (record { old = end; new = start })
 
 -- "a given end that is not UNKNOWN replaces the end"
 unfoldable pub end_state : UsageFlags → ℕ → ℕ → ℕ
@@ -79,8 +79,8 @@ start_state p start end new = if not (eqb new p.unknown) && eqb end p.unknown th
 -- ---- Insert
 -- what is named, or else d
 abbrev pub named_or : {A : Type 0} → A → Option A → A
-named_or d none = d
-named_or d (some x) = x
+named_or d None = d
+named_or d (Some x) = x
 
 -- "Unowned: named cells take their states, the rest UNKNOWN, the mark follows the use."
 abbrev pub grid_insert : UsageFlags → Extent → Named → Grid
@@ -96,8 +96,8 @@ pub record SubresourceConflict : Type 0 where
 
 -- a subresource that is not named stays; a named one takes the union f, or conflicts
 abbrev pub unite_state : (ℕ → ℕ → Option ℕ) → ℕ → ℕ → ℕ → Option ℕ → Stop SubresourceConflict ℕ
-unite_state f m l c none = fine c
-unite_state f m l c (some new) = ruled c (record { mip = m; layer = l; old = c; new = new }) (f c new)
+unite_state f m l c None = fine c
+unite_state f m l c (Some new) = ruled c (record { mip = m; layer = l; old = c; new = new }) (f c new)
 
 -- "Cells go mip first, then layer."
 abbrev pub unite_states : (ℕ → ℕ → Option ℕ) → List (List ℕ) → List (List (Option ℕ)) → Stop SubresourceConflict (List (List ℕ))
@@ -117,8 +117,8 @@ grid_merge p sh s g =
 
 -- ---- Tracker: "Owned: a named cell gets one transition", the others none
 abbrev pub named_transition : UsageFlags → ℕ → ℕ → Option ℕ → Option Move
-named_transition p mask c none = none
-named_transition p mask c (some new) = transition p mask c new
+named_transition p mask c None = None
+named_transition p mask c (Some new) = transition p mask c new
 
 -- the transitions of a call on one texture, subresource by subresource
 unfoldable pub grid_barrier : UsageFlags → ℕ → Extent → Grid → Named → List (List (Option Move))
@@ -127,13 +127,13 @@ grid_barrier p mask sh s g = zip₂ (zip₂ (named_transition p mask)) s.states 
 
 -- "Then a given end that is not UNKNOWN replaces the end", where the subresource is named
 abbrev pub named_end : UsageFlags → ℕ → Option ℕ → ℕ
-named_end p c none = c
-named_end p c (some new) = end_state p c new
+named_end p c None = c
+named_end p c (Some new) = end_state p c new
 
 -- and the start, by the end before it
 abbrev pub named_start : UsageFlags → ℕ → ℕ → Option ℕ → ℕ
-named_start p start c none = start
-named_start p start c (some new) = start_state p start c new
+named_start p start c None = start
+named_start p start c (Some new) = start_state p start c new
 
 -- "The end mark follows the use, in a join its given end; the start mark stays."
 abbrev pub grid_update : UsageFlags → Extent → Ends Grid → Named → Ends Grid

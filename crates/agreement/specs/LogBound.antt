@@ -1,7 +1,7 @@
 -- How many entries a call adds to the log, and how many subresources it names; demand 3: "Before each call the logs are emptied and given a
 -- free entry for every cell.".
 use Rattle.std.specs.Prelude.{◌+◌, ◌*◌, ◌∷◌, if◌then◌else◌}
-use Rattle.model.specs.Prelude.{ℕ, zero, suc, Bool, true, false, Option, none, some, List, [], eqb, length, get_elem?}
+use Rattle.model.specs.Prelude.{ℕ, zero, suc, Bool, true, false, Option, None, Some, List, [], eqb, length, slice_get}
 use Rattle.model.specs.{declared.Extent.Extent, Representation.holds, Sets.{Slot, Set, Tracker, capacity}}
 use Rattle.model.specs.Calls.{Indexed, Sets, Call, call_merge_single, call_merge_usage_scope, call_set_single, call_set_from_usage_scope}
 use Rattle.model.specs.{Calls.{call_set_from_tracker, call_set_and_remove_sparse}, Texture.{Held, Entry, ranged}}
@@ -49,42 +49,42 @@ listed_states is k (s ∷ l) = (if listed k is then slot_states s else 0) + list
 
 -- of a set that is there
 abbrev pub of_scope : (Set Held → ℕ) → Option (Set Held) → ℕ
-of_scope f none = 0
-of_scope f (some s) = f s
+of_scope f None = 0
+of_scope f (Some s) = f s
 
 -- of a tracker that is there: all that it owns
 abbrev pub of_tracker : Option (Tracker Held) → ℕ
-of_tracker none = 0
-of_tracker (some t) = owned_states t.set.slots
+of_tracker None = 0
+of_tracker (Some t) = owned_states t.set.slots
 
 -- the subresources that a tracker call names; the merges write no log
 abbrev pub named_states : Call → Sets ranged → ℕ
 named_states (call_merge_single n i sh sel st) k = 0
 named_states (call_merge_usage_scope n m) k = 0
 named_states (call_set_single n i sh sel st) k = count_states sh (holds sel)
-named_states (call_set_from_usage_scope n m) k = of_scope (λ s. owned_states s.slots) (get_elem? k.scopes m)
-named_states (call_set_from_tracker n m) k = of_tracker (get_elem? k.trackers m)
-named_states (call_set_and_remove_sparse n m is) k = of_scope (λ s. listed_states is 0 s.slots) (get_elem? k.scopes m)
+named_states (call_set_from_usage_scope n m) k = of_scope (λ s. owned_states s.slots) (slice_get k.scopes m)
+named_states (call_set_from_tracker n m) k = of_tracker (slice_get k.trackers m)
+named_states (call_set_and_remove_sparse n m is) k = of_scope (λ s. listed_states is 0 s.slots) (slice_get k.scopes m)
 
 -- N × M × W of the tracker that a call writes into: a subresource for each
 abbrev pub tracker_capacity : Option (Tracker Held) → ℕ
-tracker_capacity none = 0
-tracker_capacity (some t) = capacity t.set.numbers
+tracker_capacity None = 0
+tracker_capacity (Some t) = capacity t.set.numbers
 
 -- of each call
 abbrev pub capacity_of : Call → Sets ranged → ℕ
 capacity_of (call_merge_single n i sh sel st) k = 0
 capacity_of (call_merge_usage_scope n m) k = 0
-capacity_of (call_set_single n i sh sel st) k = tracker_capacity (get_elem? k.trackers n)
-capacity_of (call_set_from_usage_scope n m) k = tracker_capacity (get_elem? k.trackers n)
-capacity_of (call_set_from_tracker n m) k = tracker_capacity (get_elem? k.trackers n)
-capacity_of (call_set_and_remove_sparse n m is) k = tracker_capacity (get_elem? k.trackers n)
+capacity_of (call_set_single n i sh sel st) k = tracker_capacity (slice_get k.trackers n)
+capacity_of (call_set_from_usage_scope n m) k = tracker_capacity (slice_get k.trackers n)
+capacity_of (call_set_from_tracker n m) k = tracker_capacity (slice_get k.trackers n)
+capacity_of (call_set_and_remove_sparse n m is) k = tracker_capacity (slice_get k.trackers n)
 
 -- the subresources of the textures that the tracker which a call writes into owns before it: no other has a transition
 abbrev pub owned_of : Call → Sets ranged → ℕ
 owned_of (call_merge_single n i sh sel st) k = 0
 owned_of (call_merge_usage_scope n m) k = 0
-owned_of (call_set_single n i sh sel st) k = of_tracker (get_elem? k.trackers n)
-owned_of (call_set_from_usage_scope n m) k = of_tracker (get_elem? k.trackers n)
-owned_of (call_set_from_tracker n m) k = of_tracker (get_elem? k.trackers n)
-owned_of (call_set_and_remove_sparse n m is) k = of_tracker (get_elem? k.trackers n)
+owned_of (call_set_single n i sh sel st) k = of_tracker (slice_get k.trackers n)
+owned_of (call_set_from_usage_scope n m) k = of_tracker (slice_get k.trackers n)
+owned_of (call_set_from_tracker n m) k = of_tracker (slice_get k.trackers n)
+owned_of (call_set_and_remove_sparse n m is) k = of_tracker (slice_get k.trackers n)

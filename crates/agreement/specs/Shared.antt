@@ -1,7 +1,7 @@
 -- What the ranged and the grid representation share: of one texture, after one call, and demand 3, after each call of a list on sets newly
 -- opened alike.
 use Rattle.std.specs.Prelude.{◌≤◌, ◌≡◌, ◌&&◌, ◌∷◌, if◌then◌else◌}
-use Rattle.model.specs.Prelude.{ℕ, Bool, true, false, Option, none, some, Option_map, List, [], map, eqb, get_or, length}
+use Rattle.model.specs.Prelude.{ℕ, Bool, true, false, Option, None, Some, option_map, List, [], map, eqb, get_or, length}
 use Rattle.model.specs.declared.{Extent.Extent, InvalidUse.InvalidUse, Selector.Selector, UsageFlags.UsageFlags}
 use Rattle.model.specs.{Base.{each}, Representation.{mip_start, layer_start, holds, Ends, Representation}}
 use Rattle.model.specs.{Sets.{Slot, Set, Tracker, Opening}, Refusals.{first_failing, accepted, selector_checks}}
@@ -63,7 +63,7 @@ pub record Owned (A : Type 0) : Type 0 where
 
 -- of an index that is owned
 abbrev pub seen_slot : {H A : Type 0} → (Extent → H → A) → Slot H → Option (Owned A)
-seen_slot v x = if x.owned then some (record { extent = x.extent; what = v x.extent x.held }) else none
+seen_slot v x = if x.owned then Some (record { extent = x.extent; what = v x.extent x.held }) else None
 
 -- of every index of a set
 abbrev pub seen : {H A : Type 0} → (Extent → H → A) → Set H → List (Option (Owned A))
@@ -76,8 +76,8 @@ itself sh h = h
 -- ---- "each cell's transition": "A log entry is a transition of each cell in its mips and layers."
 -- none or one
 abbrev pub to_list : {A : Type 0} → Option A → List A
-to_list none = []
-to_list (some x) = x ∷ []
+to_list None = []
+to_list (Some x) = x ∷ []
 
 -- the transitions of a subresource, mip m and layer l, among a texture's entries
 abbrev pub entries_at : ℕ → ℕ → List Entry → List Move
@@ -85,7 +85,7 @@ entries_at m l es = each (λ (e : Entry). if holds e.selector m l then e.move �
 
 -- and on the grid
 abbrev pub grid_at : ℕ → ℕ → List (List (Option Move)) → List Move
-grid_at m l rows = to_list (get_or (get_or rows m []) l none)
+grid_at m l rows = to_list (get_or (get_or rows m []) l None)
 
 -- what a log tells of index i
 abbrev pub of_index : {A B : Type 0} → ℕ → (A → List B) → List (Indexed A) → List B
@@ -133,7 +133,7 @@ pub record TextureShares (p : UsageFlags) (sh : Extent) (u : Use) : Type 0 where
   pub merged : (h : Held) → held_fits p sh h ≡ true
       → grid_of sh (merge p sh h (ranged_use sh u)).value ≡ (grid_merge p sh (grid_of sh h) (grid_use sh u)).value
   pub conflict : (h : Held) → held_fits p sh h ≡ true
-      → Option_map first_of (merge p sh h (ranged_use sh u)).conflict ≡ (grid_merge p sh (grid_of sh h) (grid_use sh u)).conflict
+      → option_map first_of (merge p sh h (ranged_use sh u)).conflict ≡ (grid_merge p sh (grid_of sh h) (grid_use sh u)).conflict
   pub merged_fits : (h : Held) → held_fits p sh h ≡ true → held_fits p sh (merge p sh h (ranged_use sh u)).value ≡ true
   -- of the entries, those that hold a subresource are the grid's one, or none
   pub logged : (mask : ℕ) (e : Ends Held) → ends_fit p sh e ≡ true → (m l : ℕ)

@@ -2,7 +2,7 @@
 -- scope has taken and keeps. The specification's words below are of its text of 2025, section 3.4, "Resource Usages" and "Synchronization"
 -- (usage scopes), written down without the document at hand, and held against an implementation: tests/webgpu, docs/DIFFERENCES.md.
 use Rattle.std.specs.Prelude.{◌+◌, ◌≤◌, ◌<◌, ◌≡◌, ◌&&◌, ◌||◌, ◌∷◌, ◌++◌, if◌then◌else◌}
-use Rattle.model.specs.Prelude.{ℕ, Bool, true, false, not, Option, none, some, Option_map, List, []}
+use Rattle.model.specs.Prelude.{ℕ, Bool, true, false, not, Option, None, Some, option_map, List, []}
 use Rattle.model.specs.Prelude.{map, eqb, bit_and, get_or}
 use Rattle.model.specs.declared.{Extent.Extent, Selector.Selector, UsageFlags.UsageFlags}
 use Rattle.model.specs.{Base.{every, Stop, fine, ruled, or_keep, walk₂}, Flags.{meets, one_bit}}
@@ -140,11 +140,11 @@ one_use st = record { state = st; uses = st ∷ [] }
 
 -- to each subresource that it names
 abbrev pub hand_use : Extent → Option Selector → ℕ → HandedIn
-hand_use sh sel st = record { single = (named_use sh sel st).single; states = map (map (Option_map one_use)) (named_use sh sel st).states }
+hand_use sh sel st = record { single = (named_use sh sel st).single; states = map (map (option_map one_use)) (named_use sh sel st).states }
 
 -- a set passes on its subresources, with all that they have taken
 abbrev pub hand_all : Histories → HandedIn
-hand_all s = record { single = s.single; states = map (map some) s.states }
+hand_all s = record { single = s.single; states = map (map Some) s.states }
 
 -- as the grid's insert; the rest has taken none
 abbrev pub history_insert : UsageFlags → Extent → HandedIn → Histories
@@ -152,10 +152,10 @@ history_insert p sh g = record { single = g.single; states = map (map (named_or 
 
 -- a subresource that takes the union takes the uses
 abbrev pub take_state : (ℕ → ℕ → Option ℕ) → ℕ → ℕ → History → Option History → Stop SubresourceConflict History
-take_state f m l c none = fine c
-take_state f m l c (some g) =
+take_state f m l c None = fine c
+take_state f m l c (Some g) =
     ruled c (record { mip = m; layer = l; old = c.state; new = g.state })
-    (Option_map (λ u. record { state = u; uses = c.uses ++ g.uses }) (f c.state g.state))
+    (option_map (λ u. record { state = u; uses = c.uses ++ g.uses }) (f c.state g.state))
 
 -- mip first, then layer
 abbrev pub take_states : (ℕ → ℕ → Option ℕ) → List (List History) → List (List (Option History))
@@ -179,7 +179,7 @@ states_of t = record { single = t.single; states = map (map (λ (c : History). c
 
 -- what is handed in, without the uses
 abbrev pub named : HandedIn → Named
-named g = record { single = g.single; states = map (map (Option_map (λ (c : History). c.state))) g.states }
+named g = record { single = g.single; states = map (map (option_map (λ (c : History). c.state))) g.states }
 
 -- trackers keep no uses: a grid with none
 abbrev pub bare : Grid → Histories
@@ -218,8 +218,8 @@ uses_at s i m l =
 
 -- the subresources that a use names
 abbrev pub Names : Extent → Option Selector → ℕ → ℕ → Type 0
-Names sh none m l = (m < sh.mips) × (l < sh.layers)
-Names sh (some q) m l = (q.mips.start.0 ≤ m) × (m < q.mips.end.0) × (q.layers.start.0 ≤ l) × (l < q.layers.end.0)
+Names sh None m l = (m < sh.mips) × (l < sh.layers)
+Names sh (Some q) m l = (q.mips.start.0 ≤ m) × (m < q.mips.end.0) × (q.layers.start.0 ≤ l) × (l < q.layers.end.0)
 
 -- a call answers with a conflict
 abbrev pub InConflict : {C : Type 0} → Answer C → Type 0

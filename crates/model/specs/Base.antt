@@ -1,6 +1,6 @@
 -- Words that every definition uses: lists made element by element, and a walk that stops.
 use Rattle.std.specs.Prelude.{◌&&◌, ◌∷◌, ◌++◌}
-use Rattle.model.specs.Prelude.{ℕ, suc, Bool, true, false, Option, none, some, List, []}
+use Rattle.model.specs.Prelude.{ℕ, suc, Bool, true, Option, None, Some, List, []}
 
 -- ---- Lists, element by element
 -- what each element makes, one after the other
@@ -51,26 +51,26 @@ pub record Stop (C A : Type 0) : Type 0 where
 
 -- a walk that met no conflict
 abbrev pub fine : {C A : Type 0} → A → Stop C A
-fine a = record { value = a; conflict = none }
+fine a = record { value = a; conflict = None }
 
 -- a walk that a conflict stopped
 abbrev pub stopped : {C A : Type 0} → A → C → Stop C A
-stopped a c = record { value = a; conflict = some c }
+stopped a c = record { value = a; conflict = Some c }
 
 -- what a rule makes of a thing: it anew, or as it was with a conflict
 abbrev pub ruled : {C A : Type 0} → A → C → Option A → Stop C A
-ruled was c none = stopped was c
-ruled was c (some x) = fine x
+ruled was c None = stopped was c
+ruled was c (Some x) = fine x
 
 -- one thing after another, unless the first met a conflict
 abbrev pub and_then : {C A : Type 0} → Option C → A → Stop C A → Stop C A
-and_then none x next = next
-and_then (some c) x next = stopped x c
+and_then None x next = next
+and_then (Some c) x next = stopped x c
 
 -- on a conflict it is as it was
 abbrev pub or_keep : {C A : Type 0} → Option C → A → A → Stop C A
-or_keep none was x = fine x
-or_keep (some c) was x = stopped was c
+or_keep None was x = fine x
+or_keep (Some c) was x = stopped was c
 
 -- one thing that takes several in turn
 abbrev pub passes : {C Q S : Type 0} → (Q → S → Stop C S) → List Q → S → Stop C S
@@ -79,8 +79,8 @@ passes f (q ∷ qs) s = let w = f q s in and_then w.conflict w.value (passes f q
 
 -- the rest of a list, `worked` on or as it `was`
 abbrev pub onward : {C A : Type 0} → A → Option C → List A → Stop C (List A) → Stop C (List A)
-onward x none was worked = record { value = x ∷ worked.value; conflict = worked.conflict }
-onward x (some c) was worked = record { value = x ∷ was; conflict = some c }
+onward x None was worked = record { value = x ∷ worked.value; conflict = worked.conflict }
+onward x (Some c) was worked = record { value = x ∷ was; conflict = Some c }
 
 -- each element in turn, with its position, up to the first conflict
 abbrev pub walk : {C A : Type 0} → (ℕ → A → Stop C A) → ℕ → List A → Stop C (List A)
@@ -100,5 +100,5 @@ All P (x ∷ s) = P x × All P s
 
 -- what is there has it
 abbrev pub AllO : {A : Type 0} → (A → Type 0) → Option A → Type 0
-AllO P none = Unit {0}
-AllO P (some x) = P x
+AllO P None = Unit {0}
+AllO P (Some x) = P x

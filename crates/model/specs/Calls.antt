@@ -1,6 +1,6 @@
 -- The six calls on sets, written once over a representation of one texture, and any number of scopes and trackers.
 use Rattle.std.specs.Prelude.{◌∷◌, ◌++◌, if◌then◌else◌}
-use Rattle.model.specs.Prelude.{ℕ, true, false, Option, none, some, Option_map, List, [], eqb, set, get_elem?}
+use Rattle.model.specs.Prelude.{ℕ, true, false, Option, None, Some, option_map, List, [], eqb, set, slice_get}
 use Rattle.model.specs.declared.{UsageFlags.UsageFlags, Extent.Extent, Selector.Selector, TrackerIndex.TrackerIndex, Refusal.Refusal}
 use Rattle.model.specs.{Base.{each, each_at₂, over₂, Stop, fine, walk₂}, Representation.{Ends, Representation}}
 use Rattle.model.specs.Sets.{Slot, Set, Tracker, slot_at, with_slots, with_tracker, head_of, Opening, open_set, open_tracker}
@@ -20,8 +20,8 @@ pub data Answer (C : Type 0) : Type 0 where
 
 -- the answer of a call that is not refused: done, or the conflict that it met
 abbrev pub answer : {C : Type 0} → Option (Indexed C) → Answer C
-answer none = done
-answer (some c) = in_conflict c
+answer None = done
+answer (Some c) = in_conflict c
 
 -- its answer, what it adds to the log, and what it was handed as it is afterwards
 pub record CallResult (C L X : Type 0) : Type 0 where
@@ -35,8 +35,8 @@ turned_away r x = record { answer = refused r; log = []; after = x }
 
 -- what a call gives, unless its checks refuse it
 abbrev pub unless : {C L X : Type 0} → Option Refusal → X → CallResult C L X → CallResult C L X
-unless (some r) was out = turned_away r was
-unless none was out = out
+unless (Some r) was out = turned_away r was
+unless None was out = out
 
 -- ---- The calls of demand 3, on sets by their positions: into the first, from the second
 -- "the two merges and the four tracker calls of file 4, with any arguments"
@@ -67,7 +67,7 @@ module _ (K : Representation) where
   merge_slot p sh g i s =
       if s.owned then
       (let w = K.merge p sh s.held g in
-      record { value = owning sh w.value; conflict = Option_map (λ c. record { index = i; what = c }) w.conflict })
+      record { value = owning sh w.value; conflict = option_map (λ c. record { index = i; what = c }) w.conflict })
       else fine (owning sh (K.insert p sh g))
 
   -- `TextureUsageScope::merge_single`
@@ -106,8 +106,8 @@ module _ (K : Representation) where
   -- `TextureTracker::set_single`
   abbrev pub set_single : Tracker K.Held → ℕ → Extent → Selector → ℕ → Result (Tracker K.Held)
   set_single t i sh sel st =
-      let p = t.set.flags in let g = K.use_of sh (some sel) st in let s = slot_at no_ends t.set i in
-      unless (single_refusal (head_of t.set) i sh (some sel) st) t
+      let p = t.set.flags in let g = K.use_of sh (Some sel) st in let s = slot_at no_ends t.set i in
+      unless (single_refusal (head_of t.set) i sh (Some sel) st) t
       (record { answer = done; log = log_slot p t.mask sh g i s; after = with_tracker t (set t.set.slots i (set_slot p sh g g s)) })
 
   -- every index that a given set owns; `from` and `to` are what its slot hands in as start and end
@@ -189,33 +189,33 @@ module _ (K : Representation) where
 
   -- a call on a set, if it is there
   abbrev pub with₁ : {X : Type 0} → Sets → Option X → (X → Result Sets) → Result Sets
-  with₁ k none f = nothing k
-  with₁ k (some x) f = f x
+  with₁ k None f = nothing k
+  with₁ k (Some x) f = f x
 
   -- a call on two sets, if both are there
   abbrev pub with₂ : {X Y : Type 0} → Sets → Option X → Option Y → (X → Y → Result Sets) → Result Sets
-  with₂ k none y f = nothing k
-  with₂ k (some x) none f = nothing k
-  with₂ k (some x) (some y) f = f x y
+  with₂ k None y f = nothing k
+  with₂ k (Some x) None f = nothing k
+  with₂ k (Some x) (Some y) f = f x y
 
   -- a call of the list, on the sets at the positions that it names
   unfoldable pub step : Call → Sets → Result Sets
   unfolding first_failing
   step (call_merge_single n i sh sel st) k =
-      with₁ k (get_elem? k.scopes n) (λ s. into (merge_single s i.0 sh sel st) (λ x. with_scopes k (set k.scopes n x)))
+      with₁ k (slice_get k.scopes n) (λ s. into (merge_single s i.0 sh sel st) (λ x. with_scopes k (set k.scopes n x)))
   step (call_merge_usage_scope n m) k =
-      if eqb n m then nothing k else with₂ k (get_elem? k.scopes n) (get_elem? k.scopes m)
+      if eqb n m then nothing k else with₂ k (slice_get k.scopes n) (slice_get k.scopes m)
       (λ s g. into (merge_usage_scope s g) (λ x. with_scopes k (set k.scopes n x)))
   step (call_set_single n i sh sel st) k =
-      with₁ k (get_elem? k.trackers n) (λ t. into (set_single t i.0 sh sel st) (λ x. with_trackers k (set k.trackers n x)))
+      with₁ k (slice_get k.trackers n) (λ t. into (set_single t i.0 sh sel st) (λ x. with_trackers k (set k.trackers n x)))
   step (call_set_from_usage_scope n m) k =
-      with₂ k (get_elem? k.trackers n) (get_elem? k.scopes m)
+      with₂ k (slice_get k.trackers n) (slice_get k.scopes m)
       (λ t g. into (set_from_usage_scope t g) (λ x. with_trackers k (set k.trackers n x)))
   step (call_set_from_tracker n m) k =
-      if eqb n m then nothing k else with₂ k (get_elem? k.trackers n) (get_elem? k.trackers m)
+      if eqb n m then nothing k else with₂ k (slice_get k.trackers n) (slice_get k.trackers m)
       (λ t g. into (set_from_tracker t g) (λ x. with_trackers k (set k.trackers n x)))
   step (call_set_and_remove_sparse n m is) k =
-      with₂ k (get_elem? k.trackers n) (get_elem? k.scopes m)
+      with₂ k (slice_get k.trackers n) (slice_get k.scopes m)
       (λ t s. into (set_and_remove_sparse t s is) (λ x. record { scopes = set k.scopes m x.1; trackers = set k.trackers n x.0 }))
 
   -- ---- Newly opened: what the checks refuse makes no set

@@ -1,19 +1,18 @@
 -- Lists of checks one after another; what passed checks show of a selector, of a state and of a use; what the tests of numbers, extents
 -- and flags decide; and that a number and a place tell a refusal.
 use Rattle.std.specs.Prelude.{◌<◌, ◌≤◌, ◌≡◌, ◌||◌, ◌∷◌, ◌++◌, if◌then◌else◌}
-use Rattle.model.specs.Prelude.{ℕ, arith, refl, sym, ap, ◌∙◌, Bool, true, false, and-eq-true_iff, false≢true}
-use Rattle.model.specs.Prelude.{Option, none, some, List, [], ltb, eqb, eqb-true, eqb-false, ltb-false, not-false}
+use Rattle.model.specs.Prelude.{ℕ, arith, refl, sym, ap, ◌∙◌, Bool, true, false, and-eq-true_iff, false≢true, result_err, Ok, Err}
+use Rattle.model.specs.Prelude.{Option, None, Some, List, [], ltb, eqb, eqb-true, eqb-false, ltb-false, not-false}
 use Rattle.model.specs.declared.Refusal.TheVariants.{NumbersOutOfLimits, FlagsBreakRule, ShortRoom, NotWellFormed, LogTooShort}
 use Rattle.model.specs.declared.Refusal.TheVariants.{FlagsDiffer, NoSuchIndex, ExtentOutOfLimits, ExtentDiffers, MipsEmpty}
 use Rattle.model.specs.declared.Refusal.TheVariants.{MipsReversed, LayersEmpty, LayersReversed, SelectorPastExtent, StateReserved}
 use Rattle.model.specs.declared.Refusal.TheVariants.{StateIncompatible, RangesOutOfOrder, LogOutOfOrder, FieldCutShort, UnknownTag}
 use Rattle.model.specs.declared.Refusal.TheVariants.{UseOfWrongSize, GroupsTooDeep, PlanUnbalanced, GroupTooLong, NoFreeEntry}
-use Rattle.model.specs.declared.Verdict.TheVariants.{Accepted, Refused}
-use Rattle.model.specs.declared.{Extent.Extent, Refusal.Refusal, Selector.Selector, UsageFlags.UsageFlags, Verdict.Verdict}
+use Rattle.model.specs.declared.{Extent.Extent, Refusal.Refusal, Selector.Selector, UsageFlags.UsageFlags}
 use Rattle.model.specs.{Base.{All}, Flags.{meets, incompatible, same_flags}}
 use Rattle.model.specs.{Representation.{mip_start, mip_end, layer_start, layer_end}, Sets.{Slot, Head, own_extent, outside}, Log.or_next}
 use Rattle.model.specs.{BoolLaws.neither, ListLaws.{all_left, all_right}}
-use Rattle.model.specs.Refusals.{Check, first_failing, other_extent, same_extent, number_of, accepted, refused_for, texture_checks}
+use Rattle.model.specs.Refusals.{Check, first_failing, other_extent, same_extent, number_of, accepted, Verdict, texture_checks}
 use Rattle.model.specs.Refusals.{selector_checks, state_checks, single_refusal, place_of, refusal_from}
 
 -- none of these checks failed
@@ -21,15 +20,15 @@ abbrev pub Passed : List Check → Type 0
 Passed = All (λ (c : Check). c.fails ≡ false)
 
 -- the first check of several passed, and so did the others
-pub first_passed : (c : Check) (cs : List Check) → first_failing (c ∷ cs) ≡ none → (c.fails ≡ false) × (first_failing cs ≡ none)
+pub first_passed : (c : Check) (cs : List Check) → first_failing (c ∷ cs) ≡ None → (c.fails ≡ false) × (first_failing cs ≡ None)
 unfolding first_failing
 first_passed c cs e = go c.fails e
   where
-    go : (b : Bool) → (if b then some c.answer else first_failing cs) ≡ none → (b ≡ false) × (first_failing cs ≡ none)
+    go : (b : Bool) → (if b then Some c.answer else first_failing cs) ≡ None → (b ≡ false) × (first_failing cs ≡ None)
     go true h = absurd (let z : ◌≡◌ {A = ℕ} 0 1 = cc in omega arith)
     go false h = (refl, h)
 
-pub passed : (cs : List Check) → first_failing cs ≡ none → Passed cs
+pub passed : (cs : List Check) → first_failing cs ≡ None → Passed cs
 passed [] e = tt
 passed (c ∷ cs) e = let p = first_passed c cs e in (p.0, passed cs p.1)
 
@@ -40,37 +39,37 @@ checks_append [] ys = refl
 checks_append (c ∷ xs) ys = go c.fails (checks_append xs ys)
   where
     go : (b : Bool) → first_failing (xs ++ ys) ≡ or_next (first_failing xs) (first_failing ys)
-        → (if b then some c.answer else first_failing (xs ++ ys))
-        ≡ or_next (if b then some c.answer else first_failing xs) (first_failing ys)
+        → (if b then Some c.answer else first_failing (xs ++ ys))
+        ≡ or_next (if b then Some c.answer else first_failing xs) (first_failing ys)
     go true e = refl
     go false e = e
 
 -- none of two refusals: none in either
-pub none_both : (p q : Option Refusal) → or_next p q ≡ none → (p ≡ none) × (q ≡ none)
-none_both none q e = (refl, e)
-none_both (some r) q e = absurd (let z : ◌≡◌ {A = ℕ} 0 1 = cc in omega arith)
+pub none_both : (p q : Option Refusal) → or_next p q ≡ None → (p ≡ None) × (q ≡ None)
+none_both None q e = (refl, e)
+none_both (Some r) q e = absurd (let z : ◌≡◌ {A = ℕ} 0 1 = cc in omega arith)
 
 -- where none of two lists of checks fails, none of either does
-pub both_passed : (xs ys : List Check) → first_failing (xs ++ ys) ≡ none → (first_failing xs ≡ none) × (first_failing ys ≡ none)
+pub both_passed : (xs ys : List Check) → first_failing (xs ++ ys) ≡ None → (first_failing xs ≡ None) × (first_failing ys ≡ None)
 both_passed xs ys e = none_both (first_failing xs) (first_failing ys) (sym (checks_append xs ys) ∙ e)
 
-module _ {v : Verdict} (xs ys : List Check) (told : refused_for v ≡ first_failing xs) where
+module _ {v : Verdict} (xs ys : List Check) (told : result_err v ≡ first_failing xs) where
   -- what the first list told, or else what the second does
-  both_told : {w : Verdict} → v ≡ w → or_next (refused_for w) (first_failing ys) ≡ first_failing (xs ++ ys)
-  both_told e = ap (λ (o : Option Refusal). or_next o (first_failing ys)) (sym (ap refused_for e) ∙ told) ∙ sym (checks_append xs ys)
+  both_told : {w : Verdict} → v ≡ w → or_next (result_err w) (first_failing ys) ≡ first_failing (xs ++ ys)
+  both_told e = ap (λ (o : Option Refusal). or_next o (first_failing ys)) (sym (ap result_err e) ∙ told) ∙ sym (checks_append xs ys)
 
   -- the first list was accepted: the second decides
-  pub accepted_first : v ≡ Accepted → {o : Option Refusal} → o ≡ first_failing ys → o ≡ first_failing (xs ++ ys)
+  pub accepted_first : v ≡ Ok tt → {o : Option Refusal} → o ≡ first_failing ys → o ≡ first_failing (xs ++ ys)
   accepted_first e u = u ∙ both_told e
 
   -- the first list was refused: it decides
-  pub refused_first : {r : Refusal} → v ≡ Refused r → some r ≡ first_failing (xs ++ ys)
+  pub refused_first : {r : Refusal} → v ≡ Err r → Some r ≡ first_failing (xs ++ ys)
   refused_first e = both_told e
 
 -- nothing is refused
-pub accepted_none : (o : Option Refusal) → accepted o ≡ true → o ≡ none
-accepted_none none e = refl
-accepted_none (some r) e = absurd (false≢true e)
+pub accepted_none : (o : Option Refusal) → accepted o ≡ true → o ≡ None
+accepted_none None e = refl
+accepted_none (Some r) e = absurd (false≢true e)
 
 -- ---- a selector
 -- an interval that passed both checks starts below its end
@@ -85,7 +84,7 @@ pub record SelectorWithin (sh : Extent) (q : Selector) : Type 0 where
   pub in_layers : layer_end q ≤ sh.layers
 
 -- what 16 to 19 and 11 let through is such a selector
-pub selector_within : (sh : Extent) (q : Selector) → Passed (selector_checks sh (some q)) → SelectorWithin sh q
+pub selector_within : (sh : Extent) (q : Selector) → Passed (selector_checks sh (Some q)) → SelectorWithin sh q
 selector_within sh q p =
     let layers = p.1.1 in let past = layers.1.1.0 in
     let ends = neither (ltb sh.mips (mip_end q)) (ltb sh.layers (layer_end q)) past in
@@ -116,7 +115,7 @@ pub record SinglePassed (h : Head) (i : ℕ) (sh : Extent) (sel : Option Selecto
   pub selector : Passed (selector_checks sh sel)
   pub state : StatePassed h.flags st
 
-pub single_passed : (h : Head) (i : ℕ) (sh : Extent) (sel : Option Selector) (st : ℕ) → single_refusal h i sh sel st ≡ none
+pub single_passed : (h : Head) (i : ℕ) (sh : Extent) (sel : Option Selector) (st : ℕ) → single_refusal h i sh sel st ≡ None
     → SinglePassed h i sh sel st
 single_passed h i sh sel st e =
     let c = passed _ e in let t = all_left _ (texture_checks h i sh ++ selector_checks sh sel) (state_checks h.flags st) c in

@@ -1,7 +1,7 @@
 -- 01's table of refusals, every number at its edge with its place, and which of two applies first: one theorem a kind of call, by
 -- computation. What the two representations share (the table, the calls' frame) is tested by nothing else but this page and the runs
 -- against the Rust.
-use Rattle.model.specs.Prelude.{ℕ, refl, true, Option, none, some, List, [], map, get_or, replicate, set}
+use Rattle.model.specs.Prelude.{ℕ, refl, true, Option, None, Some, List, [], map, get_or, replicate, set}
 use Rattle.model.specs.declared.{Extent.Extent, Selector.Selector, InvalidUse.InvalidUse, PendingTransition.PendingTransition}
 use Rattle.model.specs.{declared.Refusal.Refusal, Flags.incompatible, Representation.{select, full}}
 use Rattle.model.specs.Sets.{Opening, Tracker, with_tracker, open_tracker}
@@ -21,13 +21,13 @@ data Verdict : Type 0 where
   conflicts : Verdict
 
 of_refusal : Option Refusal → Verdict
-of_refusal none = passes
-of_refusal (some r) = turned (number_of r) (place_of r)
+of_refusal None = passes
+of_refusal (Some r) = turned (number_of r) (place_of r)
 
 of_answer : Answer InvalidUse → Verdict
 unfolding of_refusal
 of_answer done = passes
-of_answer (refused r) = of_refusal (some r)
+of_answer (refused r) = of_refusal (Some r)
 of_answer (in_conflict c) = conflicts
 
 -- ---- 1, 2, 3: opening N, M, W with room; and flags EXCLUSIVE, UNINITIALIZED, COMPLEX, UNKNOWN
@@ -97,11 +97,11 @@ extent m l = record { mips = m; layers = l }
 -- a use of the whole of texture i of scope n, and of a part of texture 0 of scope 0
 used : ℕ → ℕ → ℕ → Call
 unfolding extent
-used n i st = call_merge_single n (tracker_index i) (extent 2 4) none st
+used n i st = call_merge_single n (tracker_index i) (extent 2 4) None st
 
 part : Selector → ℕ → Call
 unfolding extent
-part q st = call_merge_single 0 (tracker_index 0) (extent 2 4) (some q) st
+part q st = call_merge_single 0 (tracker_index 0) (extent 2 4) (Some q) st
 
 -- and of a part of texture 0 of tracker 0
 set_part : Selector → Call
@@ -120,10 +120,10 @@ calls : (
     -- 7: the index is not below N
     after [] (used 0 3 8) ∷ after [] (used 0 4 8)
     -- 8: mips are not 1 to M, or layers not 1 to W
-    ∷ after [] (call_merge_single 0 (tracker_index 1) (extent 3 4) none 8)
-    ∷ after [] (call_merge_single 0 (tracker_index 1) (extent 2 0) none 8)
+    ∷ after [] (call_merge_single 0 (tracker_index 1) (extent 3 4) None 8)
+    ∷ after [] (call_merge_single 0 (tracker_index 1) (extent 2 0) None 8)
     -- 9: the index is owned with another extent
-    ∷ after (used 0 1 8 ∷ []) (call_merge_single 0 (tracker_index 1) (extent 1 4) none 8)
+    ∷ after (used 0 1 8 ∷ []) (call_merge_single 0 (tracker_index 1) (extent 1 4) None 8)
     -- 16, 17: mips 0..1 pass, 1..1 have no length, 1..0 are reversed
     ∷ after [] (part (select 0 1 0 4) 8) ∷ after [] (part (select 1 1 0 4) 8) ∷ after [] (part (select 1 0 0 4) 8)
     -- 18, 19: layers 2..3 pass, "01's edge case 2..2 becomes 18", 3..2 are reversed; and of a tracker's use
@@ -143,14 +143,14 @@ calls : (
     -- 12: zero, or with UNKNOWN or COMPLEX; 13: "state 24 is 13, state 16 passes"
     ∷ after [] (used 0 0 0) ∷ after [] (used 0 0 8200) ∷ after [] (used 0 0 4104) ∷ after [] (used 0 0 24) ∷ after [] (used 0 0 16)
     -- the first that fails is told: 7 before 8, 8 before 16, 16 before 12, 11 before 12, 12 before 13
-    ∷ after [] (call_merge_single 0 (tracker_index 4) (extent 3 4) (some (select 0 0 0 9)) 0)
-    ∷ after [] (call_merge_single 0 (tracker_index 0) (extent 3 4) (some (select 0 0 0 9)) 0)
+    ∷ after [] (call_merge_single 0 (tracker_index 4) (extent 3 4) (Some (select 0 0 0 9)) 0)
+    ∷ after [] (call_merge_single 0 (tracker_index 0) (extent 3 4) (Some (select 0 0 0 9)) 0)
     ∷ after [] (part (select 0 0 0 9) 0) ∷ after [] (part (select 0 1 0 9) 0) ∷ after [] (used 0 0 4116)
     -- 6, before what the set owns is looked at
     ∷ after [] (call_merge_usage_scope 0 2) ∷ after [] (call_set_from_usage_scope 0 2) ∷ after [] (call_set_and_remove_sparse 0 2 (9 ∷ []))
     -- over a set: 7, and 9 at the first index where one applies, ascending
     ∷ after (used 3 4 8 ∷ []) (call_merge_usage_scope 0 3)
-    ∷ after (used 0 2 8 ∷ call_merge_single 1 (tracker_index 2) (extent 1 4) none 8 ∷ []) (call_merge_usage_scope 0 1)
+    ∷ after (used 0 2 8 ∷ call_merge_single 1 (tracker_index 2) (extent 1 4) None 8 ∷ []) (call_merge_usage_scope 0 1)
     ∷ after (used 3 2 8 ∷ used 3 4 8 ∷ narrow ∷ []) (call_set_from_usage_scope 0 3)
     -- the sparse call: in list order, and an index that the scope does not own is passed over
     ∷ after [] (sparse (3 ∷ [])) ∷ after [] (sparse (3 ∷ 4 ∷ []))

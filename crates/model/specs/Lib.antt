@@ -18,3 +18,4 @@ pub mod CheckLaws
 pub mod RangeLaws
 pub mod Samples
 pub mod Edges
+pub mod Errors

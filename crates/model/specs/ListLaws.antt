@@ -1,7 +1,7 @@
 -- Lists: what holds of each element, element by element and of the lists that are made from one.
 use Rattle.std.specs.Prelude.{◌+◌, ◌<◌, ◌≤◌, ◌≡◌, ◌∷◌, ◌++◌}
-use Rattle.model.specs.Prelude.{ℕ, zero, suc, arith, refl, sym, ap, Bool, true, Option, none, some, Option_map}
-use Rattle.model.specs.Prelude.{List, [], map, append_assoc, length, replicate, get_or, set, get_elem?}
+use Rattle.model.specs.Prelude.{ℕ, zero, suc, arith, refl, sym, ap, Bool, true, Option, None, Some, option_map}
+use Rattle.model.specs.Prelude.{List, [], map, append_assoc, length, replicate, get_or, set, slice_get}
 use Rattle.model.specs.{Base.{All, AllO, each, each_at, zip₂, every}, BoolLaws.{both, and_left, and_right}}
 
 pub all_weak : {A : Type 0} (P N : A → Type 0) → ((x : A) → P x → N x) → (s : List A) → All P s → All N s
@@ -64,14 +64,14 @@ pub first_of_lem : {A : Type 0} (P : A → Type 0) (x : A) (n : ℕ) → 0 < n �
 first_of_lem P x zero h t = absurd (omega arith)
 first_of_lem P x (suc n) h t = t.0
 
-pub all_elem : {A : Type 0} (P : A → Type 0) (l : List A) (n : ℕ) → All P l → AllO P (get_elem? l n)
+pub all_elem : {A : Type 0} (P : A → Type 0) (l : List A) (n : ℕ) → All P l → AllO P (slice_get l n)
 all_elem P [] n t = tt
 all_elem P (x ∷ l) zero t = t.0
 all_elem P (x ∷ l) (suc n) t = all_elem P l n t.1
 
 -- the element at a position, or none
-pub elem_of : {A : Type 0} (P : A → Type 0) (l : List A) (n : ℕ) (R : Option A → Type 0) → All P l → R none
-    → ((x : A) → P x → R (some x)) → R (get_elem? l n)
+pub elem_of : {A : Type 0} (P : A → Type 0) (l : List A) (n : ℕ) (R : Option A → Type 0) → All P l → R None
+    → ((x : A) → P x → R (Some x)) → R (slice_get l n)
 elem_of P [] n R t a b = a
 elem_of P (x ∷ l) zero R t a b = b x t.0
 elem_of P (x ∷ l) (suc n) R t a b = elem_of P l n R t.1 a b
@@ -86,7 +86,7 @@ all_every P f from [] t = refl
 all_every P f from (x ∷ s) t = both (from x t.0) (all_every P f from s t.1)
 
 -- ---- `map`, `set` and `zip₂`
-pub elem_map : {A B : Type 0} (f : A → B) (l : List A) (n : ℕ) → get_elem? (map f l) n ≡ Option_map f (get_elem? l n)
+pub elem_map : {A B : Type 0} (f : A → B) (l : List A) (n : ℕ) → slice_get (map f l) n ≡ option_map f (slice_get l n)
 elem_map f [] n = refl
 elem_map f (x ∷ l) zero = refl
 elem_map f (x ∷ l) (suc n) = elem_map f l n

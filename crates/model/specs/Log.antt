@@ -1,30 +1,48 @@
 -- The log (01: the Rust's `temp`), and the calls whole: what is lent is checked first, and the room of the log last.
 use Rattle.std.specs.Prelude.{◌+◌, ◌-◌, ◌∷◌, ◌++◌}
-use Rattle.model.specs.Prelude.{ℕ, Bool, true, false, not, Option, none, some, List, [], map, ltb, length, take}
-use Rattle.model.specs.Prelude.{drop}
+use Rattle.model.specs.Prelude.{ℕ, Bool, true, false, not, Option, None, Some, Result, Ok, Err, List, [], map, ltb, length, take}
+use Rattle.model.specs.Prelude.{drop, result_unwrap_or}
 use Rattle.model.specs.declared.Refusal.TheVariants.{NotWellFormed, LogTooShort, NoFreeEntry}
-use Rattle.model.specs.declared.Outcome.TheVariants.{Done, Refused, Conflict}
+use Rattle.model.specs.declared.CallError.TheVariants.{Refused, Conflict}
 use Rattle.model.specs.declared.{PendingTransition.PendingTransition, LogHead.LogHead, InvalidUse.InvalidUse, Refusal.Refusal}
-use Rattle.model.specs.{declared.Outcome.Outcome, Base.each, Refusals.{Check, check, first_failing, tracker_index}}
+use Rattle.model.specs.{declared.CallError.CallError, Base.each, Refusals.{Check, check, first_failing, tracker_index}}
 use Rattle.model.specs.{Calls.{Indexed, Answer, done, refused, in_conflict, CallResult, unless}, Texture.Entry}
 
 -- ---- The answer of a public call
--- a call's answer as the enum that the code returns
+-- done, or why it is not, as the code answers it
+abbrev pub Outcome : Type 0
+Outcome = Result (Unit {0}) CallError
+
+-- the answer of the model's call as the code's
 abbrev pub outcome_of : Answer InvalidUse → Outcome
-outcome_of done = Done
-outcome_of (refused r) = Refused r
-outcome_of (in_conflict c) = Conflict (record { index = tracker_index c.index; found = c.what })
+outcome_of done = Ok tt
+outcome_of (refused r) = Err (Refused r)
+outcome_of (in_conflict c) = Err (Conflict (record { index = tracker_index c.index; found = c.what }))
 
 -- whether a call was refused
 abbrev pub is_refused : Outcome → Bool
-is_refused Done = false
-is_refused (Refused r) = true
-is_refused (Conflict c) = false
+is_refused (Ok u) = false
+is_refused (Err (Refused r)) = true
+is_refused (Err (Conflict c)) = false
 
--- what a call's checks answer
+-- what a call that meets no conflict answers
 abbrev pub verdict : Option Refusal → Outcome
-verdict none = Done
-verdict (some r) = Refused r
+verdict None = Ok tt
+verdict (Some r) = Err (Refused r)
+
+-- the outcome of a call that can only be refused, whatever else it tells
+abbrev pub unless_refused : {A : Type 0} → Result A Refusal → Outcome
+unless_refused (Ok x) = Ok tt
+unless_refused (Err r) = Err (Refused r)
+
+-- the outcome of a call that moves the head of a log, and the head after it: a refusal leaves the head as it was
+pub record Answered : Type 0 where
+  pub outcome : Outcome
+  pub head : LogHead
+
+-- as the code answers it, which was told the head h
+abbrev pub answered : LogHead → Result LogHead Refusal → Answered
+answered h r = record { outcome = unless_refused r; head = result_unwrap_or r h }
 
 -- ---- A log
 -- every entry that was lent, and the head
@@ -78,19 +96,19 @@ pub record Logged (X : Type 0) : Type 0 where
 
 -- where the call is refused "Everything lent stays", the log too
 abbrev pub unless_logged : {X : Type 0} → Option Refusal → Log → X → Logged X → Logged X
-unless_logged (some r) log was out = record { answer = refused r; log = log; after = was }
-unless_logged none log was out = out
+unless_logged (Some r) log was out = record { answer = refused r; log = log; after = was }
+unless_logged None log was out = out
 
 -- the call's own refusals stand between 5 and 15
 abbrev pub refusal_of : {C : Type 0} → Answer C → List Check → Option Refusal
 refusal_of done more = first_failing more
-refusal_of (refused r) more = some r
+refusal_of (refused r) more = Some r
 refusal_of (in_conflict c) more = first_failing more
 
 -- the first of two refusals, in the table's order
 abbrev pub or_next : Option Refusal → Option Refusal → Option Refusal
-or_next (some r) next = some r
-or_next none next = next
+or_next (Some r) next = Some r
+or_next None next = next
 
 -- a call handed such sets and a log: 4 and 5 come before its own checks, 15 after them
 unfoldable pub logging : {X : Type 0} → Bool → Log → X → CallResult InvalidUse (List Entry) X → Logged X

@@ -1,14 +1,13 @@
 -- 01, "Turned away": each check is whether it fails, with the refusal that is then the answer, in the table's order.
 use Rattle.std.specs.Prelude.{◌&&◌, ◌||◌, ◌∷◌, ◌++◌, if◌then◌else◌}
-use Rattle.model.specs.Prelude.{ℕ, Bool, true, false, not, Option, none, some, List, [], ltb, eqb, get_or}
+use Rattle.model.specs.Prelude.{ℕ, Bool, true, false, not, Option, None, Some, Result, List, [], ltb, eqb, get_or}
 use Rattle.model.specs.declared.Refusal.TheVariants.{NumbersOutOfLimits, FlagsBreakRule, ShortRoom, NotWellFormed, LogTooShort}
 use Rattle.model.specs.declared.Refusal.TheVariants.{FlagsDiffer, NoSuchIndex, ExtentOutOfLimits, ExtentDiffers, MipsEmpty}
 use Rattle.model.specs.declared.Refusal.TheVariants.{MipsReversed, LayersEmpty, LayersReversed, SelectorPastExtent, StateReserved}
 use Rattle.model.specs.declared.Refusal.TheVariants.{StateIncompatible, RangesOutOfOrder, LogOutOfOrder, FieldCutShort, UnknownTag}
 use Rattle.model.specs.declared.Refusal.TheVariants.{UseOfWrongSize, GroupsTooDeep, PlanUnbalanced, GroupTooLong, NoFreeEntry}
-use Rattle.model.specs.declared.Verdict.TheVariants.{Accepted, Refused}
 use Rattle.model.specs.declared.{UsageFlags.UsageFlags, Extent.Extent, Selector.Selector, TrackerIndex.TrackerIndex, Refusal.Refusal}
-use Rattle.model.specs.{declared.Verdict.Verdict, Base.{each, each_at}}
+use Rattle.model.specs.Base.{each, each_at}
 use Rattle.model.specs.{Flags.{meets, incompatible, flags_fit, same_flags}, Representation.{mip_start, mip_end, layer_start, layer_end}}
 use Rattle.model.specs.Sets.{Numbers, Head, Opening, outside, numbers_fit, capacity}
 
@@ -93,10 +92,9 @@ numbered n (r ∷ rs) = if eqb (number_of r) n then r else numbered n rs
 abbrev pub refusal_from : ℕ → ℕ → Refusal
 refusal_from n i = numbered n (rows i)
 
--- what checks tell: the refusal, if one fails
-abbrev pub refused_for : Verdict → Option Refusal
-refused_for Accepted = none
-refused_for (Refused r) = some r
+-- what checks tell: that all pass, or the refusal of the first that fails
+abbrev pub Verdict : Type 0
+Verdict = Result (Unit {0}) Refusal
 
 -- ---- "Checked top to bottom."
 -- a row of the table at a call: whether it fails, and the refusal that is then the answer
@@ -110,8 +108,8 @@ check b r = record { fails = b; answer = r }
 
 -- the answer of the first row that fails, if one does
 unfoldable pub first_failing : List Check → Option Refusal
-first_failing [] = none
-first_failing (c ∷ cs) = if c.fails then some c.answer else first_failing cs
+first_failing [] = None
+first_failing (c ∷ cs) = if c.fails then Some c.answer else first_failing cs
 
 -- ---- 1, 2, 3: opening
 -- "N, M or W is outside its limits", "the palette breaks its rule", "the lent room is short"
@@ -129,8 +127,8 @@ opening_refusal o = first_failing (opening_checks o)
 
 -- nothing is refused
 abbrev pub accepted : Option Refusal → Bool
-accepted none = true
-accepted (some r) = false
+accepted None = true
+accepted (Some r) = false
 
 -- an opening that is not turned away
 abbrev pub opens : Opening → Bool
@@ -148,8 +146,8 @@ same_extent a b = eqb a.mips b.mips && eqb a.layers b.layers
 
 -- "the index is owned with another shape"
 abbrev pub other_extent : Option Extent → Extent → Bool
-other_extent none sh = false
-other_extent (some own) sh = not (same_extent own sh)
+other_extent None sh = false
+other_extent (Some own) sh = not (same_extent own sh)
 
 -- "mips are not 1 to M, or layers not 1 to W"
 abbrev pub extent_outside : Numbers → Extent → Bool
@@ -160,7 +158,7 @@ abbrev pub texture_checks : Head → ℕ → Extent → List Check
 texture_checks h i sh =
     check (not (ltb i h.numbers.textures)) (NoSuchIndex (tracker_index i))
     ∷ check (extent_outside h.numbers sh) (ExtentOutOfLimits (tracker_index i))
-    ∷ check (other_extent (get_or h.extents i none) sh) (ExtentDiffers (tracker_index i))
+    ∷ check (other_extent (get_or h.extents i None) sh) (ExtentDiffers (tracker_index i))
     ∷ []
 
 -- ---- 16 to 19, 11: a selector, if one is given
@@ -182,8 +180,8 @@ selector_past sh q = ltb sh.mips (mip_end q) || ltb sh.layers (layer_end q)
 
 -- "16, 17, 18, 19 in that order", and then 11; nothing is checked where no selector is given
 abbrev pub selector_checks : Extent → Option Selector → List Check
-selector_checks sh none = []
-selector_checks sh (some q) =
+selector_checks sh None = []
+selector_checks sh (Some q) =
     mips_checks (mip_start q) (mip_end q) ++ layers_checks (layer_start q) (layer_end q)
     ++ (check (selector_past sh q) SelectorPastExtent ∷ [])
 
@@ -204,8 +202,8 @@ single_refusal h i sh sel st = first_failing (texture_checks h i sh ++ selector_
 -- ---- Calls over a whole set
 -- 7, 8, 9 of an index, if the given set owns it
 abbrev pub owned_checks : Head → ℕ → Option Extent → List Check
-owned_checks h i none = []
-owned_checks h i (some sh) = texture_checks h i sh
+owned_checks h i None = []
+owned_checks h i (Some sh) = texture_checks h i sh
 
 -- 6, and then "7, 8, 9 for each owned index, ascending, before any change"
 abbrev pub set_refusal : Head → Head → Option Refusal
@@ -215,7 +213,7 @@ set_refusal into given = first_failing (flags_check into given ∷ each_at (owne
 -- "an index not below the scope's N is 7; one the scope does not own is passed over; an owned one is checked against the tracker"
 abbrev pub sparse_checks : Head → Head → ℕ → List Check
 sparse_checks into given i = check (not (ltb i given.numbers.textures)) (NoSuchIndex (tracker_index i))
-    ∷ owned_checks into i (get_or given.extents i none)
+    ∷ owned_checks into i (get_or given.extents i None)
 
 -- 6, and then the listed indices "in list order, also before any change"
 abbrev pub sparse_refusal : Head → Head → List ℕ → Option Refusal

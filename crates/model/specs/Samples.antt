@@ -1,6 +1,6 @@
 -- 01, "Bench samples": B1 to B14 as one table of rows, and one theorem for all of them, by computation.
 use Rattle.std.specs.Prelude.{◌≡◌, ◌∷◌}
-use Rattle.model.specs.Prelude.{ℕ, refl, Option, none, some, List, [], map, get_or, length}
+use Rattle.model.specs.Prelude.{ℕ, refl, Option, None, Some, List, [], map, get_or, length}
 use Rattle.model.specs.{declared.{Extent.Extent, Selector.Selector, Range.Range, InvalidUse.InvalidUse}, Base.each}
 use Rattle.model.specs.{Flags.incompatible, Representation.{select, full, Ends}, Sets.{Opening, slot_at, open_set, open_tracker}}
 use Rattle.model.specs.Refusals.{tracker_index}
@@ -89,21 +89,21 @@ rows : List Row
 unfolding row merged given part conflict move three unknown extent
 rows =
     -- B1 unowned, whole 8: whole 8.
-    row (in_scope (merged 0 none 8 ∷ [])) (scope done (single 8))
+    row (in_scope (merged 0 None 8 ∷ [])) (scope done (single 8))
     -- B2 then whole 2: whole 10.
-    ∷ row (in_scope (merged 0 none 8 ∷ merged 0 none 2 ∷ [])) (scope done (single 10))
+    ∷ row (in_scope (merged 0 None 8 ∷ merged 0 None 2 ∷ [])) (scope done (single 10))
     -- B3 then whole 4: clash, full shape, 10 and 4; still 10.
-    ∷ row (in_scope (merged 0 none 8 ∷ merged 0 none 2 ∷ merged 0 none 4 ∷ [])) (scope (conflict (full extent) 10 4) (single 10))
+    ∷ row (in_scope (merged 0 None 8 ∷ merged 0 None 2 ∷ merged 0 None 4 ∷ [])) (scope (conflict (full extent) 10 4) (single 10))
     -- B4 unowned, mip 0 layers 1..3, 8: mip 0 is 0..1 U, 1..3 8, 3..4 U; mip 1 is 0..4 U.
-    ∷ row (in_scope (merged 0 (some part) 8 ∷ [])) (scope done (three unknown 8 unknown unknown))
+    ∷ row (in_scope (merged 0 (Some part) 8 ∷ [])) (scope done (three unknown 8 unknown unknown))
     -- B5 B4, then whole 2: 0..1 2, 1..3 10, 3..4 2; mip 1 2.
-    ∷ row (in_scope (merged 0 (some part) 8 ∷ merged 0 none 2 ∷ [])) (scope done (three 2 10 2 2))
+    ∷ row (in_scope (merged 0 (Some part) 8 ∷ merged 0 None 2 ∷ [])) (scope done (three 2 10 2 2))
     -- B6 B4, then whole 4: clash at mip 0 layers 1..3, 8 and 4; 0..1 is now 4, the rest as in B4.
-    ∷ row (in_scope (merged 0 (some part) 8 ∷ merged 0 none 4 ∷ [])) (scope (conflict part 8 4) (three 4 8 unknown unknown))
+    ∷ row (in_scope (merged 0 (Some part) 8 ∷ merged 0 None 4 ∷ [])) (scope (conflict part 8 4) (three 4 8 unknown unknown))
     -- B7 whole 8, merged with a scope holding 2 at mip 0 layers 1..3 only: 0..1 8200, 1..3 10, 3..4 8200; mip 1 8200.
-    ∷ row (in_scope (merged 0 none 8 ∷ merged 1 (some part) 2 ∷ call_merge_usage_scope 0 1 ∷ [])) (scope done (three 8200 10 8200 8200))
+    ∷ row (in_scope (merged 0 None 8 ∷ merged 1 (Some part) 2 ∷ call_merge_usage_scope 0 1 ∷ [])) (scope done (three 8200 10 8200 8200))
     -- B8 the same onto whole 4: clash at mip 0 layers 0..1, 4 and 8192.
-    ∷ row (in_scope (merged 0 none 4 ∷ merged 1 (some part) 2 ∷ call_merge_usage_scope 0 1 ∷ [])) (scope
+    ∷ row (in_scope (merged 0 None 4 ∷ merged 1 (Some part) 2 ∷ call_merge_usage_scope 0 1 ∷ [])) (scope
     (conflict (select 0 1 0 1) 4 8192) (single 4))
     -- B9 tracker whole 4, set mip 0 layers 1..3 to 8: transition there 4 to 8; end 0..1 4, 1..3 8, 3..4 4, mip 1 4; start whole 4.
     ∷ row (in_tracker (given 0 (full extent) 4 ∷ given 0 part 8 ∷ [])) (tracker (move part 4 8 ∷ [])
@@ -136,10 +136,10 @@ misread : List Row
 unfolding row merged given part conflict move three unknown extent
 misread =
     -- a first insert is not folded: the cuts that a conflict left in the scope are the tracker's ranges
-    row (in_tracker (merged 0 (some (select 0 1 0 4)) 8 ∷ merged 0 (some part) 4 ∷ call_set_from_usage_scope 0 0 ∷ []))
+    row (in_tracker (merged 0 (Some (select 0 1 0 4)) 8 ∷ merged 0 (Some part) 4 ∷ call_set_from_usage_scope 0 0 ∷ []))
     (tracker [] (record { start = three 8 8 8 unknown; end = three 8 8 8 unknown }))
     -- a state with UNKNOWN and another bit is not UNKNOWN: B7's scope given to a tracker, then whole 4
-    ∷ row (in_tracker (merged 0 none 8 ∷ merged 1 (some part) 2 ∷ call_merge_usage_scope 0 1 ∷ call_set_from_usage_scope 0 0
+    ∷ row (in_tracker (merged 0 None 8 ∷ merged 1 (Some part) 2 ∷ call_merge_usage_scope 0 1 ∷ call_set_from_usage_scope 0 0
     ∷ given 0 (full extent) 4 ∷ []))
     (tracker (move (select 0 1 0 1) 8200 4 ∷ move part 10 4 ∷ move (select 0 1 3 4) 8200 4 ∷ move (select 1 2 0 4) 8200 4 ∷ [])
     (record { start = three 8200 10 8200 8200; end = single 4 }))

@@ -1,6 +1,6 @@
 -- Sets of textures, and opening them (01, "Opening numbers").
 use Rattle.std.specs.Prelude.{◌*◌, ◌&&◌, ◌||◌, if◌then◌else◌}
-use Rattle.model.specs.Prelude.{ℕ, Bool, false, not, Option, none, some, List, map, ltb, eqb, replicate, get_or}
+use Rattle.model.specs.Prelude.{ℕ, Bool, false, not, Option, None, Some, List, map, ltb, eqb, replicate, get_or}
 use Rattle.model.specs.{declared.{UsageFlags.UsageFlags, Extent.Extent}, Representation.Ends}
 
 -- N, M and W
@@ -51,7 +51,7 @@ pub record Head : Type 0 where
 
 -- the extent of an index, if it is owned
 abbrev pub own_extent : {H : Type 0} → Slot H → Option Extent
-own_extent s = if s.owned then some s.extent else none
+own_extent s = if s.owned then Some s.extent else None
 
 -- the head of a set
 abbrev pub head_of : {H : Type 0} → Set H → Head

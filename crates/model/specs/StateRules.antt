@@ -1,7 +1,7 @@
 -- The Rust's rules for one state: mod.rs, and the lines of texture.rs that make a new state from an old and a given one. `none` is a
 -- conflict.
 use Rattle.std.specs.Prelude.{◌-◌, ◌&&◌, ◌||◌, if◌then◌else◌}
-use Rattle.model.specs.Prelude.{ℕ, Bool, not, Option, none, some, eqb, bit_and, bit_or}
+use Rattle.model.specs.Prelude.{ℕ, Bool, not, Option, None, Some, eqb, bit_and, bit_or}
 use Rattle.model.specs.{declared.UsageFlags.UsageFlags}
 use Rattle.std.specs.Int.Count.{ones_in}
 
@@ -26,19 +26,19 @@ less bits s = s - bit_and bits s
 -- a Single texture's state with a given one
 unfoldable pub unite : UsageFlags → ℕ → ℕ → Option ℕ
 unfolding invalid_state
-unite p old new = let u = bit_or old new in if invalid_state p u then none else some u
+unite p old new = let u = bit_or old new in if invalid_state p u then None else Some u
 
 -- a range's state with a given one: less UNKNOWN, and where nothing is left the old one stays
 unfoldable pub unite_known : UsageFlags → ℕ → ℕ → Option ℕ
 unfolding invalid_state less
 unite_known p old new =
-    let u = less p.unknown (bit_or old new) in if eqb u 0 then some old else if invalid_state p u then none else some u
+    let u = less p.unknown (bit_or old new) in if eqb u 0 then Some old else if invalid_state p u then None else Some u
 
 -- the transition that `barrier` writes, if it writes one
 unfoldable pub move_of : ℕ → ℕ → ℕ → ℕ → Option Move
 unfolding skip_barrier
 move_of unknown mask old new =
-    if eqb old unknown || eqb new unknown || skip_barrier mask old new then none else some (record { old = old; new = new })
+    if eqb old unknown || eqb new unknown || skip_barrier mask old new then None else Some (record { old = old; new = new })
 
 -- what `update` leaves of a Single end's state where a given one lies
 abbrev pub end_after : ℕ → ℕ → ℕ → ℕ

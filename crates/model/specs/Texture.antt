@@ -1,6 +1,6 @@
 -- texture.rs on plain lists: `insert`, `merge`, `barrier` and `update` of one texture, exactly as the Rust leaves it.
 use Rattle.std.specs.Prelude.{◌∷◌, ◌++◌, if◌then◌else◌}
-use Rattle.model.specs.Prelude.{ℕ, suc, Option, none, some, Option_map, List, [], map, eqb, replicate}
+use Rattle.model.specs.Prelude.{ℕ, suc, Option, None, Some, option_map, List, [], map, eqb, replicate}
 use Rattle.model.specs.declared.{UsageFlags.UsageFlags, Extent.Extent, Selector.Selector, Range.Range, InvalidUse.InvalidUse}
 use Rattle.model.specs.Base.{each, each_at, Stop, fine, ruled, or_keep, passes, walk}
 use Rattle.model.specs.StateRules.{Move, unite, unite_known, move_of, end_after}
@@ -35,8 +35,8 @@ from_held (many mips) = given_many (pieces_of mips)
 
 -- "*whole* if no selector is given or it equals the full shape": `get_state` of a `KnownSingle` or a `Selector`
 abbrev pub from_use : Extent → Option Selector → ℕ → Given
-from_use sh none st = given_single st
-from_use sh (some q) st = if is_full sh q then given_single st else given_many (record { selector = q; state = st } ∷ [])
+from_use sh None st = given_single st
+from_use sh (Some q) st = if is_full sh q then given_single st else given_many (record { selector = q; state = st } ∷ [])
 
 -- ---- Mips
 -- f at the mips that a selector has; the others stay
@@ -71,18 +71,18 @@ unfoldable pub spread_piece : UsageFlags → ℕ → Piece → List (List Range)
 unfolding unite paint coalesce
 spread_piece p cur q ss =
     ruled ss (invalid_use q.selector cur q.state)
-    (Option_map (λ u. on_mips q.selector (λ s. coalesce (paint p.unknown (layer_start q.selector) (layer_end q.selector) u s))
+    (option_map (λ u. on_mips q.selector (λ s. coalesce (paint p.unknown (layer_start q.selector) (layer_end q.selector) u s))
     0 ss) (unite p cur q.state))
 
 -- Many with either: a range of mip k; the conflict tells that range
 abbrev pub merge_range : UsageFlags → ℕ → ℕ → Range → Stop InvalidUse Range
 merge_range p k new r =
-    ruled r (invalid_use (select k (suc k) r.start r.end) r.state new) (Option_map (λ u. in_state u r) (unite_known p r.state new))
+    ruled r (invalid_use (select k (suc k) r.start r.end) r.state new) (option_map (λ u. in_state u r) (unite_known p r.state new))
 
 -- a mip is coalesced where no conflict stopped its walk
 abbrev pub settled : {C : Type 0} → Option C → List Range → List Range
-settled none s = coalesce s
-settled (some c) s = s
+settled None s = coalesce s
+settled (Some c) s = s
 
 -- Many with Many: a piece on mip k, on the ranges that it isolates there
 unfoldable pub merge_mip : UsageFlags → Piece → ℕ → List Range → Stop InvalidUse (List Range)
@@ -107,7 +107,7 @@ as_many w = record { value = many w.value; conflict = w.conflict }
 -- the texture after a use, or the conflict, with a clause for each arm of its `match`
 unfoldable pub merge : UsageFlags → Extent → Held → Given → Stop InvalidUse Held
 unfolding unite spread_piece merge_mip merge_every
-merge p sh (single cur) (given_single new) = ruled (single cur) (invalid_use (full sh) cur new) (Option_map single (unite p cur new))
+merge p sh (single cur) (given_single new) = ruled (single cur) (invalid_use (full sh) cur new) (option_map single (unite p cur new))
 merge p sh (single cur) (given_many qs) =
     let w = passes (spread_piece p cur) qs (fresh_mips sh cur) in or_keep w.conflict (single cur) (many w.value)
 merge p sh (many ss) (given_single new) = as_many (walk (merge_every p new) 0 ss)
@@ -121,8 +121,8 @@ pub record Entry : Type 0 where
 
 -- the transition of a selector, if one is written
 abbrev pub entry : Selector → Option Move → List Entry
-entry q none = []
-entry q (some m) = record { selector = q; move = m } ∷ []
+entry q None = []
+entry q (Some m) = record { selector = q; move = m } ∷ []
 
 -- those of the ranges of mip k
 abbrev pub mip_entries : (ℕ → Option Move) → ℕ → List Range → List Entry

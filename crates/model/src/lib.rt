@@ -10,23 +10,25 @@
 // A usage state is a number of 16 bits, here in a u32. A tracker index, a mip and a layer are kept apart by their types.
 #![tactic(auto)]
 
-ghost use Rattle.std.specs.Prelude.{◌≡◌};
+ghost use Rattle.std.specs.Prelude.{◌≡◌, suc, ◌^◌, ◌<◌};
 ghost use Rattle.model.specs.Refusals.{number_of, place_of};
+ghost use Rattle.model.specs.Representation.{select, full as full_of};
+ghost use Rattle.model.specs.declared.CallError.TheVariants.{Refused, Conflict as Conflicting};
 
 // The position of a texture in a set: the Rust's `TrackerIndex`.
-#[derive(Clone, Copy)]
+#[derive(Clone, Copy, PartialEq, Eq)]
 pub struct TrackerIndex(pub u32);
 
 // The number of a mip level.
-#[derive(Clone, Copy)]
+#[derive(Clone, Copy, PartialEq, Eq)]
 pub struct Mip(pub u32);
 
 // The number of an array layer.
-#[derive(Clone, Copy)]
+#[derive(Clone, Copy, PartialEq, Eq)]
 pub struct Layer(pub u32);
 
 // The constants of the Rust's `TextureUses` that the tracker reads (01: a palette). `exclusive` is a mask, the others are one bit each.
-#[derive(Clone, Copy)]
+#[derive(Clone, Copy, PartialEq, Eq)]
 pub struct UsageFlags {
     pub exclusive: u32,
     pub uninitialized: u32,
@@ -35,38 +37,59 @@ pub struct UsageFlags {
 }
 
 // How many mips and layers a texture has (01: its shape).
-#[derive(Clone, Copy)]
+#[derive(Clone, Copy, PartialEq, Eq)]
 pub struct Extent {
     pub mips: u32,
     pub layers: u32,
 }
 
-// Mips from `start` up to, not including, `end`.
-#[derive(Clone, Copy)]
-pub struct MipRange {
-    pub start: Mip,
-    pub end: Mip,
-}
-
-// Layers from `start` up to, not including, `end`.
-#[derive(Clone, Copy)]
-pub struct LayerRange {
-    pub start: Layer,
-    pub end: Layer,
+// What lies from `start` up to, not including, `end`.
+#[derive(Clone, Copy, PartialEq, Eq)]
+pub struct Interval<T> {
+    pub start: T,
+    pub end: T,
 }
 
 // Some mips and some layers of a texture: the Rust's `TextureSelector`.
-#[derive(Clone, Copy)]
+#[derive(Clone, Copy, PartialEq, Eq)]
 pub struct Selector {
-    pub mips: MipRange,
-    pub layers: LayerRange,
+    pub mips: Interval<Mip>,
+    pub layers: Interval<Layer>,
 }
 
-// A use of all of a texture, or of a part of it: a selector absent or given.
-#[derive(Clone, Copy)]
-pub enum Selection {
-    Full,
-    Part(Selector),
+impl Selector {
+    // Of the mips and layers between these bounds.
+    pub fn new(mip_start: u32, mip_end: u32, layer_start: u32, layer_end: u32) -> Selector
+        ensures { result ≡ select mip_start mip_end layer_start layer_end }
+    {
+        Selector {
+            mips: Interval {
+                start: Mip(mip_start),
+                end: Mip(mip_end),
+            },
+            layers: Interval {
+                start: Layer(layer_start),
+                end: Layer(layer_end),
+            },
+        }
+    }
+
+    // Of some layers of one mip.
+    pub fn on_mip(mip: u32, layer_start: u32, layer_end: u32) -> Selector
+        requires { suc mip < 2 ^ 32 }
+        ensures { result ≡ select mip (suc mip) layer_start layer_end }
+    {
+        Selector::new(mip, mip + 1, layer_start, layer_end)
+    }
+}
+
+impl Extent {
+    // The selector of all of a texture.
+    pub fn full(self) -> Selector
+        ensures { result ≡ full_of self }
+    {
+        Selector::new(0, self.mips, 0, self.layers)
+    }
 }
 
 // One entry of ranged states (01: a strip): what lies from `start` up to, not including, `end` is in `state`.
@@ -87,7 +110,7 @@ pub struct PendingTransition {
 }
 
 // How many entries of the lent log are written, and how many after them are free.
-#[derive(Clone, Copy)]
+#[derive(Clone, Copy, PartialEq, Eq)]
 pub struct LogHead {
     pub written: usize,
     pub free: usize,
@@ -139,90 +162,71 @@ pub enum Refusal {
     NoFreeEntry,
 }
 
-// What a public call answers.
+impl Refusal {
+    // 01's number of a refusal.
+    pub fn number(self) -> u32
+        ensures { result ≡ number_of self }
+    {
+        match self {
+            Refusal::NumbersOutOfLimits => 1,
+            Refusal::FlagsBreakRule => 2,
+            Refusal::ShortRoom => 3,
+            Refusal::NotWellFormed => 4,
+            Refusal::LogTooShort => 5,
+            Refusal::FlagsDiffer => 6,
+            Refusal::NoSuchIndex(_) => 7,
+            Refusal::ExtentOutOfLimits(_) => 8,
+            Refusal::ExtentDiffers(_) => 9,
+            Refusal::MipsEmpty => 16,
+            Refusal::MipsReversed => 17,
+            Refusal::LayersEmpty => 18,
+            Refusal::LayersReversed => 19,
+            Refusal::SelectorPastExtent => 11,
+            Refusal::StateReserved => 12,
+            Refusal::StateIncompatible => 13,
+            Refusal::RangesOutOfOrder => 14,
+            Refusal::LogOutOfOrder => 31,
+            Refusal::FieldCutShort => 20,
+            Refusal::UnknownTag => 21,
+            Refusal::UseOfWrongSize => 22,
+            Refusal::GroupsTooDeep => 23,
+            Refusal::PlanUnbalanced => 24,
+            Refusal::GroupTooLong => 25,
+            Refusal::NoFreeEntry => 15,
+        }
+    }
+
+    // 01's place of a refusal: the index for 7 to 9, otherwise 0.
+    pub fn place(self) -> u32
+        ensures { result ≡ place_of self }
+    {
+        match self {
+            Refusal::NoSuchIndex(i) | Refusal::ExtentOutOfLimits(i) | Refusal::ExtentDiffers(i) =>
+                i.0,
+            _ => 0,
+        }
+    }
+}
+
+// Why a call that merges is not done, or stopped on the way: it is refused, or it met two states that one subresource cannot have together.
 #[derive(Clone, Copy)]
-pub enum Outcome {
-    Done,
+pub enum CallError {
     Refused(Refusal),
     Conflict(Conflict),
 }
 
-// What checks tell before anything changes: that all pass, or the first that fails.
-#[derive(Clone, Copy)]
-pub enum Verdict {
-    Accepted,
-    Refused(Refusal),
-}
+impl From<Refusal> for CallError {
+    ghost from_gives = { λ r e. e ≡ Refused r };
 
-// What a call that logs answers: the outcome, and the head of the log after it.
-#[derive(Clone, Copy)]
-pub struct Answered {
-    pub outcome: Outcome,
-    pub head: LogHead,
-}
-
-// 01's number of a refusal.
-pub fn number(r: Refusal) -> u32
-    ensures { result ≡ number_of r }
-{
-    match r {
-        Refusal::NumbersOutOfLimits => 1,
-        Refusal::FlagsBreakRule => 2,
-        Refusal::ShortRoom => 3,
-        Refusal::NotWellFormed => 4,
-        Refusal::LogTooShort => 5,
-        Refusal::FlagsDiffer => 6,
-        Refusal::NoSuchIndex(_) => 7,
-        Refusal::ExtentOutOfLimits(_) => 8,
-        Refusal::ExtentDiffers(_) => 9,
-        Refusal::MipsEmpty => 16,
-        Refusal::MipsReversed => 17,
-        Refusal::LayersEmpty => 18,
-        Refusal::LayersReversed => 19,
-        Refusal::SelectorPastExtent => 11,
-        Refusal::StateReserved => 12,
-        Refusal::StateIncompatible => 13,
-        Refusal::RangesOutOfOrder => 14,
-        Refusal::LogOutOfOrder => 31,
-        Refusal::FieldCutShort => 20,
-        Refusal::UnknownTag => 21,
-        Refusal::UseOfWrongSize => 22,
-        Refusal::GroupsTooDeep => 23,
-        Refusal::PlanUnbalanced => 24,
-        Refusal::GroupTooLong => 25,
-        Refusal::NoFreeEntry => 15,
+    fn from(r: Refusal) -> CallError {
+        CallError::Refused(r)
     }
 }
 
-// 01's place of a refusal: the index for 7 to 9, otherwise 0.
-pub fn place(r: Refusal) -> u32
-    ensures { result ≡ place_of r }
-{
-    match r {
-        Refusal::NumbersOutOfLimits => 0,
-        Refusal::FlagsBreakRule => 0,
-        Refusal::ShortRoom => 0,
-        Refusal::NotWellFormed => 0,
-        Refusal::LogTooShort => 0,
-        Refusal::FlagsDiffer => 0,
-        Refusal::NoSuchIndex(i) => i.0,
-        Refusal::ExtentOutOfLimits(i) => i.0,
-        Refusal::ExtentDiffers(i) => i.0,
-        Refusal::MipsEmpty => 0,
-        Refusal::MipsReversed => 0,
-        Refusal::LayersEmpty => 0,
-        Refusal::LayersReversed => 0,
-        Refusal::SelectorPastExtent => 0,
-        Refusal::StateReserved => 0,
-        Refusal::StateIncompatible => 0,
-        Refusal::RangesOutOfOrder => 0,
-        Refusal::LogOutOfOrder => 0,
-        Refusal::FieldCutShort => 0,
-        Refusal::UnknownTag => 0,
-        Refusal::UseOfWrongSize => 0,
-        Refusal::GroupsTooDeep => 0,
-        Refusal::PlanUnbalanced => 0,
-        Refusal::GroupTooLong => 0,
-        Refusal::NoFreeEntry => 0,
+impl From<Conflict> for CallError {
+    ghost from_gives = { λ c e. e ≡ Conflicting c };
+
+    fn from(c: Conflict) -> CallError {
+        CallError::Conflict(c)
     }
 }
