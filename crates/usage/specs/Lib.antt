@@ -3,4 +3,3 @@ pub mod CountLaws
 pub mod Gathered
 pub mod Ones
 pub mod StateLaws
-pub mod United

@@ -4,7 +4,7 @@
 // test them. It knows of no texture, range or log, so that buffers can use it as it stands.
 //
 // What holds of every function: a state is any u32, the usage flags are any, and the answer equals a definition, the model's where it has
-// one; nothing is required but, where a table is handed in, that it is the one that counts bits. The definitions count sixteen bits, so
+// one; nothing is required, and a table that is handed in is by its type the one that counts bits. The definitions count sixteen bits, so
 // `one_bit` looks at the low sixteen. specs/StateLaws has that wgpu-core's test is 01's, Ones the table's rule, Gathered how the states of
 // a set are tested together, BitLaws and CountLaws laws on bits and on counts of them.
 #![tactic(auto)]
@@ -17,13 +17,12 @@ ghost use Rattle.std.specs.Prelude.{◌≡◌, eqb};
 ghost use Rattle.std.specs.Int.Bits.{bit_or};
 ghost use Rattle.model.specs.Flags.{meets as meets_of, incompatible as incompatible_of};
 ghost use Rattle.model.specs.StateRules.{skip_barrier, less as less_of};
-ghost use Rattle.usage.specs.Ones.{CountsOnes};
 ghost use Rattle.usage.specs.Gathered.{exclusive_part};
 
-pub use flags::{flags_fit, flags_fit_by, same_flags, state_reserved};
+pub use flags::{flags_fit, flags_fit_by, state_reserved};
 use model::UsageFlags;
-pub use table::{OnesTable, one_bit, one_bit_by, ones_table};
-pub use united::{United, unite, unite_known};
+pub use table::OnesTable;
+pub use united::{unite, unite_known};
 
 // Whether two states share a bit.
 pub fn meets(a: u32, b: u32) -> bool
@@ -36,31 +35,14 @@ pub fn meets(a: u32, b: u32) -> bool
 pub fn incompatible(p: UsageFlags, s: u32) -> bool
     ensures { result ≡ incompatible_of p s }
 {
-    if meets(s, p.exclusive) {
-        return !one_bit(s);
-    }
-    false
-}
-
-// The same by a table that the caller has: whoever tests many states has it once.
-pub fn incompatible_by(ones: &OnesTable, p: UsageFlags, s: u32) -> bool
-    requires { CountsOnes ones.now }
-    ensures { result ≡ incompatible_of p s }
-{
-    if !meets(s, p.exclusive) {
-        return false;
-    }
-    !one_bit_by(ones, s)
+    meets(s, p.exclusive) && !OnesTable::new().one_bit(s)
 }
 
 // What a state adds to the union of those that meet EXCLUSIVE: where that union has at most one bit, each of them has one.
 pub fn exclusive_part(p: UsageFlags, s: u32) -> u32
     ensures { result ≡ exclusive_part p s }
 {
-    if meets(s, p.exclusive) {
-        return s;
-    }
-    0
+    if meets(s, p.exclusive) { s } else { 0 }
 }
 
 // `skip_barrier`: old equals new and the mask contains old.

@@ -1,39 +1,28 @@
-// A new state from an old and a given one: texture.rs, in `merge`.
+// A new state from an old and a given one: texture.rs, in `merge`. None, where they cannot be had together.
 ghost use Rattle.std.specs.Prelude.{◌≡◌};
-ghost use Rattle.model.specs.StateRules.{unite as unite_of, unite_known};
-ghost use Rattle.usage.specs.United.{state_of};
+ghost use Rattle.model.specs.StateRules.{unite, unite_known};
 
 use crate::{incompatible, less, union};
 use model::UsageFlags;
 
-// A new state, or none that the old one and the given one could have together.
-#[derive(Clone, Copy)]
-pub enum United {
-    Conflict,
-    State(u32),
-}
-
 // The state of a Single texture with a given one.
-pub fn unite(p: UsageFlags, old: u32, new: u32) -> United
-    ensures { state_of result ≡ unite_of p old new }
+pub fn unite(p: UsageFlags, old: u32, new: u32) -> Option<u32>
+    ensures { result ≡ unite p old new }
 {
     let u = union(old, new);
-    if incompatible(p, u) {
-        return United::Conflict;
-    }
-    United::State(u)
+    if incompatible(p, u) { None } else { Some(u) }
 }
 
 // The state of a range with a given one: less UNKNOWN, and where nothing is left the old one stays.
-pub fn unite_known(p: UsageFlags, old: u32, new: u32) -> United
-    ensures { state_of result ≡ unite_known p old new }
+pub fn unite_known(p: UsageFlags, old: u32, new: u32) -> Option<u32>
+    ensures { result ≡ unite_known p old new }
 {
     let u = less(p.unknown, union(old, new));
     if u == 0 {
-        return United::State(old);
+        return Some(old);
     }
     if incompatible(p, u) {
-        return United::Conflict;
+        return None;
     }
-    United::State(u)
+    Some(u)
 }

@@ -7,6 +7,6 @@ pub returns-then-meets : goal.returns-then-meets
 unfolding incompatible
 returns-then-meets c = let m = sym c.meets.ensures ∙ c.if-meets.true in rw (m, c.one_bit.ensures)
 
-pub returns : goal.returns
+pub returns-else-meets : goal.returns-else-meets
 unfolding incompatible
-returns c = let m = sym c.meets.ensures ∙ c.if-meets.false in rw m
+returns-else-meets c = let m = sym c.meets.ensures ∙ c.if-meets.false in rw m c.if-meets.false

@@ -2,4 +2,4 @@
 use Rattle.usage.proofs.flags.is_bit.Goals as goal
 
 pub returns : goal.returns
-returns c = rw c.one_bit_by.ensures
+returns c = rw c.one_bit.ensures

@@ -9,7 +9,7 @@ unfolding unite
 returns-then-incompatible c = let i = invalid_is _ _ ∙ sym c.incompatible.ensures ∙ c.if-incompatible.true in
     rw (← c.union-u.ensures, i)
 
-pub returns : goal.returns
+pub returns-else-incompatible : goal.returns-else-incompatible
 unfolding unite
-returns c = let i = invalid_is _ _ ∙ sym c.incompatible.ensures ∙ c.if-incompatible.false in
+returns-else-incompatible c = let i = invalid_is _ _ ∙ sym c.incompatible.ensures ∙ c.if-incompatible.false in
     rw (← c.union-u.ensures, i)

@@ -4,7 +4,7 @@ use Rattle.model.specs.Prelude.{ℕ, arith, ◌∙◌, bit_and, and_le_r, List, 
 use Rattle.usage.specs.Ones.{CountsOnes, entry_lt, looked_up, two_bytes}
 use mir.Syntax.{w8, w64}
 use mir.Val.{Fits}
-use Rattle.usage.proofs.table.one_bit_by.Goals as goal
+use Rattle.usage.proofs.table.OnesTable.one_bit.Goals as goal
 
 -- ---- whatever part of a byte is looked up, it is within the table, and the sum of two entries fits a byte
 byte : (n k : ℕ) → k < 256 → bit_and n k < 256
@@ -23,10 +23,10 @@ pub overflow_cast-result-2 : goal.overflow_cast-result-2
 overflow_cast-result-2 c = byte_fits (byte (c.args.s / 256) _ (omega arith))
 
 pub overflow_add-result : goal.overflow_add-result
-overflow_add-result c = sum_fits _ _ _ c.requires
+overflow_add-result c = sum_fits _ _ _ c.args.self.now.counts
 
 -- ---- the rule
 pub returns : goal.returns
 returns c =
     let s = c.args.s in
-    looked_up _ _ _ c.requires (byte s _ (omega arith)) (byte (s / 256) _ (omega arith)) ∙ two_bytes s
+    looked_up _ _ _ c.args.self.now.counts (byte s _ (omega arith)) (byte (s / 256) _ (omega arith)) ∙ two_bytes s
