@@ -30,7 +30,7 @@ pub record TextureHeld (d : Numbers) (h : ℕ) (t r : List ℕ) (i : ℕ) (sh : 
 pub tiles_few : (d : Numbers) (h : ℕ) (t r : List ℕ) (i k w : ℕ) → 0 < w → Tiles 0 (mip_of d h t r i k) w
     → get_or t (count_at h i k) 0 ≤ d.layers
 unfolding mip_of
-tiles_few d h t r i k w some f =
+tiles_few d h t r i k w Some f =
     by_lt d.layers (get_or t (count_at h i k) 0)
     (λ l. let z : Tiles 0 [] w = rw (lt-leb (get_or t (count_at h i k) 0) d.layers l) at f in absurd (omega arith))
     (λ l. l)

@@ -17,10 +17,10 @@
 
 ghost use Rattle.std.specs.Prelude.{◌≡◌, ◌+◌, ◌*◌, ◌≤◌, ◌<◌, length, set};
 ghost use Rattle.set_storage.specs.Part.{base_of, Within};
-ghost use Rattle.set_storage.specs.Storage.{flags_of, count_at, end_half, table_length};
+ghost use Rattle.set_storage.specs.Storage.{flags_of, extent_of, count_at, end_half, table_length};
 ghost use Rattle.set_storage.specs.Locate.{Locates, LocatedAt};
 
-use model::UsageFlags;
+use model::{Extent, UsageFlags};
 
 pub const TABLE_LENGTH: usize = 2376;
 
@@ -86,6 +86,17 @@ pub fn flags_of(table: &Table) -> UsageFlags
         uninitialized: table[UNINITIALIZED],
         complex: table[COMPLEX],
         unknown: table[UNKNOWN],
+    }
+}
+
+// How many mips and layers texture i has, if it is owned.
+pub fn extent_of(table: &Table, i: usize) -> Extent
+    requires { i < 64 }
+    ensures { result ≡ extent_of table.now i }
+{
+    Extent {
+        mips: table[MIPS + i],
+        layers: table[LAYERS + i],
     }
 }
 
