@@ -10,7 +10,7 @@
 
 ghost use Rattle.range_calls.specs.RangeContract.{Isolates, Coalesces, Filters};
 
-use model::{Refusal, Verdict};
+use model::Refusal;
 
 // Where the run is, how many ranges it has, and how many records are in use now.
 #[derive(Clone, Copy)]
@@ -20,66 +20,45 @@ pub struct Isolation {
     pub told: usize,
 }
 
-// What `isolate` answers.
-#[derive(Clone, Copy)]
-pub enum IsolateAnswer {
-    Refused(Refusal),
-    Isolated(Isolation),
-}
-
-// What `coalesce` answers: how many records are in use now.
-#[derive(Clone, Copy)]
-pub enum CoalesceAnswer {
-    Refused(Refusal),
-    Coalesced(usize),
-}
-
-// What `iter_filter` answers: how many overlaps were listed.
-#[derive(Clone, Copy)]
-pub enum FilterAnswer {
-    Refused(Refusal),
-    Filtered(usize),
-}
-
 // Makes what lies from `start` to `end` a run of ranges of its own, gaps filled with the default.
-pub fn isolate(s: &mut [u32], told: usize, start: u32, end: u32, default: u32) -> IsolateAnswer
+pub fn isolate(
+    s: &mut [u32],
+    told: usize,
+    start: u32,
+    end: u32,
+    default: u32,
+) -> Result<Isolation, Refusal>
     ensures { Isolates s.old told start end default result s.new }
 {
-    match range_checks::check_isolate(s, told, start, end) {
-        Verdict::Refused(r) => IsolateAnswer::Refused(r),
-        Verdict::Accepted => {
-            let i = range_isolate::isolate(s, told, start, end, default);
-            IsolateAnswer::Isolated(Isolation {
-                position: i.position,
-                count: i.end - i.position,
-                told: i.len,
-            })
-        }
-    }
+    range_checks::check_isolate(s, told, start, end)?;
+    let i = range_isolate::isolate(s, told, start, end, default);
+    Ok(Isolation {
+        position: i.position,
+        count: i.end - i.position,
+        told: i.len,
+    })
 }
 
-// Joins touching ranges of one state. Records that it frees become zeros.
-pub fn coalesce(s: &mut [u32], told: usize) -> CoalesceAnswer
+// Joins touching ranges of one state, and tells how many records are in use now. Records that it frees become zeros.
+pub fn coalesce(s: &mut [u32], told: usize) -> Result<usize, Refusal>
     ensures { Coalesces s.old told result s.new }
 {
-    match range_checks::check_coalesce(s, told) {
-        Verdict::Refused(r) => CoalesceAnswer::Refused(r),
-        Verdict::Accepted => {
-            let n = range_states::coalesce(s, told);
-            CoalesceAnswer::Coalesced(n)
-        }
-    }
+    range_checks::check_coalesce(s, told)?;
+    let len = range_states::coalesce(s, told);
+    Ok(len)
 }
 
-// Lists the overlaps with what lies from `start` to `end`, clipped, in a second slice.
-pub fn iter_filter(s: &[u32], told: usize, start: u32, end: u32, out: &mut [u32]) -> FilterAnswer
+// Lists the overlaps with what lies from `start` to `end`, clipped, in a second slice, and tells how many they are.
+pub fn iter_filter(
+    s: &[u32],
+    told: usize,
+    start: u32,
+    end: u32,
+    out: &mut [u32],
+) -> Result<usize, Refusal>
     ensures { Filters s.now told start end out.old result out.new }
 {
-    match range_checks::check_filter(s, told, start, end, out) {
-        Verdict::Refused(r) => FilterAnswer::Refused(r),
-        Verdict::Accepted => {
-            let n = range_states::iter_filter(s, told, start, end, out);
-            FilterAnswer::Filtered(n)
-        }
-    }
+    range_checks::check_filter(s, told, start, end, out)?;
+    let n = range_states::iter_filter(s, told, start, end, out);
+    Ok(n)
 }

@@ -1,6 +1,6 @@
 -- The contracts of this crate and the model's three calls on a lent run (model, RangeCalls): what they refuse, and what they leave.
 use Rattle.std.specs.Prelude.{◌-◌, ◌*◌, ◌≤◌, ◌≡◌, ◌∷◌}
-use Rattle.model.specs.Prelude.{ℕ, arith, sym, false, not, none, List, [], append_assoc, ltb, length, take}
+use Rattle.model.specs.Prelude.{ℕ, arith, sym, false, not, None, List, [], append_assoc, ltb, length, take}
 use Rattle.model.specs.Prelude.{ltb-false}
 use Rattle.model.specs.{BoolLaws.neither, CheckLaws.{passed, both_passed}, Refusals.{first_failing, layers_checks}}
 use Rattle.model.specs.RangedStates.{list_of, isolate, iter_filter}
@@ -19,23 +19,23 @@ record_fits : (l : List ℕ) (n : ℕ) → ltb (length (view l)) n ≡ false →
 record_fits l n e = let h = ltb-false (length (view l)) n e in omega (arith, view_count l)
 
 -- a run that passed 18, 19 and 14
-pub run_fits : (l : List ℕ) (told a e : ℕ) → first_failing (run_checks a e told (view l)) ≡ none → 3 * told ≤ length l
+pub run_fits : (l : List ℕ) (told a e : ℕ) → first_failing (run_checks a e told (view l)) ≡ None → 3 * told ≤ length l
 run_fits l told a e h = told_fits l told (passed _ (both_passed (layers_checks a e) (ranges_check told (view l) ∷ []) h).1).0
 
-pub isolate_accepted : (l : List ℕ) (told a e d : ℕ) → isolate_refusal a e d told (view l) ≡ none → IsolateRoom l told a e d
+pub isolate_accepted : (l : List ℕ) (told a e d : ℕ) → isolate_refusal a e d told (view l) ≡ None → IsolateRoom l told a e d
 isolate_accepted l told a e d h =
     let n = length (list_of (isolate a e d (take told (view l)))) in
     let p = both_passed (run_checks a e told (view l)) (room_checks n (length (view l))) h in
     record { fits = run_fits l told a e p.0; grown = record_fits l n (passed _ p.1).0 }
 
-pub coalesce_accepted : (l : List ℕ) (told : ℕ) → coalesce_refusal told (view l) ≡ none → 3 * told ≤ length l
+pub coalesce_accepted : (l : List ℕ) (told : ℕ) → coalesce_refusal told (view l) ≡ None → 3 * told ≤ length l
 coalesce_accepted l told h = told_fits l told (passed _ h).0
 
 pub record FilterRoom (l : List ℕ) (told a e : ℕ) (m : List ℕ) : Type 0 where
   pub fits : 3 * told ≤ length l
   pub room : 3 * length (iter_filter a e (decode told l)) ≤ length m
 
-pub filter_accepted : (l : List ℕ) (told a e : ℕ) (m : List ℕ) → filter_refusal a e told (view l) (view m) ≡ none → FilterRoom l told a e m
+pub filter_accepted : (l : List ℕ) (told a e : ℕ) (m : List ℕ) → filter_refusal a e told (view l) (view m) ≡ None → FilterRoom l told a e m
 filter_accepted l told a e m h =
     let n = length (iter_filter a e (take told (view l))) in
     let p = both_passed (run_checks a e told (view l)) (room_checks n (length (view m))) h in

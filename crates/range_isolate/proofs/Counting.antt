@@ -1,7 +1,8 @@
 -- How many ranges `isolate` will leave, counted on unchanged storage.
 use Rattle.model.specs.Prelude.{ℕ, suc, max, le_of_lt, arith, refl, ap, ◌∙◌, Bool, true, false, List, [], ltb, length, get_or, drop}
-use Rattle.model.specs.Prelude.{length-drop, slice_empty, length-take-le, lt-ltb, le-ltb, le-leb, lt-leb, ltb-true, ltb-false}
+use Rattle.model.specs.Prelude.{length-drop, slice_empty, length-take-le, le-ltb, le-leb, lt-leb, ltb-true, ltb-false}
 use Rattle.model.specs.{declared.Range.Range, RangedStates.{range, list_of, isolate_from, isolate}}
+use Rattle.std.specs.Int.{from_bool}
 use Rattle.std.specs.Prelude.{◌+◌, ◌*◌, ◌-◌, ◌≤◌, ◌<◌, ◌≡◌, ◌∷◌, if◌then◌else◌}
 use Rattle.range_states.specs.View.{view, decode, blank, view_long}
 use Rattle.range_isolate.specs.Isolation.{all_of, gap_count, cut_count, cut_first, lead_count, added_by, Found, Leading, Added}
@@ -70,20 +71,32 @@ count_is {l} {len} {a} {e} {p} {g} {h} room f q r d =
     let j : length (all_of (isolate_from a e d (drop g (cut_first a s)))) ≡ length s + added_by a e s = rw q.is (cut_first_lem e d a s) in
     omega (arith, i, j, r.is, length-drop p (decode len l), f.few)
 
+-- ---- a count of one or none
+pub gap_few : (a b : ℕ) → gap_count a b ≤ 1
+gap_few a b = go (ltb a b)
+  where
+    go : (t : Bool) → (if t then 1 else 0) ≤ 1
+    go true = omega arith
+    go false = omega arith
+
+pub gap_is : {m : ℕ} (a b : ℕ) → m ≡ from_bool (ltb a b) → m ≡ gap_count a b
+gap_is {m} a b h = h ∙ go (ltb a b)
+  where
+    go : (t : Bool) → from_bool t ≡ (if t then 1 else 0)
+    go true = refl
+    go false = refl
+
 -- ---- `lead`
 pub lead_end : {l : List ℕ} {len pos x : ℕ} → pos ≡ len → Leading l len pos x 0
 unfolding lead_count
 lead_end {l} {len} {pos} {x} h = record { few = omega arith; is = rw (h, slice_empty len (view l)) }
 
-module _ {l : List ℕ} {len pos x : ℕ} {r : Range} (room : 3 * len ≤ length l) (h : pos ≤ len) (ne : pos ≡ len → ⊥)
-    (g : r ≡ get_or (view l) pos blank) where
-  pub lead_yes : r.start < x → Leading l len pos x 1
-  unfolding lead_count
-  lead_yes t = record { few = omega arith; is = rw (next_is l len pos r room (omega arith) g, lt-ltb r.start x t) }
-
-  pub lead_no : x ≤ r.start → Leading l len pos x 0
-  unfolding lead_count
-  lead_no t = record { few = omega arith; is = rw (next_is l len pos r room (omega arith) g, le-ltb r.start x t) }
+pub lead_is : {l : List ℕ} {len pos x m : ℕ} {r : Range} → 3 * len ≤ length l → pos ≤ len → (pos ≡ len → ⊥)
+    → r ≡ get_or (view l) pos blank → m ≡ from_bool (ltb r.start x) → Leading l len pos x m
+unfolding lead_count
+lead_is {l} {len} {pos} {x} {m} {r} room h ne g i =
+    let t = gap_is r.start x i in
+    record { few = omega (arith, t, gap_few r.start x); is = rw (next_is l len pos r room (omega arith) g) t }
 
 -- ---- the loop of `added`: what is counted, and what is left to count
 pub record Counting (l : List ℕ) (len pos at e n k a : ℕ) : Type 0 where
@@ -91,16 +104,6 @@ pub record Counting (l : List ℕ) (len pos at e n k a : ℕ) : Type 0 where
   pub high : k ≤ len
   pub few : n ≤ k - pos
   pub is : n + added_by a e (drop k (decode len l)) ≡ added_by at e (drop pos (decode len l))
-
-pub start_of : (l : List ℕ) (len pos at e : ℕ) → pos ≤ len → Counting l len pos at e 0 pos at
-start_of l len pos at e h = record { low = omega arith; high = h; few = omega arith; is = omega arith }
-
-pub gap_few : (a b : ℕ) → gap_count a b ≤ 1
-gap_few a b = go (ltb a b)
-  where
-    go : (t : Bool) → (if t then 1 else 0) ≤ 1
-    go true = omega arith
-    go false = omega arith
 
 pub finish : {l : List ℕ} {len pos at e n k a : ℕ} → Counting l len pos at e n k a → len ≤ k → Added l len pos at e (n + 1)
 unfolding added_by

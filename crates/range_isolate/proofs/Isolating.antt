@@ -17,9 +17,6 @@ pub record Looking (l : List ℕ) (len x k : ℕ) : Type 0 where
   pub high : k ≤ len
   pub is : k + first_past x (drop k (decode len l)) ≡ first_past x (decode len l)
 
-pub look_from : (l : List ℕ) (len x : ℕ) → Looking l len x 0
-look_from l len x = record { high = omega arith; is = omega arith }
-
 pub look_on : {l : List ℕ} {len x k : ℕ} {r : Range} → 3 * len ≤ length l → Looking l len x k → k < len → r ≡ get_or (view l) k blank
     → r.end ≤ x → Looking l len x (k + 1)
 unfolding first_past
@@ -36,7 +33,7 @@ look_here {l} {len} {x} {k} {r} room j h g t =
     let m : k + 0 ≡ first_past x (decode len l) = rw (lt-ltb x r.end t) at n in
     record { few = omega arith; is = omega arith }
 
-pub look_end : {l : List ℕ} {len x k : ℕ} → Looking l len x k → len ≤ k → Found l len x k
+pub look_end : {l : List ℕ} {len x k : ℕ} → Looking l len x k → len ≤ k → Found l len x len
 unfolding first_past
 look_end {l} {len} {x} {k} j h =
     let e : k ≡ len = omega arith in let z : drop k (decode len l) ≡ [] = rw e (slice_empty len (view l)) in

@@ -9,7 +9,7 @@ ghost use Rattle.range_isolate.specs.Isolation.{gap_count, cut_count, lead_count
 
 use crate::insert_record;
 use model::Range;
-use range_states::{get, larger, put};
+use range_states::{get, put};
 
 // The new count, and where the run ends.
 #[derive(Clone, Copy)]
@@ -33,7 +33,16 @@ fn fill_gap(s: &mut [u32], len: usize, pos: usize, at: u32, start: u32, default:
     ensures { Gapped s.old len pos at start default result s.new }
 {
     if at < start {
-        insert_record(s, len, pos, at, start, default);
+        insert_record(
+            s,
+            len,
+            pos,
+            Range {
+                start: at,
+                end: start,
+                state: default,
+            },
+        );
         1
     } else {
         0
@@ -47,21 +56,20 @@ fn cut_end(s: &mut [u32], len: usize, pos: usize, at: u32, end: u32) -> usize
     ensures { EndCut s.old len pos at end result s.new }
 {
     let r = get(s, pos);
-    let stop = r.end;
-    let state = r.state;
-    if stop <= end {
+    if r.end <= end {
         return 0;
     }
-    put(
+    put(s, pos, Range { start: end, ..r });
+    insert_record(
         s,
+        len,
         pos,
         Range {
-            start: end,
-            end: stop,
-            state,
+            start: at,
+            end,
+            ..r
         },
     );
-    insert_record(s, len, pos, at, end, state);
     1
 }
 
@@ -70,16 +78,12 @@ fn first_past(s: &[u32], len: usize, x: u32) -> usize
     requires { 3 * len ≤ length s.now }
     ensures { Found s.now len x result }
 {
-    let mut k = 0;
-    while k < len {
-        let r = get(s, k);
-        let end = r.end;
-        if x < end {
+    for k in 0..len {
+        if x < get(s, k).end {
             return k;
         }
-        k += 1;
     }
-    k
+    len
 }
 
 // Cuts the record at `pos`, if there is one, at x, if it starts before x. Tells how many records that added.
@@ -92,26 +96,16 @@ fn cut_start(s: &mut [u32], len: usize, pos: usize, x: u32) -> usize
         return 0;
     }
     let r = get(s, pos);
-    let start = r.start;
-    let stop = r.end;
-    let state = r.state;
-    if x <= start {
+    if x <= r.start {
         return 0;
     }
-    put(
-        s,
-        pos,
-        Range {
-            start: x,
-            end: stop,
-            state,
-        },
-    );
-    insert_record(s, len, pos, start, x, state);
+    put(s, pos, Range { start: x, ..r });
+    insert_record(s, len, pos, Range { end: x, ..r });
     1
 }
 
-// From the record at `pos` on, makes the records cover exactly what lies from `at` to `end`: the Rust's loop.
+// From the record at `pos` on, makes the records cover exactly what lies from `at` to `end`: the Rust's loop. A `for` would be no plainer:
+// a record that fills a gap moves the cursor and the end, and the cursor is used past the loop.
 fn cover(s: &mut [u32], len: usize, pos: usize, at: u32, end: u32, default: u32) -> Placed
     requires pos_le_len { pos ≤ len }
     requires cover_room { CoverRoom s.old len pos at end default }
@@ -122,26 +116,32 @@ fn cover(s: &mut [u32], len: usize, pos: usize, at: u32, end: u32, default: u32)
     let mut a = at;
     while p < n {
         let r = get(s, p);
-        let start = r.start;
-        let stop = r.end;
-        if end <= start {
+        if end <= r.start {
             break;
         }
-        let g = fill_gap(s, n, p, a, start, default);
+        let g = fill_gap(s, n, p, a, r.start, default);
         n += g;
         p += g;
-        if end <= stop {
-            let from = larger(a, start);
-            let h = cut_end(s, n, p, from, end);
+        if end <= r.end {
+            let h = cut_end(s, n, p, a.max(r.start), end);
             return Placed {
                 len: n + h,
                 end: p + 1,
             };
         }
         p += 1;
-        a = stop;
+        a = r.end;
     }
-    insert_record(s, n, p, a, end, default);
+    insert_record(
+        s,
+        n,
+        p,
+        Range {
+            start: a,
+            end,
+            state: default,
+        },
+    );
     Placed {
         len: n + 1,
         end: p + 1,
@@ -173,9 +173,7 @@ fn lead(s: &[u32], len: usize, pos: usize, x: u32) -> usize
     if pos == len {
         return 0;
     }
-    let r = get(s, pos);
-    let start = r.start;
-    if start < x { 1 } else { 0 }
+    usize::from(get(s, pos).start < x)
 }
 
 // How many records will be added from the record at `pos` on, so that they cover what lies from `at` to `end`.
@@ -185,33 +183,23 @@ fn added(s: &[u32], len: usize, pos: usize, at: u32, end: u32) -> usize
     ensures { Added s.now len pos at end result }
 {
     let mut n = 0;
-    let mut k = pos;
     let mut a = at;
-    while k < len {
+    for k in pos..len {
         let r = get(s, k);
-        let start = r.start;
-        let stop = r.end;
-        k += 1;
-        if end <= larger(a, start) {
+        if end <= a.max(r.start) {
             return n + 1;
         }
-        n = n + gap_count(a, start);
-        if end <= stop {
-            return n + gap_count(end, stop);
+        n += usize::from(a < r.start);
+        if end <= r.end {
+            return n + usize::from(end < r.end);
         }
-        a = stop;
+        a = r.end;
     }
     n + 1
 }
 
-// How many records fill what lies between `at` and `start`.
-fn gap_count(at: u32, start: u32) -> usize
-    ensures { result ≡ gap_count at start }
-{
-    if at < start { 1 } else { 0 }
-}
-
 // How many ranges `isolate` will leave, whatever the default, so that a caller can refuse before any change.
+#[tactic(auto, using(crate::proofs::Counting::count_is))]
 pub fn isolated_count(s: &[u32], len: usize, start: u32, end: u32) -> usize
     requires { 3 * len ≤ length s.now }
     ensures { (d : ℕ) → result ≡ length (list_of (isolate_of start end d (decode len s.now))) }

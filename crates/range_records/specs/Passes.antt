@@ -1,21 +1,14 @@
 -- The passes over a run of records: what each computes, in the direction of its loop. That they are the model's calls is proved in proofs/.
 use Rattle.std.specs.Prelude.{◌+◌, ◌-◌, ◌≤◌, ◌&&◌, ◌||◌, ◌∷◌, if◌then◌else◌}
-use Rattle.model.specs.Prelude.{ℕ, zero, suc, min, max, Bool, true, not, List, [], leb, ltb, eqb, get_or, set}
+use Rattle.std.specs.Int.{from_bool}
+use Rattle.model.specs.Prelude.{ℕ, zero, suc, min, max, Bool, true, not, Result, Ok, Err, List, [], leb, ltb, eqb, get_or, set}
 use Rattle.model.specs.declared.Refusal.TheVariants.{LayersEmpty, LayersReversed, RangesOutOfOrder, NoFreeEntry}
-use Rattle.model.specs.{declared.{Range.Range, Refusal.Refusal, Verdict.Verdict}, RangedStates.{range, joins}}
+use Rattle.model.specs.{declared.{Range.Range, Refusal.Refusal}, Refusals.Verdict, RangedStates.{range, joins}}
 use Rattle.range_states.specs.{View.blank, Filtering.{overlaps, clip}}
-use Rattle.range_calls.specs.declared.{CoalesceAnswer.CoalesceAnswer, FilterAnswer.FilterAnswer}
 use Rattle.range_records.specs.{declared.decisions.Scan.Scan, declared.decisions.Plan.Plan, declared.decisions.Piece.Piece}
 use Rattle.range_records.specs.declared.decisions.Next.{Next}
-use Rattle.model.specs.declared.Verdict.TheVariants as verdict
-use Rattle.range_calls.specs.declared.IsolateAnswer.TheVariants as isolate
-use Rattle.range_calls.specs.declared.CoalesceAnswer.TheVariants as coalesce
-use Rattle.range_calls.specs.declared.FilterAnswer.TheVariants as filter
 
 -- ---- The first pass: what there is
-abbrev pub count_of : Bool → ℕ
-count_of b = if b then 1 else 0
-
 -- before any record
 abbrev pub begun : Scan
 begun = record { from = 0; ascends = true; first = 0; found = 0; gaps = 0; lead = 0; tail = 0 }
@@ -35,11 +28,11 @@ look_of a e s r =
     record {
       from = r.end;
       ascends = s.ascends && follows_of s.from r;
-      first = s.first + count_of (leb r.end a);
-      found = s.found + count_of (overlaps a e r);
-      gaps = s.gaps + count_of (ltb (max s.from a) (min r.start e));
-      lead = s.lead + count_of (cuts_of a r);
-      tail = s.tail + count_of (cuts_of e r);
+      first = s.first + from_bool (leb r.end a);
+      found = s.found + from_bool (overlaps a e r);
+      gaps = s.gaps + from_bool (ltb (max s.from a) (min r.start e));
+      lead = s.lead + from_bool (cuts_of a r);
+      tail = s.tail + from_bool (cuts_of e r);
     }
 
 -- every record, the first first
@@ -58,74 +51,52 @@ pub record Few (s : Scan) (k : ℕ) : Type 0 where
 
 -- the gaps in the index, that after the last record among them
 abbrev pub gaps_of : ℕ → ℕ → Scan → ℕ
-gaps_of a e s = s.gaps + count_of (ltb (max s.from a) e)
+gaps_of a e s = s.gaps + from_bool (ltb (max s.from a) e)
 
 -- ---- The answers, after the first pass
-abbrev pub refused_plan : Refusal → Plan
-refused_plan r = record { answer = isolate.Refused r; len = 0; top = 0 }
-
 -- how many records `isolate` leaves of `told`
 abbrev pub length_of : ℕ → ℕ → ℕ → Scan → ℕ
 length_of a e told s = told + gaps_of a e s + s.lead + s.tail
 
 -- 14
 unfoldable pub verdict_of : ℕ → ℕ → Scan → Verdict
-verdict_of lent told s = if ltb lent told || not s.ascends then verdict.Refused RangesOutOfOrder else verdict.Accepted
+verdict_of lent told s = if ltb lent told || not s.ascends then Err RangesOutOfOrder else Ok tt
 
 -- 18, 19, and then 14
 unfoldable pub run_verdict : ℕ → ℕ → Scan → ℕ → ℕ → Verdict
 unfolding verdict_of
 run_verdict lent told s a e =
-    if eqb a e then verdict.Refused LayersEmpty else if ltb e a then verdict.Refused LayersReversed else verdict_of lent told s
+    if eqb a e then Err LayersEmpty else if ltb e a then Err LayersReversed else verdict_of lent told s
 
 -- what `isolate` tells, if it is not refused
 abbrev pub isolated_plan : ℕ → Scan → ℕ → ℕ → Plan
 isolated_plan told s a e = record {
-  answer = isolate.Isolated (record { position = s.first + s.lead; count = s.found + gaps_of a e s; told = length_of a e told s });
-  len = length_of a e told s;
+  run = record { position = s.first + s.lead; count = s.found + gaps_of a e s; told = length_of a e told s };
   top = max s.from e;
 }
 
 -- 15, or what it tells
-abbrev pub room_plan : ℕ → ℕ → Scan → ℕ → ℕ → Plan
-room_plan lent told s a e = if ltb lent (length_of a e told s) then refused_plan NoFreeEntry else isolated_plan told s a e
-
--- a plan, where the run is accepted
-abbrev pub plan_for : Verdict → Plan → Plan
-plan_for verdict.Accepted p = p
-plan_for (verdict.Refused r) p = refused_plan r
-
--- 18, 19, 14, 15, or what `isolate` tells
-unfoldable pub isolate_plan : ℕ → ℕ → Scan → ℕ → ℕ → Plan
-unfolding run_verdict
-isolate_plan lent told s a e = plan_for (run_verdict lent told s a e) (room_plan lent told s a e)
-
--- what is accepted is done for n records, what is refused for none
-abbrev pub granted_of : Verdict → ℕ → ℕ
-granted_of verdict.Accepted n = n
-granted_of (verdict.Refused r) n = 0
-
-abbrev pub coalesced_of : Verdict → ℕ → CoalesceAnswer
-coalesced_of verdict.Accepted n = coalesce.Coalesced n
-coalesced_of (verdict.Refused r) n = coalesce.Refused r
-
--- 15, or how many overlaps were found
-abbrev pub room_answer : ℕ → ℕ → FilterAnswer
-room_answer found room = if ltb room found then filter.Refused NoFreeEntry else filter.Filtered found
+abbrev pub room_plan : ℕ → ℕ → Scan → ℕ → ℕ → Result Plan Refusal
+room_plan lent told s a e = if ltb lent (length_of a e told s) then Err NoFreeEntry else Ok (isolated_plan told s a e)
 
 -- an answer, where the run is accepted
-abbrev pub filter_for : Verdict → FilterAnswer → FilterAnswer
-filter_for verdict.Accepted x = x
-filter_for (verdict.Refused r) x = filter.Refused r
+abbrev pub accepted_then : {A : Type 0} → Verdict → Result A Refusal → Result A Refusal
+accepted_then (Ok u) x = x
+accepted_then (Err r) x = Err r
+
+-- 18, 19, 14, 15, or what `isolate` tells
+unfoldable pub isolate_plan : ℕ → ℕ → Scan → ℕ → ℕ → Result Plan Refusal
+unfolding run_verdict
+isolate_plan lent told s a e = accepted_then (run_verdict lent told s a e) (room_plan lent told s a e)
+
+-- 15, or how many overlaps were found
+abbrev pub room_answer : ℕ → ℕ → Result ℕ Refusal
+room_answer found room = if ltb room found then Err NoFreeEntry else Ok found
 
 -- 18, 19, 14, 15, or what `iter_filter` tells
-unfoldable pub filter_plan : ℕ → ℕ → Scan → ℕ → ℕ → ℕ → FilterAnswer
+unfoldable pub filter_plan : ℕ → ℕ → Scan → ℕ → ℕ → ℕ → Result ℕ Refusal
 unfolding run_verdict
-filter_plan lent told s a e room = filter_for (run_verdict lent told s a e) (room_answer s.found room)
-
-abbrev pub filter_count : FilterAnswer → ℕ
-filter_count (filter.Filtered n) = n
-filter_count (filter.Refused r) = 0
+filter_plan lent told s a e room = accepted_then (run_verdict lent told s a e) (room_answer s.found room)
 
 -- ---- `isolate`: the records from the last to the first, each cut at a and at e, and each gap between a and e filled
 -- where the upper part of what lies from x to top starts

@@ -1,16 +1,13 @@
 // The decisions of the calls on range records, on plain numbers: what a pass has found, what a call answers, which record is written next.
-ghost use Rattle.std.specs.Prelude.{◌≡◌, true, false, ◌&&◌, ◌||◌, not, ◌+◌, ◌-◌, ◌≤◌, ◌<◌, min, ltb};
+ghost use Rattle.std.specs.Prelude.{◌≡◌, true, ◌&&◌, ◌+◌, ◌≤◌, ◌<◌, ltb, IfOk};
 ghost use Rattle.model.specs.RangedStates.{joins as joins_of};
-ghost use Rattle.range_states.specs.View.{blank as blank_of};
-ghost use Rattle.range_records.specs.Passes.{count_of, follows_of, cuts_of, Few, begun, look_of, isolate_plan, refused_plan, verdict_of};
-ghost use Rattle.range_records.specs.Passes.{run_verdict, granted_of, coalesced_of, filter_plan, filter_count, end_of, lower_of, left_of};
-ghost use Rattle.range_records.specs.Passes.{cut_piece, join_of};
+ghost use Rattle.range_records.specs.Passes.{follows_of, cuts_of, Few, look_of, isolate_plan, verdict_of, run_verdict, filter_plan};
+ghost use Rattle.range_records.specs.Passes.{end_of, lower_of, left_of, cut_piece, join_of};
 
-use model::{Range, Refusal, Verdict};
-use range_calls::{CoalesceAnswer, FilterAnswer, IsolateAnswer, Isolation};
+use model::{Range, Refusal};
+use range_calls::Isolation;
 use range_states::coalescing::joins;
 use range_states::filtering::overlap;
-use range_states::{larger, smaller};
 
 // What `survey` has found among the records so far: where the last one ends, whether they ascend, and how many end at or before the index's
 // start, overlap the index, leave a gap in it, are cut by its start, and by its end.
@@ -25,11 +22,10 @@ pub struct Scan {
     pub tail: usize,
 }
 
-// What `isolate` answers, how many records there will be (none if it is refused), and where the last of them ends.
+// What `isolate` tells, and where the last of the records that it leaves ends.
 #[derive(Clone, Copy)]
 pub struct Plan {
-    pub answer: IsolateAnswer,
-    pub len: usize,
+    pub run: Isolation,
     pub top: u32,
 }
 
@@ -48,17 +44,23 @@ pub struct Next {
     pub len: usize,
 }
 
-pub fn one(b: bool) -> usize
-    ensures { (result ≡ count_of b) × (result ≤ 1) }
+// A record that is not in use.
+pub const BLANK: Range = Range {
+    start: 0,
+    end: 0,
+    state: 0,
+};
+
+// Whether r is cut by x.
+fn cuts(x: u32, r: Range) -> bool
+    ensures { result ≡ cuts_of x r }
 {
-    if b { 1 } else { 0 }
+    r.start < x && x < r.end
 }
 
-// Before any record.
-pub fn begin() -> Scan
-    ensures { result ≡ begun }
-{
-    Scan {
+impl Scan {
+    // Before any record.
+    pub const BEGUN: Scan = Scan {
         from: 0,
         ascends: true,
         first: 0,
@@ -66,174 +68,105 @@ pub fn begin() -> Scan
         gaps: 0,
         lead: 0,
         tail: 0,
-    }
-}
+    };
 
-// Whether the records still ascend with r: it is no empty range and starts no earlier than `from`.
-fn follows(ascends: bool, from: u32, r: Range) -> bool
-    ensures { result ≡ (ascends && follows_of from r) }
-{
-    if !ascends {
-        return false;
+    // Whether the records still ascend with r: it is no empty range and starts no earlier than the last one ends.
+    fn goes_on(self, r: Range) -> bool
+        ensures { result ≡ (self.ascends && follows_of self.from r) }
+    {
+        self.ascends && self.from <= r.start && r.start < r.end
     }
-    if r.start < from {
-        return false;
-    }
-    r.start < r.end
-}
 
-// Whether r is cut by x.
-fn cuts(x: u32, r: Range) -> bool
-    ensures { result ≡ cuts_of x r }
-{
-    if x <= r.start {
-        return false;
-    }
-    x < r.end
-}
-
-// One record more.
-pub fn look(s: Scan, r: Range, start: u32, end: u32) -> Scan
-    requires { Few s 9223372036854775807 }
-    ensures { result ≡ look_of start end s r }
-{
-    Scan {
-        from: r.end,
-        ascends: follows(s.ascends, s.from, r),
-        first: s.first + one(r.end <= start),
-        found: s.found + one(overlap(r, start, end)),
-        gaps: s.gaps + one(larger(s.from, start) < smaller(r.start, end)),
-        lead: s.lead + one(cuts(start, r)),
-        tail: s.tail + one(cuts(end, r)),
-    }
-}
-
-// The told length, as far as records were lent.
-pub fn within(told: usize, lent: usize) -> usize
-    ensures { result ≡ min told lent }
-{
-    if told < lent { told } else { lent }
-}
-
-// 14: whether the told length passes what was lent, or the records do not ascend.
-fn out_of_order(lent: usize, told: usize, s: Scan) -> bool
-    ensures { result ≡ (ltb lent told || not s.ascends) }
-{
-    if lent < told {
-        return true;
-    }
-    !s.ascends
-}
-
-// What `coalesce` is refused for, after the scan: 14.
-pub fn verdict(lent: usize, told: usize, s: Scan) -> Verdict
-    ensures { result ≡ verdict_of lent told s }
-{
-    if out_of_order(lent, told, s) {
-        return Verdict::Refused(Refusal::RangesOutOfOrder);
-    }
-    Verdict::Accepted
-}
-
-// What `isolate` and `iter_filter` are refused for, after the scan, before the room is looked at: 18, 19, 14.
-fn check_run(lent: usize, told: usize, s: Scan, start: u32, end: u32) -> Verdict
-    ensures { result ≡ run_verdict lent told s start end }
-{
-    if start == end {
-        return Verdict::Refused(Refusal::LayersEmpty);
-    }
-    if end < start {
-        return Verdict::Refused(Refusal::LayersReversed);
-    }
-    verdict(lent, told, s)
-}
-
-pub fn refused_plan(r: Refusal) -> Plan
-    ensures { result ≡ refused_plan r }
-{
-    Plan {
-        answer: IsolateAnswer::Refused(r),
-        len: 0,
-        top: 0,
-    }
-}
-
-// What `isolate` answers, after the scan: 18, 19, 14, 15 for all records that it would leave, or what it tells.
-pub fn plan_isolate(lent: usize, told: usize, s: Scan, start: u32, end: u32) -> Plan
-    requires few { Few s 2305843009213693951 }
-    requires lent_bound { lent ≤ 2305843009213693951 }
-    ensures { result ≡ isolate_plan lent told s start end }
-{
-    match check_run(lent, told, s, start, end) {
-        Verdict::Refused(r) => refused_plan(r),
-        Verdict::Accepted => {
-            let gaps = s.gaps + one(larger(s.from, start) < end);
-            let n = told + gaps + s.lead + s.tail;
-            if lent < n {
-                return refused_plan(Refusal::NoFreeEntry);
-            }
-            Plan {
-                answer: IsolateAnswer::Isolated(Isolation {
-                    position: s.first + s.lead,
-                    count: s.found + gaps,
-                    told: n,
-                }),
-                len: n,
-                top: larger(s.from, end),
-            }
+    // One record more.
+    #[tactic(auto, unfolding(crate::specs::Passes::look_of))]
+    pub fn look(self, r: Range, start: u32, end: u32) -> Scan
+        requires { Few self 9223372036854775807 }
+        ensures { result ≡ look_of start end self r }
+    {
+        Scan {
+            from: r.end,
+            ascends: self.goes_on(r),
+            first: self.first + usize::from(r.end <= start),
+            found: self.found + usize::from(overlap(r, start, end)),
+            gaps: self.gaps + usize::from(self.from.max(start) < r.start.min(end)),
+            lead: self.lead + usize::from(cuts(start, r)),
+            tail: self.tail + usize::from(cuts(end, r)),
         }
     }
-}
 
-// How many records `coalesce` goes over: none if it is refused.
-pub fn granted(v: Verdict, n: usize) -> usize
-    ensures { result ≡ granted_of v n }
-{
-    match v {
-        Verdict::Accepted => n,
-        Verdict::Refused(_) => 0,
-    }
-}
-
-// What `coalesce` answers.
-pub fn coalesced(v: Verdict, n: usize) -> CoalesceAnswer
-    ensures { result ≡ coalesced_of v n }
-{
-    match v {
-        Verdict::Accepted => CoalesceAnswer::Coalesced(n),
-        Verdict::Refused(r) => CoalesceAnswer::Refused(r),
-    }
-}
-
-// What `iter_filter` answers, after the scan: 18, 19, 14, 15 for the second run, or how many overlaps there are.
-pub fn plan_filter(
-    lent: usize,
-    told: usize,
-    s: Scan,
-    start: u32,
-    end: u32,
-    room: usize,
-) -> FilterAnswer
-    ensures { result ≡ filter_plan lent told s start end room }
-{
-    match check_run(lent, told, s, start, end) {
-        Verdict::Refused(r) => FilterAnswer::Refused(r),
-        Verdict::Accepted => {
-            if room < s.found {
-                return FilterAnswer::Refused(Refusal::NoFreeEntry);
-            }
-            FilterAnswer::Filtered(s.found)
+    // What `coalesce` is refused for, after the scan: 14, where the told length passes what was lent, or the records do not ascend.
+    #[tactic(auto, unfolding(crate::specs::Passes::verdict_of))]
+    pub fn check_order(self, lent: usize, told: usize) -> Result<(), Refusal>
+        ensures is { result ≡ verdict_of lent told self }
+        ensures fits { IfOk result (λ u. told ≤ lent) }
+    {
+        if lent < told || !self.ascends {
+            return Err(Refusal::RangesOutOfOrder);
         }
+        Ok(())
     }
-}
 
-// How many overlaps `iter_filter` writes: none if it is refused.
-pub fn filter_count(x: FilterAnswer) -> usize
-    ensures { result ≡ filter_count x }
-{
-    match x {
-        FilterAnswer::Filtered(n) => n,
-        FilterAnswer::Refused(_) => 0,
+    // What `isolate` and `iter_filter` are refused for, after the scan, before the room is looked at: 18, 19, 14.
+    #[tactic(auto, unfolding(crate::specs::Passes::run_verdict))]
+    fn check_run(self, lent: usize, told: usize, start: u32, end: u32) -> Result<(), Refusal>
+        ensures is { result ≡ run_verdict lent told self start end }
+        ensures fits { IfOk result (λ u. told ≤ lent) }
+    {
+        if start == end {
+            return Err(Refusal::LayersEmpty);
+        }
+        if end < start {
+            return Err(Refusal::LayersReversed);
+        }
+        self.check_order(lent, told)
+    }
+
+    // What `isolate` tells, after the scan, or is refused for: 18, 19, 14, or 15 for all records that it would leave.
+    #[tactic(auto, unfolding(crate::specs::Passes::isolate_plan))]
+    pub fn plan_isolate(
+        self,
+        lent: usize,
+        told: usize,
+        start: u32,
+        end: u32,
+    ) -> Result<Plan, Refusal>
+        requires few { Few self 2305843009213693951 }
+        requires lent_bound { lent ≤ 2305843009213693951 }
+        ensures { result ≡ isolate_plan lent told self start end }
+    {
+        self.check_run(lent, told, start, end)?;
+        let gaps = self.gaps + usize::from(self.from.max(start) < end);
+        let len = told + gaps + self.lead + self.tail;
+        if lent < len {
+            return Err(Refusal::NoFreeEntry);
+        }
+        Ok(Plan {
+            run: Isolation {
+                position: self.first + self.lead,
+                count: self.found + gaps,
+                told: len,
+            },
+            top: self.from.max(end),
+        })
+    }
+
+    // How many overlaps `iter_filter` writes, after the scan, or what it is refused for: 18, 19, 14, or 15 for the second run.
+    #[tactic(auto, unfolding(crate::specs::Passes::filter_plan))]
+    pub fn plan_filter(
+        self,
+        lent: usize,
+        told: usize,
+        start: u32,
+        end: u32,
+        room: usize,
+    ) -> Result<usize, Refusal>
+        ensures { result ≡ filter_plan lent told self start end room }
+    {
+        self.check_run(lent, told, start, end)?;
+        if room < self.found {
+            return Err(Refusal::NoFreeEntry);
+        }
+        Ok(self.found)
     }
 }
 
@@ -245,11 +178,12 @@ fn end_of(i: usize, r: Range) -> u32
 }
 
 // The record that `cut` writes next, below `edge`: a gap after r, or the upper part of r. r is the last of the i records left to read.
+#[tactic(auto, unfolding(crate::specs::Passes::cut_piece))]
 pub fn next_piece(i: usize, r: Range, edge: u32, start: u32, end: u32, default: u32) -> Piece
     ensures { (result ≡ cut_piece i r edge start end default) × (result.left ≤ i) }
 {
-    let low = larger(end_of(i, r), start);
-    let high = smaller(edge, end);
+    let low = end_of(i, r).max(start);
+    let high = edge.min(end);
     if low < high {
         return Piece {
             range: Range {
@@ -260,7 +194,7 @@ pub fn next_piece(i: usize, r: Range, edge: u32, start: u32, end: u32, default: 
             left: i,
         };
     }
-    let top = smaller(r.end, edge);
+    let top = r.end.min(edge);
     let bottom = lower(r.start, top, start, end);
     Piece {
         range: Range {
@@ -276,7 +210,11 @@ pub fn next_piece(i: usize, r: Range, edge: u32, start: u32, end: u32, default: 
 fn left_of(i: usize, bottom: u32, r: Range) -> usize
     ensures { (result ≡ left_of i bottom r) × (result ≤ i) }
 {
-    if bottom == r.start { before(i) } else { i }
+    if bottom == r.start {
+        i.saturating_sub(1)
+    } else {
+        i
+    }
 }
 
 // Where the upper part of what lies from `from` to `top` starts, cut at `end` and at `start`.
@@ -284,28 +222,11 @@ pub fn lower(from: u32, top: u32, start: u32, end: u32) -> u32
     ensures { result ≡ lower_of from top start end }
 {
     if end < top {
-        return larger(from, end);
-    }
-    if start < top {
-        return larger(from, start);
-    }
-    from
-}
-
-// The position before i, or 0.
-pub fn before(i: usize) -> usize
-    ensures { result ≡ i - 1 }
-{
-    if i == 0 { 0 } else { i - 1 }
-}
-
-pub fn blank() -> Range
-    ensures { result ≡ blank_of }
-{
-    Range {
-        start: 0,
-        end: 0,
-        state: 0,
+        from.max(end)
+    } else if start < top {
+        from.max(start)
+    } else {
+        from
     }
 }
 
@@ -313,24 +234,18 @@ pub fn blank() -> Range
 fn extends(last: Range, len: usize, r: Range) -> bool
     ensures { (result ≡ (ltb 0 len && joins_of last r)) × (result ≡ true → 0 < len) }
 {
-    if len == 0 {
-        return false;
-    }
-    joins(last, r)
+    0 < len && joins(last, r)
 }
 
 // Where r goes: joined to the last of the `len` records that are written, or after it.
+#[tactic(auto, unfolding(crate::specs::Passes::join_of))]
 pub fn join_next(last: Range, len: usize, r: Range) -> Next
     requires { len < 18446744073709551615 }
     ensures { (result ≡ join_of last len r) × ((result.at ≤ len) × (result.len ≤ len + 1)) }
 {
     if extends(last, len, r) {
         return Next {
-            range: Range {
-                start: last.start,
-                end: r.end,
-                state: last.state,
-            },
+            range: Range { end: r.end, ..last },
             at: len - 1,
             len,
         };

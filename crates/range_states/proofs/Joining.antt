@@ -98,11 +98,7 @@ reading_on {s} {len} {i} {cur} {next} room j t e f g =
     let k : Joining s len s i (i + 1) next = rw y at (turn_no room j.so_far t e f g (put_same s (i - 1) cur j.here)) in
     record { here = rw z e; so_far = rw z k }
 
-pub reading_ends : {s : List ℕ} {len i : ℕ} {cur : Range} → Reading s len i cur → Apart s len i
-reading_ends {s} {len} {i} j =
-    record { some = omega (arith, j.so_far.order); high = j.so_far.high; made = rw j.here at j.so_far.made }
-
--- where none joins, nothing changes; otherwise joining goes on from there
+-- where none joins, nothing changes
 pub all_apart : {s : List ℕ} {len r : ℕ} → 3 * len ≤ length s → Apart s len r → r ≡ len → Coalesced s len len s
 unfolding coalesce_from
 all_apart {s} {len} {r} room a e =
@@ -115,17 +111,6 @@ all_apart {s} {len} {r} room a e =
     let n : len - len ≡ 0 = omega arith in
     let o : coalesce (take len (view s)) ++ replicate (len - len) blank ≡ take len (view s) = rw (m, n) (append-nil (take len (view s))) in
     record { few = omega arith; count = rw m (sym (length-take-le len (view s) v)); into = rw o (becomes_none s len room) }
-
-pub joining_from : {s : List ℕ} {len r w : ℕ} {cur : Range} → Apart s len r → w ≡ r - 1
-    → cur ≡ get_or (view s) w blank → Joining s len s w r cur
-joining_from {s} {len} {r} {w} {cur} a e f = record {
-  order = omega (arith, a.some);
-  high = a.high;
-  made = rw (f, e) a.made;
-  unread = refl;
-  rest = refl;
-  long = refl;
-}
 
 pub finish : {s₀ : List ℕ} {len : ℕ} {s : List ℕ} {w i : ℕ} {cur : Range} {s₁ s₂ : List ℕ} → 3 * len ≤ length s₀ → Joining s₀ len s w i cur
     → len ≤ i → Put s w cur s₁ → Becomes s₁ len (decode (w + 1) s₁ ++ replicate (len - (w + 1)) blank) s₂ → Coalesced s₀ len (w + 1) s₂
@@ -154,6 +139,6 @@ finish {s₀} {len} {s} {w} {i} {cur} {s₁} {s₂} room j t p q =
           };
     }
 
-pub none : (s : List ℕ) (len : ℕ) → len ≡ 0 → Coalesced s len 0 s
+pub empty_run : (s : List ℕ) (len : ℕ) → len ≡ 0 → Coalesced s len 0 s
 unfolding coalesce coalesce_from
-none s len e = rw e record { few = omega arith; count = refl; into = record { size = refl; seen = refl; rest = refl; long = refl } }
+empty_run s len e = rw e record { few = omega arith; count = refl; into = record { size = refl; seen = refl; rest = refl; long = refl } }

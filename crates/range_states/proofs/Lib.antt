@@ -1,5 +1,5 @@
 pub mod Agree
-pub mod Filled
+pub mod Records
 pub mod Joining
 pub mod Inserting
 pub mod Overlaps

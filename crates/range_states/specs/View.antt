@@ -10,14 +10,14 @@ abbrev pub blank : Range
 blank = range 0 0 0
 
 -- the records of a borrowed run (01: "each a start, an end and a state"), read three by three
-pub view : List ℕ → List Range
+unfoldable pub view : List ℕ → List Range
 view [] = []
 view (a ∷ []) = []
 view (a ∷ b ∷ []) = []
 view (a ∷ b ∷ c ∷ l) = range a b c ∷ view l
 
 -- the numbers after the last whole record, fewer than three
-pub spare : List ℕ → List ℕ
+unfoldable pub spare : List ℕ → List ℕ
 spare [] = []
 spare (a ∷ []) = a ∷ []
 spare (a ∷ b ∷ []) = a ∷ b ∷ []

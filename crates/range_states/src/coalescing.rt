@@ -15,22 +15,21 @@ pub fn joins(a: Range, b: Range) -> bool
 }
 
 // Where the first record stands that joins the one before it, or `len`.
+#[tactic(auto, using(crate::proofs::Joining::reading_start, crate::proofs::Joining::reading_on))]
 fn first_join(s: &[u32], len: usize) -> usize
     requires len_nonzero { 0 < len }
     requires len_in_bounds { 3 * len ≤ length s.now }
     ensures { Apart s.now len result }
 {
-    let mut i = 1;
     let mut cur = get(s, 0);
-    while i < len {
+    for i in 1..len {
         let next = get(s, i);
         if joins(cur, next) {
             return i;
         }
         cur = next;
-        i += 1;
     }
-    i
+    len
 }
 
 // Joins touching equals among the first `len` records and tells how many are left. Freed records become zeros.
@@ -41,15 +40,14 @@ pub fn coalesce(s: &mut [u32], len: usize) -> usize
     if len == 0 {
         return 0;
     }
-    let mut i = first_join(s, len);
-    if i == len {
+    let first = first_join(s, len);
+    if first == len {
         return len;
     }
-    let mut w = i - 1;
+    let mut w = first - 1;
     let mut cur = get(s, w);
-    while i < len {
+    for i in first..len {
         let next = get(s, i);
-        i += 1;
         if joins(cur, next) {
             cur.end = next.end;
         } else {

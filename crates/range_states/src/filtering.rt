@@ -4,10 +4,11 @@ ghost use Rattle.model.specs.RangedStates.{iter_filter};
 ghost use Rattle.range_states.specs.View.{decode};
 ghost use Rattle.range_states.specs.Filtering.{overlaps, clip, Counted, Filtered};
 
-use crate::{get, larger, put, smaller};
+use crate::{get, put};
 use model::Range;
 
 // Whether r has something of what lies from `start` to `end`.
+#[tactic(auto, unfolding(crate::specs::Filtering::overlaps))]
 pub fn overlap(r: Range, start: u32, end: u32) -> bool
     ensures { result ≡ overlaps start end r }
 {
@@ -18,11 +19,9 @@ pub fn overlap(r: Range, start: u32, end: u32) -> bool
 pub fn clipped(r: Range, start: u32, end: u32) -> Range
     ensures { result ≡ clip start end r }
 {
-    let a = larger(r.start, start);
-    let b = smaller(r.end, end);
     Range {
-        start: a,
-        end: b,
+        start: r.start.max(start),
+        end: r.end.min(end),
         state: r.state,
     }
 }
@@ -33,13 +32,8 @@ pub fn filtered_count(s: &[u32], len: usize, start: u32, end: u32) -> usize
     ensures { Counted s.now len start end result }
 {
     let mut n = 0;
-    let mut k = 0;
-    while k < len {
-        let r = get(s, k);
-        k += 1;
-        if overlap(r, start, end) {
-            n += 1;
-        }
+    for k in 0..len {
+        n += usize::from(overlap(get(s, k), start, end));
     }
     n
 }
@@ -51,10 +45,8 @@ pub fn iter_filter(s: &[u32], len: usize, start: u32, end: u32, out: &mut [u32])
     ensures { Filtered s.now len start end out.old result out.new }
 {
     let mut w = 0;
-    let mut k = 0;
-    while k < len {
+    for k in 0..len {
         let r = get(s, k);
-        k += 1;
         if overlap(r, start, end) {
             put(out, w, clipped(r, start, end));
             w += 1;

@@ -41,6 +41,3 @@ finish s₀ len at s k r s' room i t p =
 
 abbrev pub invariant-loop-k : goal.invariant-loop-k
 invariant-loop-k l = Shifting l.initial.s l.len l.at l.s l.k
-
-abbrev pub decreases-loop-k : goal.decreases-loop-k
-decreases-loop-k l = l.k

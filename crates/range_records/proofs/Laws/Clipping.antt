@@ -1,11 +1,12 @@
 -- The second pass of `iter_filter`: the overlaps of ascending records stand together.
+use Rattle.std.specs.Int.{from_bool}
 use Rattle.model.specs.Prelude.{ℕ, zero, suc, arith, refl, sym, ap, ◌∙◌, Bool, true, false, List, [], map, map-append, append_assoc, leb}
 use Rattle.model.specs.Prelude.{ltb, length, get_or, take, drop, length-append, length-drop, length-map, take-suc, drop-cons, get_or-drop}
 use Rattle.model.specs.Prelude.{set_at, length-take-le, take-append-le, drop-append-le, lt-ltb, le-ltb, le-leb, lt-leb}
 use Rattle.model.specs.{declared.Range.Range, RangedStates.iter_filter}
 use Rattle.std.specs.Prelude.{◌+◌, ◌≤◌, ◌<◌, ◌≡◌, ◌&&◌, ◌∷◌, ◌++◌, if◌then◌else◌}
 use Rattle.range_states.specs.{View.blank, Filtering.{overlaps, clip}}
-use Rattle.range_records.specs.{declared.decisions.Scan.Scan, Passes.{count_of, begun, look_of, scanned, clipping}}
+use Rattle.range_records.specs.{declared.decisions.Scan.Scan, Passes.{begun, look_of, scanned, clipping}}
 use Rattle.range_records.proofs.Laws.Pieces.{Ascends}
 use Rattle.range_isolate.proofs.Covering.{by_order}
 
@@ -18,7 +19,7 @@ founds : ℕ → ℕ → List Range → ℕ
 founds a e [] = 0
 founds a e (r ∷ rs) = if overlaps a e r then suc (founds a e rs) else founds a e rs
 
-one_more : (b : Bool) (x n : ℕ) → x + count_of b + n ≡ x + (if b then suc n else n)
+one_more : (b : Bool) (x n : ℕ) → x + from_bool b + n ≡ x + (if b then suc n else n)
 one_more true x n = omega arith
 one_more false x n = omega arith
 

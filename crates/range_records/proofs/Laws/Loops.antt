@@ -1,11 +1,12 @@
 -- What the passes' definitions say of one turn of their loops.
-use Rattle.model.specs.Prelude.{ℕ, zero, suc, min, max, le_trans, add-le-add, not-suc-le-zero, le_of_suc-le-suc, add-one, unary_clauses}
-use Rattle.model.specs.Prelude.{arith, refl, ap, ◌∙◌, Bool, true, false, List, [], leb, ltb, length, take, get_or, set, length-set}
+use Rattle.model.specs.Prelude.{ℕ, zero, suc, not-suc-le-zero, le_of_suc-le-suc, add-one, unary_clauses}
+use Rattle.model.specs.Prelude.{arith, refl, ap, ◌∙◌, List, [], length, take, drop, get_or}
+use Rattle.model.specs.Prelude.{set, length-set, length-take, get_or-take, get_or-drop}
 use Rattle.model.specs.declared.{Range.Range}
-use Rattle.std.specs.Prelude.{◌+◌, ◌-◌, ◌≤◌, ◌<◌, ◌≡◌, ◌∷◌}
-use Rattle.range_states.specs.{View.blank, Filtering.{overlaps, clip}}
+use Rattle.std.specs.Prelude.{◌+◌, ◌-◌, ◌<◌, ◌≡◌, ◌∷◌}
+use Rattle.range_states.specs.{View.blank, Filtering.{clip}}
 use Rattle.range_records.specs.declared.decisions.Scan.{Scan}
-use Rattle.range_records.specs.Passes.{count_of, cuts_of, begun, look_of, scanned, Few, cut_piece, cutting, join_of, joining, clipping}
+use Rattle.range_records.specs.Passes.{look_of, scanned, cut_piece, cutting, join_of, joining, clipping}
 
 -- ---- survey
 pub scanned_none : (a e : ℕ) (s : Scan) (xs : List Range) → s ≡ scanned a e s (take 0 xs)
@@ -23,45 +24,18 @@ pub scanned_more : (k a e : ℕ) (s : Scan) (xs : List Range) → k < length xs
     → look_of a e (scanned a e s (take k xs)) (get_or xs k blank) ≡ scanned a e s (take (k + 1) xs)
 scanned_more k a e s xs l = rw add-one (scanned_suc k a e s xs l)
 
-count_few : (b : Bool) → count_of b ≤ 1
-count_few true = omega arith
-count_few false = omega arith
-
--- a record adds at most one to each count
-pub few_none : Few begun 0
-few_none = record { first = omega arith; found = omega arith; gaps = omega arith; lead = omega arith; tail = omega arith }
-
-pub few_look : (k a e : ℕ) (s : Scan) (r : Range) → Few s k → Few (look_of a e s r) (k + 1)
-unfolding look_of
-few_look k a e s r few = record {
-  first = one_more few.first (leb r.end a);
-  found = one_more few.found (overlaps a e r);
-  gaps = one_more few.gaps (ltb (max s.from a) (min r.start e));
-  lead = one_more few.lead (cuts_of a r);
-  tail = one_more few.tail (cuts_of e r);
-}
-  where
-    one_more : {n : ℕ} → n ≤ k → (b : Bool) → n + count_of b ≤ k + 1
-    one_more l b = add-le-add l (count_few b)
-
-pub few_under : (k m : ℕ) (s : Scan) → Few s k → k ≤ m → Few s m
-few_under k m s few l = record {
-  first = le_trans few.first l;
-  found = le_trans few.found l;
-  gaps = le_trans few.gaps l;
-  lead = le_trans few.lead l;
-  tail = le_trans few.tail l;
-}
-
 -- ---- clip
 pub clipping_none : (f a e : ℕ) (xs ys : List Range) → ys ≡ clipping 0 f a e xs ys
 unfolding clipping
 clipping_none f a e xs ys = refl
 
-pub clipping_more : (w f a e : ℕ) (xs ys : List Range)
-    → set (clipping w f a e xs ys) w (clip a e (get_or xs (f + w) blank)) ≡ clipping (w + 1) f a e xs ys
+-- the next record, read from the n records from f on
+pub clipping_more : (w n f a e : ℕ) (xs ys : List Range) → w < length (take (f + n - f) (drop f xs))
+    → set (clipping w f a e xs ys) w (clip a e (get_or (take (f + n - f) (drop f xs)) w blank)) ≡ clipping (w + 1) f a e xs ys
 unfolding clipping
-clipping_more w f a e xs ys = rw add-one
+clipping_more w n f a e xs ys h =
+    let k : w < f + n - f = omega (arith, length-take (f + n - f) (drop f xs)) in
+    rw (add-one, get_or-take (f + n - f) (drop f xs) w blank k, get_or-drop f xs w blank)
 
 pub clipping_length : (w f a e : ℕ) (xs ys : List Range) → length (clipping w f a e xs ys) ≡ length ys
 unfolding clipping

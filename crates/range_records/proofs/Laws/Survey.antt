@@ -1,16 +1,18 @@
 -- What the first pass finds: whether the records ascend, and how many of everything there are.
-use Rattle.model.specs.Prelude.{ℕ, suc, min, max, arith, refl, sym, ap, ◌∙◌, Bool, true, false, and-true, and_assoc, List, [], leb, ltb}
+use Rattle.std.specs.Int.{from_bool}
+use Rattle.model.specs.Prelude.{ℕ, suc, min, max, le_trans, arith, refl, sym, ap, ◌∙◌, Bool, true}
+use Rattle.model.specs.Prelude.{false, and-true, and_assoc, List, [], leb, ltb}
 use Rattle.model.specs.Prelude.{length, get_or, length-append, lt-ltb, le-ltb, le-leb, lt-leb}
 use Rattle.model.specs.{declared.Range.Range, RangedStates.{range, list_of, isolate}, RangeCalls.ascends}
 use Rattle.std.specs.Prelude.{◌+◌, ◌≤◌, ◌<◌, ◌≡◌, ◌&&◌, ◌∷◌, if◌then◌else◌}
 use Rattle.range_states.specs.{View.blank, Filtering.overlaps}
 use Rattle.range_records.specs.declared.decisions.Scan.{Scan}
-use Rattle.range_records.specs.Passes.{count_of, begun, follows_of, look_of, scanned, gaps_of, length_of, Few}
+use Rattle.range_records.specs.Passes.{begun, follows_of, look_of, scanned, gaps_of, length_of, Few}
 use Rattle.range_records.proofs.Laws.Pieces.{Ascends, part, pieces, belows, middles, pieced}
 use Rattle.range_isolate.proofs.Covering.{by_order}
 
 -- ---- no count is more than one a record
-count_few : (b : Bool) → count_of b ≤ 1
+count_few : (b : Bool) → from_bool b ≤ 1
 count_few true = omega arith
 count_few false = omega arith
 
@@ -30,8 +32,17 @@ unfolding scanned
 few_from a e s k m [] q f = let h : k ≡ m = omega arith in rw h at f
 few_from a e s k m (r ∷ rs) q f = few_from a e (look_of a e s r) (suc k) m rs (omega arith) (look_few a e s r k f)
 
-pub scanned_few : (a e : ℕ) (rs : List Range) → Few (scanned a e begun rs) (length rs)
-scanned_few a e rs = few_from a e begun 0 (length rs) rs (omega arith) (omega arith)
+few_under : {k m : ℕ} {s : Scan} → Few s k → k ≤ m → Few s m
+few_under f h = record {
+  first = le_trans f.first h;
+  found = le_trans f.found h;
+  gaps = le_trans f.gaps h;
+  lead = le_trans f.lead h;
+  tail = le_trans f.tail h;
+}
+
+pub scanned_few : (a e m : ℕ) (rs : List Range) → length rs ≤ m → Few (scanned a e begun rs) m
+scanned_few a e m rs h = few_under (few_from a e begun 0 (length rs) rs (omega arith) (omega arith)) h
 
 -- ---- whether they ascend, and where the last one ends
 ascends_from : (a e : ℕ) (s : Scan) (rs : List Range) → (scanned a e s rs).ascends ≡ (s.ascends && ascends s.from rs)
@@ -49,23 +60,23 @@ scanned_end a e s r [] = refl
 scanned_end a e s r (q ∷ rs) = scanned_end a e (look_of a e s r) q rs
 
 -- ---- how many pieces there are
-part_long : (x y s : ℕ) → length (part x y s) ≡ count_of (ltb x y)
+part_long : (x y s : ℕ) → length (part x y s) ≡ from_bool (ltb x y)
 unfolding part
 part_long x y s = go (ltb x y)
   where
-    go : (t : Bool) → length (if t then range x y s ∷ [] else []) ≡ count_of t
+    go : (t : Bool) → length (if t then range x y s ∷ [] else []) ≡ from_bool t
     go true = refl
     go false = refl
 
-count_lt : (x y : ℕ) → x < y → count_of (ltb x y) ≡ 1
+count_lt : (x y : ℕ) → x < y → from_bool (ltb x y) ≡ 1
 count_lt x y h = rw (lt-ltb x y h)
 
-count_ge : (x y : ℕ) → y ≤ x → count_of (ltb x y) ≡ 0
+count_ge : (x y : ℕ) → y ≤ x → from_bool (ltb x y) ≡ 0
 count_ge x y h = rw (le-ltb x y h)
 
 -- a record has something before a if it ends there, or is cut there
 below_count : (a : ℕ) (r : Range) → r.start < r.end
-    → count_of (ltb r.start (min r.end a)) ≡ count_of (leb r.end a) + count_of (ltb r.start a && ltb a r.end)
+    → from_bool (ltb r.start (min r.end a)) ≡ from_bool (leb r.end a) + from_bool (ltb r.start a && ltb a r.end)
 below_count a r h =
     by_order r.end a (λ u. rw (le-leb r.end a u, lt-ltb r.start a (omega arith), le-ltb a r.end u)
     (count_lt r.start (min r.end a) (omega arith))) λ u.
@@ -73,7 +84,7 @@ below_count a r h =
     rw (lt-leb r.end a u, lt-ltb r.start a v, lt-ltb a r.end u) (count_lt r.start (min r.end a) (omega arith))
 
 -- a record has something between a and e if it overlaps a .. e
-inner_count : (a e : ℕ) (r : Range) → a < e → r.start < r.end → count_of (ltb (max r.start a) (min r.end e)) ≡ count_of (overlaps a e r)
+inner_count : (a e : ℕ) (r : Range) → a < e → r.start < r.end → from_bool (ltb (max r.start a) (min r.end e)) ≡ from_bool (overlaps a e r)
 unfolding overlaps
 inner_count a e r k h =
     by_order r.end a (λ u. rw (le-ltb a r.end u) (count_ge (max r.start a) (min r.end e) (omega arith))) λ u.
@@ -82,8 +93,8 @@ inner_count a e r k h =
 
 -- what it has past e is one piece more if e cuts it, or is all that it has
 above_count : (a e : ℕ) (r : Range) → a < e → r.start < r.end
-    → count_of (leb r.end a) + count_of (overlaps a e r) + count_of (ltb (max r.start e) r.end)
-    ≡ 1 + count_of (ltb r.start e && ltb e r.end)
+    → from_bool (leb r.end a) + from_bool (overlaps a e r) + from_bool (ltb (max r.start e) r.end)
+    ≡ 1 + from_bool (ltb r.start e && ltb e r.end)
 unfolding overlaps
 above_count a e r k h =
     by_order e r.start

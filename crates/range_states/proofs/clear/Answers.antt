@@ -1,12 +1,6 @@
--- `clear` fills with blank records from `from` on.
-use Rattle.range_states.proofs.clear.Invariants.{start_of, turn, finish}
+-- Zeros are blank records.
+use Rattle.range_states.proofs.Records.{cleared}
 use Rattle.range_states.proofs.clear.Goals as goal
 
-pub loop-k-init : goal.loop-k-init
-loop-k-init c = search start_of
-
-pub loop-k-preserved : goal.loop-k-preserved
-loop-k-preserved c = search turn
-
 pub returns : goal.returns
-returns c = search finish
+returns c = cleared c.args.s.now c.args.from c.args.to c.requires.from_le_to c.requires.to_in_bounds (c.fill.ensures.after (λ y h. h))

@@ -1,23 +1,12 @@
--- `ascends` is the definition's tests, range by range.
-use Rattle.range_checks.proofs.{Ascending.{start_of, early, empty, turn, finish}}
+-- `ascends` stops at the first range that starts too early or is empty.
+use Rattle.range_checks.proofs.Ascending.{early, empty}
 use Rattle.range_checks.proofs.checking.ascends.Goals as goal
+use Rattle.range_checks.proofs.checking.ascends.Goals.{then-r-from-via-then-r-from, then-r-from-via-else-r-from+then-r}
 
-pub loop-k-init : goal.loop-k-init
-loop-k-init c = search start_of
-
-pub returns-then-start-from : goal.returns-then-start-from
-returns-then-start-from c =
-    early c.requires c.loop-k.invariant c.loop-k-test.true c.get-r.ensures c.if-start-from.true
-
-pub returns-then-stop-start : goal.returns-then-stop-start
-returns-then-stop-start c =
-    empty c.requires c.loop-k.invariant c.loop-k-test.true c.get-r.ensures
-    c.if-start-from.false c.if-stop-start.true
-
-pub loop-k-preserved : goal.loop-k-preserved
-loop-k-preserved c =
-    turn c.requires c.loop-k.invariant c.loop-k-test.true c.get-r.ensures
-    c.if-start-from.false c.if-stop-start.false
-
-pub returns : goal.returns
-returns c = search finish
+pub returns-then-r-from : goal.returns-then-r-from
+returns-then-r-from c =
+    let j = c.loop-k.invariant in let t = c.loop-k-test.true in let g = c.get-r.ensures in
+    elim c.then-r-from.branch [
+      | then-r-from-via-then-r-from w ↦ early c.requires j t g w.if-r-from.true
+      | then-r-from-via-else-r-from+then-r w ↦ empty c.requires j t g w.if-r-from.false w.if-r.true
+    ]

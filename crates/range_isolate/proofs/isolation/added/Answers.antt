@@ -1,31 +1,21 @@
 -- `added` counts what the loop of `cover` would add, record by record.
 use Rattle.model.specs.Prelude.{arith}
-use Rattle.range_isolate.proofs.Counting.{start_of, stop, last, turn, finish, gap_few}
+use Rattle.range_isolate.proofs.Counting.{stop, last, turn, finish, gap_is}
 use Rattle.range_isolate.proofs.isolation.added.Goals as goal
 
-pub loop-k-init : goal.loop-k-init
-loop-k-init c = search start_of
-
-pub returns-then-end-larger : goal.returns-then-end-larger
-returns-then-end-larger c =
+pub returns-then-end-max : goal.returns-then-end-max
+returns-then-end-max c =
     stop c.requires.len_in_bounds c.loop-k.invariant c.loop-k-test.true c.get-r.ensures (omega arith)
 
-pub overflow_add-n : goal.overflow_add-n
-overflow_add-n c = omega (arith, gap_few c.loop-k.a c.get-r.result.start)
-
-pub overflow_add-result-then-end-stop : goal.overflow_add-result-then-end-stop
-overflow_add-result-then-end-stop c =
-    omega (arith, gap_few c.loop-k.a c.get-r.result.start, gap_few c.args.end c.get-r.result.end)
-
-pub returns-then-end-stop : goal.returns-then-end-stop
-returns-then-end-stop c =
+pub returns-then-end-r : goal.returns-then-end-r
+returns-then-end-r c =
     last c.requires.len_in_bounds c.loop-k.invariant c.loop-k-test.true c.get-r.ensures (omega arith)
-    c.if-end-stop.true c.gap_count-n.ensures c.gap_count.ensures
+    c.if-end-r.true (gap_is _ _ c.from-n.ensures) (gap_is _ _ c.from.ensures)
 
 pub loop-k-preserved : goal.loop-k-preserved
 loop-k-preserved c =
-    turn c.requires.len_in_bounds c.loop-k.invariant c.loop-k-test.true c.get-r.ensures (omega arith) c.if-end-stop.false
-    c.gap_count-n.ensures
+    turn c.requires.len_in_bounds c.loop-k.invariant c.loop-k-test.true c.get-r.ensures (omega arith) c.if-end-r.false
+    (gap_is _ _ c.from-n.ensures)
 
 pub returns : goal.returns
 returns c = search finish

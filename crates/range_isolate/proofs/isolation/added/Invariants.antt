@@ -1,10 +1,6 @@
 -- `added` counts what the loop of `cover` would add, record by record.
-use Rattle.std.specs.Prelude.{◌-◌}
 use Rattle.range_isolate.proofs.Counting.{Counting}
 use Rattle.range_isolate.proofs.isolation.added.Given as goal
 
 abbrev pub invariant-loop-k : goal.invariant-loop-k
 invariant-loop-k l = Counting l.s l.len l.pos l.at l.end l.n l.k l.a
-
-abbrev pub decreases-loop-k : goal.decreases-loop-k
-decreases-loop-k l = l.len - l.k

@@ -1,6 +1,6 @@
 -- `cover` goes on until one of its ways out: what is left to do, from here, is what was to do from the start.
 use Rattle.std.specs.Prelude.{◌+◌, ◌-◌, ◌≤◌, ◌<◌, ◌≡◌}
-use Rattle.model.specs.Prelude.{ℕ, arith, refl, ◌∙◌, List, length, get_or}
+use Rattle.model.specs.Prelude.{ℕ, arith, ◌∙◌, List, length, get_or}
 use Rattle.model.specs.declared.{Range.Range}
 use Rattle.range_states.specs.View.{view, blank}
 use Rattle.range_isolate.proofs.Covering.{cover_more, cover_room, room_gap}
@@ -13,9 +13,6 @@ pub record Onward (s₀ : List ℕ) (len pos at e d : ℕ) (s : List ℕ) (n p a
   pub room : CoverRoom s n p a e d
   pub long : length s ≡ length s₀
   pub on : (r : Placed) (l' : List ℕ) → Covered s n p a e d r l' → Covered s₀ len pos at e d r l'
-
-pub start_of : (s : List ℕ) (len pos at e d : ℕ) → pos ≤ len → CoverRoom s len pos at e d → Onward s len pos at e d s len pos at
-start_of s len pos at e d h g = record { low = h; room = g; long = refl; on = λ r l' c. c }
 
 pub turn : {s₀ : List ℕ} {len pos at e d : ℕ} {s : List ℕ} {n p a : ℕ} {x : Range} {g : ℕ} {s' : List ℕ} → Onward s₀ len pos at e d s n p a
     → p < n → x ≡ get_or (view s) p blank → x.start < e → Gapped s n p a x.start d g s' → x.end < e

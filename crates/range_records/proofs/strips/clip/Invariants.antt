@@ -1,13 +1,7 @@
 -- `clip` has written the first w records of the second run.
-use Rattle.std.specs.Prelude.{◌≡◌, ◌≤◌, ◌-◌}
+use Rattle.std.specs.Prelude.{◌≡◌}
 use Rattle.range_records.specs.Passes.{clipping}
 use Rattle.range_records.proofs.strips.clip.Given as goal
 
 abbrev pub invariant-loop-w : goal.invariant-loop-w
-invariant-loop-w l = record {
-  few : l.w ≤ l.n;
-  is : l.out ≡ clipping l.w l.first l.start l.end l.run l.fn.out;
-}
-
-abbrev pub decreases-loop-w : goal.decreases-loop-w
-decreases-loop-w l = l.n - l.w
+invariant-loop-w l = l.out ≡ clipping l.w l.first l.start l.end l.run l.fn.out

@@ -1,12 +1,16 @@
 -- `coalesce` is its passes, and these are the model's call.
-use Rattle.model.specs.Prelude.{ap}
-use Rattle.range_records.specs.Passes.{Joined}
-use Rattle.range_records.proofs.Laws.Together.{coalesces}
+use Rattle.std.proofs.lemmas.Result.{err_from_is_err_and}
+use Rattle.range_records.proofs.Laws.Together.{coalesce_of}
 use Rattle.range_records.proofs.strips.coalesce.Goals as goal
+
+pub returns-in_err-check_order : goal.returns-in_err-check_order
+returns-in_err-check_order c =
+    let p = err_from_is_err_and c.from_residual.result c.from_residual.ensures.1 in
+    let i = coalesce_of c.args.told c.args.run.now c.min-n.ensures c.survey-s.ensures c.in_err-check_order.ensures.is in
+    rw (p.1, p.2) (i.answer, i.records)
 
 pub returns : goal.returns
 returns c =
-    let len = ap (λ (j : Joined). j.len) c.join-len.ensures in
-    let records = ap (λ (j : Joined). j.records) c.join-len.ensures in
-    rw (c.coalesced.ensures, len, records, c.granted.ensures, c.verdict-v.ensures, c.survey-s.ensures, c.within-n.ensures)
-    (coalesces c.args.told c.args.run.now)
+    let i = coalesce_of c.args.told c.args.run.now c.min-n.ensures c.survey-s.ensures c.in_ok-check_order.ensures.is in
+    let j = rw (← c.min-n.ensures, ← c.join-len.ensures) at i in
+    (j.answer, j.records)

@@ -5,11 +5,6 @@ use Rattle.range_records.proofs.strips.cut.Given as goal
 
 abbrev pub invariant-loop-w : goal.invariant-loop-w
 invariant-loop-w l = record {
-  few : l.w ≤ l.n;
   inside : l.i ≤ length l.fn.run;
-  long : length l.run ≡ length l.fn.run;
   on : cutting l.w l.i l.edge l.start l.end l.default l.run ≡ cutting l.n l.told l.top l.start l.end l.default l.fn.run;
 }
-
-abbrev pub decreases-loop-w : goal.decreases-loop-w
-decreases-loop-w l = l.w

@@ -1,16 +1,13 @@
 -- `join` takes one record in each turn; what is written stays behind what is read.
-use Rattle.model.specs.Prelude.{arith, sym, ◌∙◌, length-set}
+use Rattle.model.specs.Prelude.{arith, sym, ◌∙◌}
 use Rattle.std.specs.Prelude.{◌-◌, ◌≡◌}
 use Rattle.range_records.proofs.Laws.Loops.{joining_none, joining_more}
 use Rattle.range_records.proofs.strips.join.Goals as goal
 
 pub loop-i-preserved : goal.loop-i-preserved
 loop-i-preserved c = record {
-  few = omega arith;
   behind = omega (arith, c.join_next-j.ensures.1.1);
-  long = length-set _ c.join_next-j.result.at c.join_next-j.result.range
-      ∙ (length-set c.loop-i.run c.loop-i.i c.blank.result ∙ c.loop-i.invariant.long);
-  on = rw (c.join_next-j.ensures.0, c.blank.ensures)
+  on = rw c.join_next-j.ensures.0
       (sym (joining_more c.args.n c.loop-i.i c.loop-i.len c.loop-i.last c.loop-i.run c.loop-i-test.true) ∙ c.loop-i.invariant.on);
 }
 

@@ -1,23 +1,20 @@
--- `survey` scans one record more in each turn, and a record adds at most one to each count.
-use Rattle.model.specs.Prelude.{arith, sym, ◌∙◌, subst, length}
-use Rattle.std.specs.Prelude.{◌+◌, ◌<◌}
-use Rattle.range_records.specs.{declared.decisions.Scan.Scan, Passes.{begun, Few}}
-use Rattle.range_records.proofs.Laws.Loops.{scanned_none, scanned_more, few_none, few_look}
+-- `survey` scans one record more in each turn, and no count is above the number of records.
+use Rattle.model.specs.Prelude.{arith, ◌∙◌, length, take, length-take}
+use Rattle.std.specs.Prelude.{◌<◌, ◌≤◌}
+use Rattle.range_records.specs.Passes.{begun}
+use Rattle.range_records.proofs.{Laws.Loops.{scanned_none, scanned_more}, Laws.Survey.scanned_few}
 use Rattle.range_records.proofs.strips.survey.Goals as goal
 
-pub loop-k-init : goal.loop-k-init
-loop-k-init c = record {
-  few = omega arith;
-  is = c.begin-s.ensures ∙ scanned_none c.args.start c.args.end begun c.args.run.now;
-  counts = subst (λ (s : Scan). Few s 0) (sym c.begin-s.ensures) few_none;
-}
+pub loop-r-init : goal.loop-r-init
+loop-r-init c = scanned_none c.args.start c.args.end begun c.args.used.now
 
-pub loop-k-preserved : goal.loop-k-preserved
-loop-k-preserved c =
-    let inside : c.loop-k.k < length c.args.run.now = omega arith in
-    record {
-      few = omega arith;
-      is = c.look-s.ensures ∙ rw c.loop-k.invariant.is (scanned_more c.loop-k.k c.args.start c.args.end begun c.args.run.now inside);
-      counts = subst (λ (s : Scan). Few s (c.loop-k.k + 1)) (sym c.look-s.ensures)
-          (few_look c.loop-k.k c.args.start c.args.end c.loop-k.s _ c.loop-k.invariant.counts);
-    }
+pub look-s-requires : goal.look-s-requires
+look-s-requires c =
+    let rs = take c.loop-r.r-index c.args.used.now in
+    let few : length rs ≤ 9223372036854775807 = omega (arith, length-take c.loop-r.r-index c.args.used.now) in
+    rw c.loop-r.invariant (scanned_few c.args.start c.args.end 9223372036854775807 rs few)
+
+pub loop-r-preserved : goal.loop-r-preserved
+loop-r-preserved c =
+    let k = c.loop-r.r-index in let inside : k < length c.args.used.now = omega arith in
+    c.look-s.ensures ∙ rw c.loop-r.invariant (scanned_more k c.args.start c.args.end begun c.args.used.now inside)

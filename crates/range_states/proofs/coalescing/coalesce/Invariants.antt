@@ -1,10 +1,6 @@
 -- `coalesce` reads up to the first record that joins, and from there on is the pass of `Joining`.
-use Rattle.std.specs.Prelude.{◌-◌}
 use Rattle.range_states.proofs.Joining.{Joining}
 use Rattle.range_states.proofs.coalescing.coalesce.Given as goal
 
 abbrev pub invariant-loop-i : goal.invariant-loop-i
 invariant-loop-i l = Joining l.initial.s l.len l.s l.w l.i l.cur
-
-abbrev pub decreases-loop-i : goal.decreases-loop-i
-decreases-loop-i l = l.len - l.i

@@ -1,10 +1,6 @@
 -- `filtered_count` counts what is left to look at, record by record.
-use Rattle.std.specs.Prelude.{◌-◌}
 use Rattle.range_states.proofs.Overlaps.{Counting}
 use Rattle.range_states.proofs.filtering.filtered_count.Given as goal
 
 abbrev pub invariant-loop-k : goal.invariant-loop-k
 invariant-loop-k l = Counting l.s l.len l.start l.end l.n l.k
-
-abbrev pub decreases-loop-k : goal.decreases-loop-k
-decreases-loop-k l = l.len - l.k

@@ -1,8 +1,0 @@
--- `coalesced` tells the count, or the refusal.
-use Rattle.range_records.proofs.decisions.coalesced.Goals as goal
-
-pub returns-in-Accepted : goal.returns-in-Accepted
-returns-in-Accepted c = rw c.in-Accepted.is
-
-pub returns-in-Refused : goal.returns-in-Refused
-returns-in-Refused c = rw c.in-Refused.is

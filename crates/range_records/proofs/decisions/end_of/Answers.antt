@@ -1,9 +1,0 @@
--- `end_of` is 0 where no record is left.
-use Rattle.model.specs.Prelude.{eq-eqb, ne_eqb}
-use Rattle.range_records.proofs.decisions.end_of.Goals as goal
-
-pub returns-then-i-eq0 : goal.returns-then-i-eq0
-returns-then-i-eq0 c = simp (eq-eqb _ _ c.if-i-eq0.true)
-
-pub returns-else-i-eq0 : goal.returns-else-i-eq0
-returns-else-i-eq0 c = simp (ne_eqb _ _ c.if-i-eq0.false)
