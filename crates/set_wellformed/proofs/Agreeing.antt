@@ -152,8 +152,8 @@ module _ {a : List ℕ} {la : ℕ} {b : List ℕ} {lb u : ℕ} (same : SameLayer
   -- nothing is left of one list, and so nothing of the other
   pub walk_end : {i j : ℕ} → Walk u (decode la a) (decode lb b) i j → i ≤ la → la ≤ i → true ≡ layers_agree u (decode la a) (decode lb b)
   walk_end {i} {j} w h g =
-      let z : i ≡ la = omega arith in let none : drop i (decode la a) ≡ [] = rw (z, slice_empty la (view a)) in
-      go (drop j (decode lb b)) (rw none at w.left) w.right (rw none at w.on)
+      let z : i ≡ la = omega arith in let gone : drop i (decode la a) ≡ [] = rw (z, slice_empty la (view a)) in
+      go (drop j (decode lb b)) (rw gone at w.left) w.right (rw gone at w.on)
     where
       go : (t : List Range) → w.at ≡ w.top → TilesFrom w.at t w.top
           → all₂ (agrees u) [] (states_from w.at t) ≡ layers_agree u (decode la a) (decode lb b)

@@ -1,7 +1,7 @@
 -- A list with no UNKNOWN range agrees with a state that is not UNKNOWN; and the loop of `ranges_known`.
 use Rattle.model.specs.Prelude.{ℕ, zero, suc, arith, refl, sym, ◌∙◌, Bool, true, false, not, false≢true, List, [], map, ltb, eqb, bit_and}
-use Rattle.model.specs.Prelude.{and_self, length, get_or, drop, replicate, replicate-append-replicate, slice_empty, eqb-true, eqb-false}
-use Rattle.model.specs.Prelude.{ltb-true, eq-eqb, ne_eqb, not-true, not-false}
+use Rattle.model.specs.Prelude.{and_self, length, get_or, drop, replicate, replicate-append-replicate, eqb-true, eqb-false}
+use Rattle.model.specs.Prelude.{eq-eqb, ltb-true, ne_eqb, not-true, not-false}
 use Rattle.model.specs.{declared.{Range.Range, UsageFlags.UsageFlags}, Base.every, Flags.{meets, incompatible}}
 use Rattle.model.specs.{RangedStates.{layer_states, Tiles}, WellFormed.{state_fits, single_fits, ranges_fit, same_test, all₂}}
 use Rattle.model.specs.{BoolLaws.and_both as both, RangeLaws.tiles_le as tiles_below}
@@ -12,13 +12,9 @@ use Rattle.set_wellformed.specs.Unknowns.{agrees, layers_agree, is_known, itself
 use Rattle.set_wellformed.proofs.Agreeing.{skip_left, stop_here}
 use Rattle.range_states.proofs.Inserting.{next_is}
 
--- ---- `ranges_known`: what is left to test decides
+-- ---- `known`: what is left to test decides
 pub record Knowing (u : ℕ) (l : List ℕ) (len k : ℕ) : Type 0 where
-  pub high : k ≤ len
   pub on : every (is_known u) (drop k (decode len l)) ≡ every (is_known u) (decode len l)
-
-pub knowing_start : (u : ℕ) (l : List ℕ) (len : ℕ) → Knowing u l len 0
-knowing_start u l len = record { high = omega arith; on = refl }
 
 module _ {u : ℕ} {l : List ℕ} {len k : ℕ} {r : Range} (room : 3 * len ≤ length l) (j : Knowing u l len k) (h : k < len)
     (g : r ≡ get_or (view l) k blank) where
@@ -27,14 +23,6 @@ module _ {u : ℕ} {l : List ℕ} {len k : ℕ} {r : Range} (room : 3 * len ≤ 
 
   pub knowing_stop : r.state ≡ u → false ≡ every (is_known u) (decode len l)
   knowing_stop e = rw (eq-eqb r.state u e) at here
-
-  pub knowing_turn : (r.state ≡ u → ⊥) → Knowing u l len (k + 1)
-  knowing_turn e = record { high = omega arith; on = rw (ne_eqb r.state u e) at here }
-
-pub knowing_end : {u : ℕ} {l : List ℕ} {len k : ℕ} → Knowing u l len k → len ≤ k → true ≡ every (is_known u) (decode len l)
-knowing_end {u} {l} {len} {k} j h =
-    let z : k ≡ len = omega (arith, j.high) in
-    rw (z, slice_empty len (view l)) at j.on
 
 -- ---- A Single state that fits is not zero and does not meet UNKNOWN, so it is not UNKNOWN
 pub single_known : (p : UsageFlags) (a : ℕ) → single_fits p a ≡ true → eqb a p.unknown ≡ false

@@ -2,6 +2,8 @@ pub mod Tiling
 pub mod Numbers
 pub mod Mips
 pub mod Holding
+pub mod Every
+pub mod Told
 pub mod Agreeing
 pub mod Known
 pub mod Ends

@@ -1,14 +1,15 @@
 -- The words in two parts: where every index is proper, EXCLUSIVE is left of the test, and a union of at most one bit decides it.
-use Rattle.model.specs.Prelude.{ℕ, refl, sym, ◌∙◌, Bool, true, false, not, false≢true, List, get_or, not-true}
+use Rattle.model.specs.Prelude.{ℕ, arith, refl, sym, ◌∙◌, Bool, true, false, false≢true, List}
 use Rattle.model.specs.{BoolLaws.and_both as both, Base.every}
-use Rattle.std.specs.Prelude.{◌≤◌, ◌<◌, ◌≡◌, ◌&&◌, ◌||◌}
-use Rattle.usage.specs.Gathered.{Gathered}
-use Rattle.set_storage.specs.Storage.{flags_of, start_half, end_half, list_from, owned_at}
-use Rattle.set_wellformed.specs.{Parts.{every_at, every_also}, Proper.{single_proper, compatible, single_split, single_few, crossed}}
-use Rattle.set_wellformed.specs.Unknowns.{itself}
-use Rattle.set_wellformed.specs.Words.{half_word, words_compatible, pair_compatible, WordsAre, ScopeWords, TrackerWords, scope_word_fits}
-use Rattle.set_wellformed.specs.Words.{scope_word_proper, scope_word_plain, tracker_word_fits, tracker_word_proper, tracker_word_plain}
-use Rattle.set_wellformed.proofs.Telling.{absent, extent, is_many, not_every}
+use Rattle.std.specs.Prelude.{◌+◌, ◌≤◌, ◌<◌, ◌≡◌, ◌&&◌, ◌||◌}
+use Rattle.std.specs.Int.Bits.{bit_or}
+use Rattle.usage.specs.BitLaws.{or_assoc}
+use Rattle.usage.specs.Gathered.{Gathered, exclusive_part, gathered_none, gathered_more, gathered_wider}
+use Rattle.set_storage.specs.Storage.{flags_of, start_half, list_from}
+use Rattle.set_wellformed.specs.{Parts.{is_many, every_at, every_also, every_same, every_none, every_next}, Unknowns.itself}
+use Rattle.set_wellformed.specs.Proper.{single_proper, compatible, single_split, single_few, crossed}
+use Rattle.set_wellformed.specs.Words.{half_word, word_fits, word_proper, word_left, word_plain}
+use Rattle.set_wellformed.proofs.Telling.{absent, extent, not_every}
 use lib.Count.{ones_in}
 
 -- ---- one index: not owned, or an extent that fits and Many or a state that is proper and compatible
@@ -25,88 +26,77 @@ left false false m q c f g = absurd (false≢true f)
 left false true true q c f g = refl
 left false true false q c f g = g f
 
--- ---- every index, of a test that is two: where one is not proper, all fails; where all are, the other test is the whole
-module _ (fits proper other : ℕ → Bool) (parts : (i : ℕ) → fits i ≡ (proper i && other i)) (n : ℕ) where
-  parts_not : {single : ℕ → Bool} {a b : Bool} → WordsAre proper single n (record { fit = a; plain = b }) → not a ≡ true
-      → WordsAre fits single n (record { fit = a; plain = b })
-  parts_not {single} {a} {b} w e =
-      let f : a ≡ false = not-true a e in
-      record {
-        fit = f ∙ not_every (every proper (list_from itself 0 n)) (every fits (list_from itself 0 n))
-            (every_also fits itself proper itself n (λ i l g. (both (proper i) (other i) (sym (parts i) ∙ g)).0)) (sym w.fit ∙ f);
-        plain = w.plain;
-      }
-
-  module _ (f : every proper (list_from itself 0 n) ≡ true) where
-    parts_all : ((i : ℕ) → i < n → proper i ≡ true → other i ≡ true) → true ≡ every fits (list_from itself 0 n)
-    parts_all each = sym (every_also proper itself fits itself n (λ i l g. parts i ∙ rw (g, each i l g)) f)
-
-    parts_at : {i : ℕ} {b : Bool} → i < n → b ≡ other i → b ≡ fits i
-    parts_at {i} {b} l e = sym (parts i ∙ rw (every_at proper itself n i f l) (sym e))
-
--- ---- a scope's indices, and a tracker's
-module _ (t : List ℕ) where
+-- ---- the indices of a table, their ends in the half h
+module _ (h : ℕ) (t : List ℕ) where
   abbrev proper_at : ℕ → ℕ → Bool
-  proper_at h i = single_proper (flags_of t) (half_word h t i)
+  proper_at g i = single_proper (flags_of t) (half_word g t i)
 
   abbrev compatible_at : ℕ → ℕ → Bool
-  compatible_at h i = compatible (flags_of t) (half_word h t i)
+  compatible_at g i = compatible (flags_of t) (half_word g t i)
 
-  -- what is left of the test of an index that is proper
-  abbrev pub scope_word_left : ℕ → Bool
-  scope_word_left i = words_compatible (flags_of t) (get_or t (owned_at i) 0) (half_word start_half t i)
-
-  abbrev pub tracker_word_left : ℕ → Bool
-  tracker_word_left i = pair_compatible (flags_of t) (get_or t (owned_at i) 0) (half_word start_half t i) (half_word end_half t i)
-
-  scope_parts : (i : ℕ) → scope_word_fits t i ≡ (scope_word_proper t i && scope_word_left i)
-  scope_parts i = rw (single_split (flags_of t) (half_word start_half t i))
-      (split (absent t i) (extent t i) (is_many t start_half i) (proper_at start_half i) (compatible_at start_half i))
-
-  tracker_parts : (i : ℕ) → tracker_word_fits t i ≡ (tracker_word_proper t i && tracker_word_left i)
-  tracker_parts i =
+  word_parts : (i : ℕ) → word_fits h t i ≡ (word_proper h t i && word_left h t i)
+  word_parts i =
       rw (
         single_split (flags_of t) (half_word start_half t i),
-        single_split (flags_of t) (half_word end_half t i),
-        crossed (proper_at start_half i) (compatible_at start_half i) (proper_at end_half i) (compatible_at end_half i),
+        single_split (flags_of t) (half_word h t i),
+        crossed (proper_at start_half i) (compatible_at start_half i) (proper_at h i) (compatible_at h i),
       )
-      (split (absent t i) (extent t i) (is_many t start_half i || is_many t end_half i) (proper_at start_half i && proper_at end_half i)
-      (compatible_at start_half i && compatible_at end_half i))
+      (split (absent t i) (extent t i) (is_many t start_half i || is_many t h i) (proper_at start_half i && proper_at h i)
+      (compatible_at start_half i && compatible_at h i))
 
-  module _ (n : ℕ) where
-    pub scope_unfit : {a b : Bool} → WordsAre (scope_word_proper t) (scope_word_plain t) n (record { fit = a; plain = b }) → not a ≡ true
-        → ScopeWords t n (record { fit = a; plain = b })
-    scope_unfit = parts_not (scope_word_fits t) (scope_word_proper t) scope_word_left scope_parts n
+  -- where each fits, each is proper
+  pub words_proper : (n : ℕ) → every (word_fits h t) (list_from itself 0 n) ≡ true → every (word_proper h t) (list_from itself 0 n) ≡ true
+  words_proper n = every_also (word_fits h t) itself (word_proper h t) itself n
+      (λ i l g. (both (word_proper h t i) (word_left h t i) (sym (word_parts i) ∙ g)).0)
 
-    pub tracker_unfit : {a b : Bool}
-        → WordsAre (tracker_word_proper t) (tracker_word_plain t) n (record { fit = a; plain = b }) → not a ≡ true
-        → TrackerWords t n (record { fit = a; plain = b })
-    tracker_unfit = parts_not (tracker_word_fits t) (tracker_word_proper t) tracker_word_left tracker_parts n
+  -- where one is not proper, not each fits
+  pub words_unfit : (n : ℕ) → every (word_proper h t) (list_from itself 0 n) ≡ false → every (word_fits h t) (list_from itself 0 n) ≡ false
+  words_unfit n e = sym (not_every (every (word_proper h t) (list_from itself 0 n)) (every (word_fits h t) (list_from itself 0 n))
+      (words_proper n) e)
 
-    pub scope_left : every (scope_word_proper t) (list_from itself 0 n) ≡ true
-        → {i : ℕ} {b : Bool} → i < n → b ≡ scope_word_left i → b ≡ scope_word_fits t i
-    scope_left = parts_at (scope_word_fits t) (scope_word_proper t) scope_word_left scope_parts n
-
-    pub tracker_left : every (tracker_word_proper t) (list_from itself 0 n) ≡ true
-        → {i : ℕ} {b : Bool} → i < n → b ≡ tracker_word_left i → b ≡ tracker_word_fits t i
-    tracker_left = parts_at (tracker_word_fits t) (tracker_word_proper t) tracker_word_left tracker_parts n
+  module _ (n : ℕ) (f : every (word_proper h t) (list_from itself 0 n) ≡ true) where
+    -- where each is proper, what is left is the test
+    pub words_left : every (word_left h t) (list_from itself 0 n) ≡ every (word_fits h t) (list_from itself 0 n)
+    words_left = every_same (word_left h t) itself (word_fits h t) itself 0 n
+        (λ i j l. sym (word_parts i ∙ rw (every_at (word_proper h t) itself n i f (omega arith))))
 
     -- a union of at most one bit: nothing is left
     module _ {u : ℕ} (few : ones_in 16 u ≤ 1) where
-      single : (h i : ℕ) → Gathered (flags_of t) (half_word h t) n u → i < n → proper_at h i ≡ true → compatible_at h i ≡ true
-      single h i g l = single_few (flags_of t) (half_word h t i) u (g.within i l) few
+      single : (g i : ℕ) → Gathered (flags_of t) (half_word g t) n u → i < n → proper_at g i ≡ true → compatible_at g i ≡ true
+      single g i x l = single_few (flags_of t) (half_word g t i) u (x.within i l) few
 
-      pub scope_few : every (scope_word_proper t) (list_from itself 0 n) ≡ true → Gathered (flags_of t) (half_word start_half t) n u
-          → true ≡ every (scope_word_fits t) (list_from itself 0 n)
-      scope_few f s = parts_all (scope_word_fits t) (scope_word_proper t) scope_word_left scope_parts n f
-          (λ i l g. left (absent t i) (extent t i) (is_many t start_half i) (proper_at start_half i)
-          (compatible_at start_half i) g (single start_half i s l))
+      pub words_few : Gathered (flags_of t) (half_word start_half t) n u → Gathered (flags_of t) (half_word h t) n u
+          → true ≡ every (word_fits h t) (list_from itself 0 n)
+      words_few s e = sym (every_also (word_proper h t) itself (word_fits h t) itself n (λ i l g. word_parts i ∙ rw (
+        g,
+        left (absent t i) (extent t i) (is_many t start_half i || is_many t h i) (proper_at start_half i && proper_at h i)
+            (compatible_at start_half i && compatible_at h i) g
+            (λ q. let x = both (proper_at start_half i) (proper_at h i) q in rw (single start_half i s l x.0, single h i e l x.1)),
+      )) f)
 
-      pub tracker_few : every (tracker_word_proper t) (list_from itself 0 n) ≡ true → Gathered (flags_of t) (half_word start_half t) n u
-          → Gathered (flags_of t) (half_word end_half t) n u → true ≡ every (tracker_word_fits t) (list_from itself 0 n)
-      tracker_few f s e = parts_all (tracker_word_fits t) (tracker_word_proper t) tracker_word_left tracker_parts n f
-          (λ i l g. left (absent t i) (extent t i) (is_many t start_half i || is_many t end_half i)
-          (proper_at start_half i && proper_at end_half i)
-          (compatible_at start_half i && compatible_at end_half i) g
-          (λ q. let x = both (proper_at start_half i) (proper_at end_half i) q in
-          rw (single start_half i s l x.0, single end_half i e l x.1)))
+-- ---- the pass over the words, at index n
+pub record Passing (h : ℕ) (t : List ℕ) (n : ℕ) (x y : Bool) (u : ℕ) : Type 0 where
+  pub fit : x ≡ every (word_proper h t) (list_from itself 0 n)
+  pub plain : y ≡ every (word_plain h t) (list_from itself 0 n)
+  pub starts : Gathered (flags_of t) (half_word start_half t) n u
+  pub ends : Gathered (flags_of t) (half_word h t) n u
+
+module _ {h : ℕ} {t : List ℕ} where
+  pub passing_none : Passing h t 0 true true 0
+  passing_none = record {
+    fit = sym (every_none (word_proper h t) itself);
+    plain = sym (every_none (word_plain h t) itself);
+    starts = gathered_none;
+    ends = gathered_none;
+  }
+
+  -- one index more is one test more of each kind and its part of the union
+  pub passing_more : {n u : ℕ} {fit plain x y : Bool} {a b : ℕ} → Passing h t n fit plain u → x ≡ word_proper h t n → y ≡ word_plain h t n
+      → a ≡ exclusive_part (flags_of t) (half_word start_half t n) → b ≡ exclusive_part (flags_of t) (half_word h t n)
+      → Passing h t (n + 1) (fit && x) (plain && y) (bit_or u (bit_or a b))
+  passing_more {n} {u} {a = a} {b = b} w ex ey ea eb = record {
+    fit = rw (every_next (word_proper h t) itself n, w.fit, ex);
+    plain = rw (every_next (word_plain h t) itself n, w.plain, ey);
+    starts = rw (← or_assoc u a b) (gathered_wider b (gathered_more ea w.starts));
+    ends = rw (← or_assoc u a b) (gathered_more eb (gathered_wider a w.ends));
+  }

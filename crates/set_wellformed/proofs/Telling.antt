@@ -1,30 +1,26 @@
 -- What the words of an index tell of the whole test of it.
-use Rattle.model.specs.Prelude.{ℕ, arith, refl, sym, ◌∙◌, Bool, true, false, not, false≢true, List, eqb, get_or, eqb-true, eqb-false}
-use Rattle.model.specs.Prelude.{not-true, not-false}
+use Rattle.model.specs.Prelude.{ℕ, refl, sym, ◌∙◌, Bool, true, false, not, false≢true, List, eqb, get_or, eqb-true, eqb-false}
+use Rattle.model.specs.Prelude.{not-true}
 use Rattle.model.specs.{BoolLaws.{and_both as both, neither}, Base.every}
-use Rattle.model.specs.WellFormed.{single_fits, ranges_fit, held_fits, slot_fits, ends_fit}
-use Rattle.std.specs.Prelude.{◌+◌, ◌≡◌, ◌&&◌, ◌||◌}
-use Rattle.set_storage.specs.Storage.{numbers_of, flags_of, extent_of, start_half, end_half, mips_of, held_of, ends_of, list_from}
-use Rattle.set_storage.specs.Storage.{complex_at, layer_limit_at, layers_at, mip_limit_at, mips_at, owned_at, textures_at, unknown_at}
-use Rattle.set_storage.specs.{Storage.{scope_slot, tracker_slot}, Frames.Measured}
-use Rattle.set_wellformed.specs.Parts.{TextureStored, extent_fits, every_none, every_next, every_at, every_also, scope_slot_fits}
+use Rattle.model.specs.WellFormed.{single_fits, held_fits, slot_fits, ends_fit}
+use Rattle.std.specs.Prelude.{◌+◌, ◌<◌, ◌≡◌, ◌&&◌, ◌||◌}
+use Rattle.set_storage.specs.Storage.{numbers_of, flags_of, extent_of, start_half, end_half, held_of, list_from}
+use Rattle.set_storage.specs.Storage.{layer_limit_at, layers_at, mip_limit_at, mips_at, owned_at, textures_at, unknown_at}
+use Rattle.set_storage.specs.{Storage.{scope_slot, tracker_slot}}
+use Rattle.set_wellformed.specs.Parts.{Sized, is_many, mips_fit, extent_fits, every_at, every_also, scope_slot_fits}
 use Rattle.set_wellformed.specs.Parts.{scope_slots_fit}
-use Rattle.set_wellformed.specs.Unknowns.{itself, EndsReady, HalvesFit, ends_agree, tracker_slot_fits, tracker_slots_fit}
-use Rattle.set_wellformed.specs.Words.{WordsAre, scope_word_plain, scope_word_fits, tracker_word_plain, tracker_word_fits}
-use Rattle.set_wellformed.proofs.{Numbers.{Inside, extent_in}, Holding.{fits_many, fits_single}, Ends.ends_single}
+use Rattle.set_wellformed.specs.Unknowns.{itself, HalvesFit, ends_agree, tracker_slot_fits, tracker_slots_fit}
+use Rattle.set_wellformed.specs.Words.{word_plain, scope_word_fits, tracker_word_fits}
+use Rattle.set_wellformed.proofs.{Numbers.{extent_in}, Holding.{fits_many, fits_single}, Ends.ends_single}
 
 by_case : (P : Type 0) (b : Bool) → (b ≡ true → P) → (b ≡ false → P) → P
 by_case P true y n = y refl
 by_case P false y n = n refl
 
--- ---- the pass over the words: one index more is one test more of each kind
-module _ (fits single : ℕ → Bool) where
-  pub words_none : WordsAre fits single 0 (record { fit = true; plain = true })
-  words_none = record { fit = sym (every_none fits itself); plain = sym (every_none single itself) }
-
-  pub words_more : (n : ℕ) {a b x y : Bool} → WordsAre fits single n (record { fit = a; plain = b }) → x ≡ fits n → y ≡ single n
-      → WordsAre fits single (n + 1) (record { fit = a && x; plain = b && y })
-  words_more n w e f = record { fit = rw (every_next fits itself n, w.fit, e); plain = rw (every_next single itself n, w.plain, f) }
+-- both of a test that fails are none
+twice : (a : Bool) → (not a && not a) ≡ false → a ≡ true
+twice true e = refl
+twice false e = absurd (false≢true (sym e))
 
 -- ---- the words
 module _ (t : List ℕ) where
@@ -34,23 +30,19 @@ module _ (t : List ℕ) where
   abbrev pub extent : ℕ → Bool
   extent i = extent_fits (get_or t mip_limit_at 0) (get_or t layer_limit_at 0) (get_or t (mips_at i) 0) (get_or t (layers_at i) 0)
 
-  abbrev pub is_many : ℕ → ℕ → Bool
-  is_many h i = eqb (get_or t (h + i) 0) (get_or t complex_at 0)
-
   abbrev single : ℕ → ℕ → Bool
   single h i = single_fits (flags_of t) (get_or t (h + i) 0)
 
   abbrev held : ℕ → List ℕ → ℕ → Bool
   held h r i = held_fits (flags_of t) (extent_of t i) (held_of (numbers_of t) h t r i)
 
-  held_is : (h : ℕ) (r : List ℕ) (i : ℕ) → is_many h i ≡ false → single h i ≡ held h r i
+  held_is : (h : ℕ) (r : List ℕ) (i : ℕ) → is_many t h i ≡ false → single h i ≡ held h r i
   held_is h r i e = fits_single (flags_of t) (numbers_of t) h t r i (eqb-false _ _ e)
 
-  abbrev Extents : ℕ → Type 0
-  Extents i = Inside (get_or t (mips_at i) 0) (get_or t mip_limit_at 0) × Inside (get_or t (layers_at i) 0) (get_or t layer_limit_at 0)
-
-  extents : (i : ℕ) → extent i ≡ true → Extents i
-  extents i e = extent_in (get_or t mip_limit_at 0) (get_or t layer_limit_at 0) (get_or t (mips_at i) 0) (get_or t (layers_at i) 0) e
+  extents : (i : ℕ) → i < get_or t textures_at 0 → extent i ≡ true → Sized t i
+  extents i l e =
+      let x = extent_in (get_or t mip_limit_at 0) (get_or t layer_limit_at 0) (get_or t (mips_at i) 0) (get_or t (layers_at i) 0) e in
+      record { texture = l; top = x.0.high; some = x.1.low }
 
 -- ---- a scope's index
 module _ (t r : List ℕ) (i : ℕ) where
@@ -64,29 +56,31 @@ module _ (t r : List ℕ) (i : ℕ) where
       (λ m. rw (e, x.0, m, held_is t start_half r i m ∙ x.1)))
 
   -- words that fit are the whole test of an index that is not Many
-  pub scope_plain : scope_word_fits t i ≡ true → scope_word_plain t i ≡ true → scope_slot_fits t r i ≡ true
+  pub scope_plain : scope_word_fits t i ≡ true → word_plain start_half t i ≡ true → scope_slot_fits t r i ≡ true
   scope_plain f s =
       by_case (scope_slot_fits t r i ≡ true) (absent t i) (λ e. rw e)
       (λ e. by_case (scope_slot_fits t r i ≡ true) (is_many t start_half i)
       (λ m. absurd (false≢true (rw (e, m) at s)))
-      (λ m. let x = both (extent t i) (single t start_half i) (rw (e, m) at f) in rw (e, x.0) (sym (held_is t start_half r i m) ∙ x.1)))
+      (λ m. let x = both (extent t i) (single t start_half i && single t start_half i) (rw (e, m) at f) in
+      let y = both (single t start_half i) (single t start_half i) x.1 in rw (e, x.0) (sym (held_is t start_half r i m) ∙ y.0)))
 
-  module _ (f : scope_word_fits t i ≡ true) (p : scope_word_plain t i ≡ false) where
-    owned_many : (absent t i ≡ false) × (not (is_many t start_half i) ≡ false)
-    owned_many = neither (absent t i) (not (is_many t start_half i)) p
+  module _ (f : scope_word_fits t i ≡ true) (p : word_plain start_half t i ≡ false) where
+    owned_many : (absent t i ≡ false) × (is_many t start_half i ≡ true)
+    owned_many =
+        let x = neither (absent t i) (not (is_many t start_half i) && not (is_many t start_half i)) p in
+        (x.0, twice (is_many t start_half i) x.1)
 
-    fit_extent : extent t i ≡ true
-    fit_extent = (both (extent t i) (is_many t start_half i || single t start_half i) (rw owned_many.0 at f)).0
+    many_extent : extent t i ≡ true
+    many_extent = (both (extent t i) true (rw (owned_many.0, owned_many.1) at f)).0
 
-    pub scope_extent : Extents t i
-    scope_extent = extents t i fit_extent
+    pub scope_extent : i < get_or t textures_at 0 → Sized t i
+    scope_extent l = extents t i l many_extent
 
     -- and its ranges are the rest where it is
-    pub scope_many : every (ranges_fit (flags_of t) (get_or t (layers_at i) 0) 0) (mips_of (numbers_of t) start_half t r i)
-        ≡ scope_slot_fits t r i
-    scope_many =
-        rw (owned_many.0, fit_extent)
-        (fits_many (flags_of t) (numbers_of t) start_half t r i (eqb-true _ _ (not-false _ owned_many.1)) scope_extent.0.high)
+    pub scope_many : i < get_or t textures_at 0 → mips_fit (flags_of t) start_half t r i ≡ scope_slot_fits t r i
+    scope_many l =
+        rw (owned_many.0, many_extent)
+        (fits_many (flags_of t) (numbers_of t) start_half t r i (eqb-true _ _ owned_many.1) (scope_extent l).top)
 
 -- ---- a tracker's index
 module _ (t s e : List ℕ) (i : ℕ) where
@@ -108,15 +102,8 @@ module _ (t s e : List ℕ) (i : ℕ) where
       rw (o, x.0, m, held_is t start_half s i n.0 ∙ z.0, held_is t end_half e i n.1 ∙ z.1)))
 
   module _ (f : tracker_word_fits t i ≡ true) where
-    fit_both : absent t i ≡ false → (extent t i && (either || (single t start_half i && single t end_half i))) ≡ true
-    fit_both o = rw o at f
-
-    tracker_extents : absent t i ≡ false → Extents t i
-    tracker_extents o = extents t i (both (extent t i) (either || (single t start_half i && single t end_half i)) (fit_both o)).0
-
-    pub tracker_plain : TextureStored (numbers_of t) start_half t s i → TextureStored (numbers_of t) end_half t e i
-        → tracker_word_plain t i ≡ true → tracker_slot_fits t s e i ≡ true
-    tracker_plain q r p =
+    pub tracker_plain : word_plain end_half t i ≡ true → tracker_slot_fits t s e i ≡ true
+    tracker_plain p =
         by_case (tracker_slot_fits t s e i ≡ true) (absent t i) (λ o. rw o)
         (λ o. let m = both (not (is_many t start_half i)) (not (is_many t end_half i)) (rw o at p) in
         let a = not-true (is_many t start_half i) m.0 in let b = not-true (is_many t end_half i) m.1 in
@@ -124,21 +111,7 @@ module _ (t s e : List ℕ) (i : ℕ) where
         let y = both (single t start_half i) (single t end_half i) x.1 in
         let h : HalvesFit (flags_of t) t s e i =
         record { start = sym (held_is t start_half s i a) ∙ y.0; end = sym (held_is t end_half e i b) ∙ y.1 } in
-        let z = tracker_extents o in
-        let g : EndsReady (flags_of t) t s e i = record { start = q; end = r; flags = refl; top = z.0.high; some = z.1.low } in
-        let w = ends_single g h (eqb-false _ _ a) (eqb-false _ _ b) in
-        rw (o, x.0, h.start, h.end) (sym w))
-
-    module _ (p : tracker_word_plain t i ≡ false) where
-      present : absent t i ≡ false
-      present = (neither (absent t i) (not (is_many t start_half i) && not (is_many t end_half i)) p).0
-
-      pub tracker_extent : Extents t i
-      tracker_extent = tracker_extents present
-
-      -- where a half is Many, what the index holds is the rest of the test
-      pub tracker_many : ends_fit (flags_of t) (extent_of t i) (ends_of (numbers_of t) t s e i) ≡ tracker_slot_fits t s e i
-      tracker_many = rw (present, (both (extent t i) (either || (single t start_half i && single t end_half i)) (fit_both present)).0)
+        rw (o, x.0, h.start, h.end) (sym (ends_single h a b)))
 
 -- ---- every index: one whose words do not fit decides, and so do words that fit where none is Many
 pub not_every : (a b : Bool) → (b ≡ true → a ≡ true) → a ≡ false → false ≡ b
@@ -154,10 +127,10 @@ module _ (t : List ℕ) (n : ℕ) where
         (scope_word_fits t) itself n (λ i l. scope_word t r i))
 
     pub scope_all : every (scope_word_fits t) (list_from itself 0 n) ≡ true
-        → every (scope_word_plain t) (list_from itself 0 n) ≡ true → true ≡ scope_slots_fit t r n
+        → every (word_plain start_half t) (list_from itself 0 n) ≡ true → true ≡ scope_slots_fit t r n
     scope_all f p =
         sym (every_also (scope_word_fits t) itself (slot_fits held_fits (numbers_of t) (flags_of t)) (scope_slot t r) n
-        (λ i l g. scope_plain t r i g (every_at (scope_word_plain t) itself n i p l)) f)
+        (λ i l g. scope_plain t r i g (every_at (word_plain start_half t) itself n i p l)) f)
 
   module _ (s e : List ℕ) where
     pub tracker_not : every (tracker_word_fits t) (list_from itself 0 n) ≡ false → false ≡ tracker_slots_fit t s e n
@@ -166,10 +139,8 @@ module _ (t : List ℕ) (n : ℕ) where
         (every_also (slot_fits ends_fit (numbers_of t) (flags_of t)) (tracker_slot t s e) (tracker_word_fits t) itself n
         (λ i l. tracker_word t s e i))
 
-    pub tracker_all : n ≡ get_or t textures_at 0 → Measured (numbers_of t) start_half t s → Measured (numbers_of t) end_half t e
-        → every (tracker_word_fits t) (list_from itself 0 n) ≡ true → every (tracker_word_plain t) (list_from itself 0 n) ≡ true
-        → true ≡ tracker_slots_fit t s e n
-    tracker_all z a b f p =
+    pub tracker_all : every (tracker_word_fits t) (list_from itself 0 n) ≡ true
+        → every (word_plain end_half t) (list_from itself 0 n) ≡ true → true ≡ tracker_slots_fit t s e n
+    tracker_all f p =
         sym (every_also (tracker_word_fits t) itself (slot_fits ends_fit (numbers_of t) (flags_of t)) (tracker_slot t s e) n
-        (λ i l g. tracker_plain t s e i g (record { measured = a; texture = omega arith }) (record { measured = b; texture = omega arith })
-        (every_at (tracker_word_plain t) itself n i p l)) f)
+        (λ i l g. tracker_plain t s e i g (every_at (word_plain end_half t) itself n i p l)) f)

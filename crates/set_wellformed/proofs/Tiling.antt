@@ -1,5 +1,5 @@
--- The loop of `ranges_fit`: what is left to test decides.
-use Rattle.model.specs.Prelude.{ℕ, arith, refl, true, false, List, eqb, length, get_or, drop, slice_empty, eq-eqb, ne_eqb, lt-ltb, le-ltb}
+-- The loop of `fit`: what is left to test decides.
+use Rattle.model.specs.Prelude.{ℕ, arith, true, false, List, length, get_or, drop, eq-eqb, ne_eqb, lt-ltb, le-ltb}
 use Rattle.model.specs.{declared.{Range.Range, UsageFlags.UsageFlags}, WellFormed.{state_fits, ranges_fit}}
 use Rattle.std.specs.Prelude.{◌+◌, ◌*◌, ◌≤◌, ◌<◌, ◌≡◌, ◌∷◌}
 use Rattle.range_states.specs.View.{view, decode, blank}
@@ -8,9 +8,6 @@ use Rattle.range_states.proofs.Inserting.{next_is}
 pub record Tiling (p : UsageFlags) (e : ℕ) (l : List ℕ) (len at k : ℕ) : Type 0 where
   pub high : k ≤ len
   pub on : ranges_fit p e at (drop k (decode len l)) ≡ ranges_fit p e 0 (decode len l)
-
-pub tiling_start : (p : UsageFlags) (e : ℕ) (l : List ℕ) (len : ℕ) → Tiling p e l len 0 0
-tiling_start p e l len = record { high = omega arith; on = refl }
 
 module _ {p : UsageFlags} {e : ℕ} {l : List ℕ} {len at k : ℕ} {r : Range} (room : 3 * len ≤ length l) (j : Tiling p e l len at k)
     (h : k < len) (g : r ≡ get_or (view l) k blank) where
@@ -28,9 +25,3 @@ module _ {p : UsageFlags} {e : ℕ} {l : List ℕ} {len at k : ℕ} {r : Range} 
 
   pub tiling_turn : r.start ≡ at → at < r.end → state_fits p r.state ≡ true → Tiling p e l len r.end (k + 1)
   tiling_turn a b c = record { high = omega arith; on = rw (eq-eqb r.start at a, lt-ltb at r.end b, c) at here }
-
-pub tiling_end : {p : UsageFlags} {e : ℕ} {l : List ℕ} {len at k : ℕ} → Tiling p e l len at k → len ≤ k
-    → eqb at e ≡ ranges_fit p e 0 (decode len l)
-tiling_end {p} {e} {l} {len} {at} {k} j h =
-    let z : k ≡ len = omega (arith, j.high) in
-    rw (z, slice_empty len (view l)) at j.on

@@ -1,16 +1,30 @@
 -- Tests of every position of a list, as loops make them, and what the code needs of storage to make them.
 use Rattle.std.specs.Prelude.{◌+◌, ◌/◌, ◌≤◌, ◌<◌, ◌≡◌, ◌&&◌, ◌||◌}
-use Rattle.model.specs.Prelude.{ℕ, zero, suc, add-one, le_ind, arith, refl, sym, ◌∙◌, Bool, true, false}
-use Rattle.model.specs.Prelude.{not, and-true, and_assoc, List, leb, not-true, not-false}
-use Rattle.model.specs.{BoolLaws.and_both as both, Base.every, Flags.flags_fit, Sets.{Numbers, outside, numbers_fit, capacity}}
-use Rattle.model.specs.WellFormed.{held_fits, slot_fits}
-use Rattle.set_storage.specs.{Storage.{scope_slot, numbers_of, flags_of, list_from}, Frames.Measured}
+use Rattle.model.specs.Prelude.{ℕ, zero, suc, add-one, arith, refl, sym, Bool, true, not, and-true, and_assoc, List, leb, eqb, get_or}
+use Rattle.model.specs.{declared.UsageFlags.UsageFlags, BoolLaws.and_both as both, Base.every, Flags.flags_fit}
+use Rattle.model.specs.{Sets.{Numbers, outside, numbers_fit, capacity}, WellFormed.{held_fits, slot_fits, ranges_fit}}
+use Rattle.set_storage.specs.Storage.{numbers_of, flags_of, mips_of, list_from, scope_slot, count_at, state_at, complex_at}
+use Rattle.set_storage.specs.Storage.{textures_at, mips_at, layers_at, mip_limit_at, layer_limit_at}
 
-pub record TextureStored (d : Numbers) (h : ℕ) (t r : List ℕ) (i : ℕ) : Type 0 where
-  pub measured : Measured d h t r
-  pub texture : i < d.textures
+-- index i of a set, and its extent is within the set's
+pub record Sized (t : List ℕ) (i : ℕ) : Type 0 where
+  pub texture : i < get_or t textures_at 0
+  pub top : get_or t (mips_at i) 0 ≤ get_or t mip_limit_at 0
+  pub some : 0 < get_or t (layers_at i) 0
+
+-- mip m of index i has no more ranges than there is room for
+abbrev pub Few : ℕ → List ℕ → ℕ → ℕ → Type 0
+Few h t i m = get_or t (count_at h i m) 0 ≤ get_or t layer_limit_at 0
 
 -- ---- The parts of the test, as the code makes them
+-- the word of index i in a half tells COMPLEX
+abbrev pub is_many : List ℕ → ℕ → ℕ → Bool
+is_many t h i = eqb (get_or t (state_at h i) 0) (get_or t complex_at 0)
+
+-- its mips
+abbrev pub mips_fit : UsageFlags → ℕ → List ℕ → List ℕ → ℕ → Bool
+mips_fit p h t r i = every (ranges_fit p (get_or t (layers_at i) 0) 0) (mips_of (numbers_of t) h t r i)
+
 abbrev pub numbers : ℕ → ℕ → ℕ → Numbers
 numbers n m w = record { textures = n; mips = m; layers = w }
 
@@ -46,14 +60,6 @@ module _ {A : Type 0} (g : A → Bool) (f : ℕ → A) where
   pub every_next : (n : ℕ) → every g (list_from f 0 (n + 1)) ≡ every g (list_from f 0 n) && g (f n)
   every_next n = let e : 0 + n ≡ n = omega arith in rw (add-one, every_last 0 n, e)
 
-  every_more : (n : ℕ) → every g (list_from f 0 n) ≡ true → g (f n) ≡ true → every g (list_from f 0 (n + 1)) ≡ true
-  every_more n a b = rw (every_next n, a, b)
-
-  every_stop : (k n : ℕ) → every g (list_from f 0 k) ≡ true → g (f k) ≡ false → k < n → every g (list_from f 0 n) ≡ false
-  every_stop k n a b h =
-      let e : 0 + k ≡ k = omega arith in
-      le_ind (λ (m : ℕ). every g (list_from f 0 m) ≡ false) (rw (every_last 0 k, e, a, b)) (λ m _ q. rw (every_last 0 m, q)) n h
-
   -- where every position passes, each does
   every_from : (j n k : ℕ) → every g (list_from f j n) ≡ true → k < n → g (f (j + k)) ≡ true
   unfolding list_from
@@ -66,24 +72,13 @@ module _ {A : Type 0} (g : A → Bool) (f : ℕ → A) where
   pub every_at : (n k : ℕ) → every g (list_from f 0 n) ≡ true → k < n → g (f k) ≡ true
   every_at n k a h = let e : 0 + k ≡ k = omega arith in rw e at (every_from 0 n k a h)
 
--- ---- A loop over the positions below n, up to the first that fails: k have passed
-pub record Testing {A : Type 0} (g : A → Bool) (f : ℕ → A) (n k : ℕ) : Type 0 where
-  pub high : k ≤ n
-  pub passed : every g (list_from f 0 k) ≡ true
-
-pub testing_start : {A : Type 0} (g : A → Bool) (f : ℕ → A) (n : ℕ) → Testing g f n 0
-testing_start g f n = record { high = omega arith; passed = every_none g f }
-
-module _ {A : Type 0} {g : A → Bool} {f : ℕ → A} {n k : ℕ} (w : Testing g f n k) where
-  module _ {b : Bool} (h : k < n) (e : b ≡ g (f k)) where
-    pub testing_stop : not b ≡ true → false ≡ every g (list_from f 0 n)
-    testing_stop x = sym (every_stop g f k n w.passed (sym e ∙ not-true b x) h)
-
-    pub testing_turn : not b ≡ false → Testing g f n (k + 1)
-    testing_turn x = record { high = omega arith; passed = every_more g f k w.passed (sym e ∙ not-false b x) }
-
-  pub testing_end : n ≤ k → true ≡ every g (list_from f 0 n)
-  testing_end h = let z : k ≡ n = omega (arith, w.high) in rw (← z) (sym w.passed)
+-- where each position passes one test as it passes another
+pub every_same : {A B : Type 0} (g : A → Bool) (f : ℕ → A) (h : B → Bool) (k : ℕ → B) (j n : ℕ)
+    → ((i : ℕ) → j ≤ i → i < j + n → g (f i) ≡ h (k i)) → every g (list_from f j n) ≡ every h (list_from k j n)
+unfolding list_from
+every_same g f h k j zero each = refl
+every_same g f h k j (suc n) each =
+    rw (each j (omega arith) (omega arith), every_same g f h k (suc j) n (λ i l m. each i (omega arith) (omega arith)))
 
 -- where each position that passes one test passes another, and all pass the first, all pass the other
 pub every_also : {A B : Type 0} (g : A → Bool) (f : ℕ → A) (h : B → Bool) (k : ℕ → B) (n : ℕ)

@@ -1,12 +1,11 @@
 -- Where start and end of a tracker's texture are exactly UNKNOWN, as the code tests it, and what it may take as tested before.
-use Rattle.model.specs.Prelude.{ℕ, Bool, true, not, List, leb, eqb, length, get_or}
+use Rattle.model.specs.Prelude.{ℕ, Bool, true, not, List, leb, eqb, length}
 use Rattle.model.specs.{declared.{Range.Range, UsageFlags.UsageFlags}, Base.every, RangedStates.{layer_states, Tiles}}
-use Rattle.model.specs.{Subresources.subresources, WellFormed.{ranges_fit, held_fits, same_test, all₂, same_unknown, ends_fit, slot_fits}}
-use Rattle.std.specs.Prelude.{◌*◌, ◌≤◌, ◌<◌, ◌≡◌, if◌then◌else◌}
+use Rattle.model.specs.{Subresources.subresources, WellFormed.{held_fits, same_test, all₂, same_unknown, ends_fit, slot_fits}}
+use Rattle.std.specs.Prelude.{◌*◌, ◌≤◌, ◌≡◌, if◌then◌else◌}
 use Rattle.range_states.specs.View.{decode}
-use Rattle.set_storage.specs.Storage.{tracker_slot, numbers_of, flags_of, extent_of, start_half, end_half, mip_of, mips_of, held_of}
-use Rattle.set_storage.specs.{Storage.{list_from, layers_at, mip_limit_at, mips_at}, Frames.MipReady}
-use Rattle.set_wellformed.specs.Parts.{TextureStored}
+use Rattle.set_storage.specs.Storage.{tracker_slot, numbers_of, flags_of, extent_of, start_half, end_half, mip_of, held_of}
+use Rattle.set_storage.specs.{Storage.{list_from}}
 
 -- two states are both exactly UNKNOWN, or neither is
 abbrev pub agrees : ℕ → ℕ → ℕ → Bool
@@ -31,27 +30,6 @@ pub record SameLayers (a : List ℕ) (la : ℕ) (b : List ℕ) (lb : ℕ) : Type
   pub right : 3 * lb ≤ length b
   pub left_tiles : Tiles 0 (decode la a) top
   pub right_tiles : Tiles 0 (decode lb b) top
-
--- ---- A mip and a texture that were tested
-pub record MipFits (p : UsageFlags) (h : ℕ) (t r : List ℕ) (i m : ℕ) : Type 0 where
-  pub ready : MipReady (numbers_of t) h t r i m
-  pub some : 0 < get_or t (layers_at i) 0
-  pub fits : ranges_fit p (get_or t (layers_at i) 0) 0 (mip_of (numbers_of t) h t r i m) ≡ true
-
-pub record MipsFit (p : UsageFlags) (h : ℕ) (t r : List ℕ) (i mips : ℕ) : Type 0 where
-  pub ready : TextureStored (numbers_of t) h t r i
-  pub told : mips ≡ get_or t (mips_at i) 0
-  pub top : mips ≤ get_or t mip_limit_at 0
-  pub some : 0 < get_or t (layers_at i) 0
-  pub fits : every (ranges_fit p (get_or t (layers_at i) 0) 0) (mips_of (numbers_of t) h t r i) ≡ true
-
--- index i, whose extent is within the set's
-pub record EndsReady (p : UsageFlags) (t s e : List ℕ) (i : ℕ) : Type 0 where
-  pub start : TextureStored (numbers_of t) start_half t s i
-  pub end : TextureStored (numbers_of t) end_half t e i
-  pub flags : p ≡ flags_of t
-  pub top : get_or t (mips_at i) 0 ≤ get_or t mip_limit_at 0
-  pub some : 0 < get_or t (layers_at i) 0
 
 -- both halves of index i fit
 pub record HalvesFit (p : UsageFlags) (t s e : List ℕ) (i : ℕ) : Type 0 where

@@ -12,33 +12,25 @@
 // EXCLUSIVE, which needs a look-up, is tested by itself: of words last, of a range first.
 #![tactic(auto)]
 
-pub mod unknowns;
-pub mod words;
+mod half;
+mod unknowns;
+mod words;
 
-ghost use Rattle.std.specs.Prelude.{◌≡◌, true, ◌+◌, ◌*◌, ◌/◌, ◌≤◌, ◌<◌, leb, length, get_or};
-ghost use Rattle.model.specs.Base.{every};
+ghost use Rattle.std.specs.Prelude.{◌≡◌, true, ◌*◌, ◌/◌, ◌≤◌, ◌<◌, leb, get_or};
 ghost use Rattle.model.specs.Sets.{outside as outside_of, numbers_fit};
-ghost use Rattle.model.specs.WellFormed.{state_fits, single_fits, ranges_fit, held_fits};
-ghost use Rattle.usage.specs.Ones.{CountsOnes};
-ghost use Rattle.range_states.specs.View.{decode};
-ghost use Rattle.set_storage.specs.Storage.{numbers_of, flags_of, extent_of, mip_of, mips_of, held_of, list_from};
-ghost use Rattle.set_storage.specs.Storage.{textures_at, mip_limit_at, mips_at, layers_at, start_half};
-ghost use Rattle.set_storage.specs.Frames.{Measured, MipReady};
-ghost use Rattle.set_wellformed.specs.Parts.{TextureStored, numbers, extent_fits, head_fits, scope_slot_fits, scope_slots_fit};
+ghost use Rattle.model.specs.WellFormed.{state_fits, single_fits};
+ghost use Rattle.set_storage.specs.Storage.{textures_at, start_half};
+ghost use Rattle.set_wellformed.specs.Parts.{numbers, extent_fits, head_fits, scope_slot_fits, scope_slots_fit};
 ghost use Rattle.set_wellformed.specs.Proper.{state_proper, single_proper};
-ghost use Rattle.set_wellformed.specs.Unknowns.{itself};
 ghost use Rattle.set_wellformed.specs.Words.{scope_word_fits};
 ghost use Rattle.set_wellformed.specs.Whole.{TestsScope};
 
+use half::Half;
 use model::UsageFlags;
-use range_states::get;
-use set_storage::{
-    COUNTS, LAYER_LIMIT, LAYERS, MIP_LIMIT, MIPS, OWNED, START, TEXTURES, Table, base, flags_of,
-    table_len, wide,
-};
+use set_storage::{LAYER_LIMIT, MIP_LIMIT, OWNED, START, TEXTURES, Table, flags_of};
 pub use unknowns::tracker_fits;
-use usage::{OnesTable, flags_fit_by, incompatible_by, meets, ones_table};
-use words::{plain_words, scope_words};
+use usage::{OnesTable, flags_fit_by, meets};
+use words::{Words, plain_pair, read_words};
 
 // "states nonzero, compatible, without COMPLEX", of 16 bits: all of it but "compatible", a proper state.
 fn state_proper(p: UsageFlags, s: u32) -> bool
@@ -56,134 +48,16 @@ fn single_proper(p: UsageFlags, s: u32) -> bool
 
 // The whole test of a range's state.
 fn state_fits(ones: &OnesTable, p: UsageFlags, s: u32) -> bool
-    requires { CountsOnes ones.now }
     ensures { result ≡ state_fits p s }
 {
-    if incompatible_by(ones, p, s) {
-        return false;
-    }
-    state_proper(p, s)
+    !ones.incompatible(p, s) && state_proper(p, s)
 }
 
 // The whole test of a Single texture's state.
 fn single_fits(ones: &OnesTable, p: UsageFlags, s: u32) -> bool
-    requires { CountsOnes ones.now }
     ensures { result ≡ single_fits p s }
 {
     state_fits(ones, p, s) & !meets(s, p.unknown)
-}
-
-// Whether the first `len` ranges tile the layers from 0 to `layers`, each in a state that fits.
-fn ranges_fit(ones: &OnesTable, s: &[u32], len: usize, p: UsageFlags, layers: u32) -> bool
-    requires counts_ones { CountsOnes ones.now }
-    requires len_in_bounds { 3 * len ≤ length s.now }
-    ensures { result ≡ ranges_fit p layers 0 (decode len s.now) }
-{
-    let mut at = 0;
-    let mut k = 0;
-    while k < len {
-        let r = get(s, k);
-        if r.start != at {
-            return false;
-        }
-        if r.end <= at {
-            return false;
-        }
-        if !state_fits(ones, p, r.state) {
-            return false;
-        }
-        at = r.end;
-        k += 1;
-    }
-    at == layers
-}
-
-// The ranges of mip m of texture i.
-fn mip_fits(
-    ones: &OnesTable,
-    table: &Table,
-    ranges: &[u32],
-    half: usize,
-    i: usize,
-    m: u32,
-    p: UsageFlags,
-    layers: u32,
-) -> bool
-    requires counts_ones { CountsOnes ones.now }
-    requires mip_ready { MipReady (numbers_of table.now) half table.now ranges.now i m }
-    requires layers_nonzero { 0 < layers }
-    ensures { let t = table.now in
-        result ≡ ranges_fit p layers 0 (mip_of (numbers_of t) half t ranges.now i m) }
-{
-    let k = wide(m);
-    let all = wide(table[MIP_LIMIT]);
-    let deep = wide(table[LAYER_LIMIT]);
-    let len = wide(table[half + COUNTS + (16 * i + k)]);
-    if deep < len {
-        return false;
-    }
-    let b = base(i, k, all, deep, ranges.len());
-    let e = b + deep * 3;
-    ranges_fit(ones, &ranges[b..e], len, p, layers)
-}
-
-// Every mip of texture i.
-fn mips_fit(
-    ones: &OnesTable,
-    table: &Table,
-    ranges: &[u32],
-    half: usize,
-    i: usize,
-    mips: u32,
-    p: UsageFlags,
-    layers: u32,
-) -> bool
-    requires counts_ones { CountsOnes ones.now }
-    requires texture_stored { TextureStored (numbers_of table.now) half table.now ranges.now i }
-    requires mips_value { (mips ≡ get_or table.now (mips_at i) 0) × ((mips ≤ get_or table.now mip_limit_at 0) × (0 < layers)) }
-    ensures { let t = table.now in
-        result ≡ every (ranges_fit p layers 0) (mips_of (numbers_of t) half t ranges.now i) }
-{
-    let mut m = 0;
-    while m < mips {
-        if !mip_fits(ones, table, ranges, half, i, m, p, layers) {
-            return false;
-        }
-        m += 1;
-    }
-    true
-}
-
-// What a half holds of texture i, whose extent is within the set's.
-fn held_fits(
-    ones: &OnesTable,
-    table: &Table,
-    ranges: &[u32],
-    half: usize,
-    i: usize,
-    p: UsageFlags,
-) -> bool
-    requires counts_ones { CountsOnes ones.now }
-    requires texture_stored { TextureStored (numbers_of table.now) half table.now ranges.now i }
-    requires p_value { p ≡ flags_of table.now }
-    requires i_bound { (get_or table.now (mips_at i) 0 ≤ get_or table.now mip_limit_at 0) × (0 < get_or table.now (layers_at i) 0) }
-    ensures { let t = table.now in
-        result ≡ held_fits p (extent_of t i) (held_of (numbers_of t) half t ranges.now i) }
-{
-    let state = table[half + i];
-    if state == p.complex {
-        return mips_fit(
-            ones,
-            table,
-            ranges,
-            half,
-            i,
-            table[MIPS + i],
-            p,
-            table[LAYERS + i],
-        );
-    }
-    single_fits(ones, p, state)
 }
 
 // Whether x is not from 1 to top.
@@ -212,89 +86,46 @@ pub fn room_fits(n: u32, m: u32, w: u32, room: usize) -> bool
     requires { (n ≤ 64) × ((m ≤ 16) × (w ≤ 256)) }
     ensures { result ≡ leb (n * m * w) (room / 3) }
 {
-    wide(n) * wide(m) * wide(w) <= room / 3
+    n as usize * m as usize * w as usize <= room / 3
 }
 
 // The opening checks, of a table that may hold anything: what they let pass can be indexed.
 fn head_fits(ones: &OnesTable, table: &Table, room: usize) -> bool
-    requires { CountsOnes ones.now }
     ensures { result ≡ head_fits table.now room }
 {
-    if !numbers_fit(table[TEXTURES], table[MIP_LIMIT], table[LAYER_LIMIT]) {
-        return false;
-    }
-    if !flags_fit_by(ones, flags_of(table)) {
-        return false;
-    }
-    room_fits(table[TEXTURES], table[MIP_LIMIT], table[LAYER_LIMIT], room)
+    let (n, m, w) = (table[TEXTURES], table[MIP_LIMIT], table[LAYER_LIMIT]);
+    numbers_fit(n, m, w) && flags_fit_by(ones, flags_of(table)) && room_fits(n, m, w, room)
 }
 
-// Index i of a scope, whose words fit: where it is Many, its ranges.
-fn slot_fits(ones: &OnesTable, table: &Table, ranges: &[u32], i: usize, p: UsageFlags) -> bool
-    requires counts_ones { CountsOnes ones.now }
-    requires texture_stored { TextureStored (numbers_of table.now) start_half table.now ranges.now i }
-    requires p_value { p ≡ flags_of table.now }
-    requires i_value { scope_word_fits table.now i ≡ true }
-    ensures { result ≡ scope_slot_fits table.now ranges.now i }
-{
-    if plain_words(p, table[OWNED + i], table[START + i]) {
-        return true;
+impl Half<'_> {
+    // Index i of a scope, whose words fit: where it is Many, its ranges.
+    fn slot_fits(&self, i: usize) -> bool
+        requires half { self.now.at ≡ start_half }
+        requires texture { i < get_or self.now.table.now textures_at 0 }
+        requires words { scope_word_fits self.now.table.now i ≡ true }
+        ensures { result ≡ scope_slot_fits self.now.table.now self.now.ranges.now i }
+    {
+        let state = self.table[START + i];
+        plain_pair(self.flags, self.table[OWNED + i], state, state) || self.mips_fit(i)
     }
-    mips_fit(
-        ones,
-        table,
-        ranges,
-        START,
-        i,
-        table[MIPS + i],
-        p,
-        table[LAYERS + i],
-    )
-}
 
-// Every index of a scope whose words fit.
-fn slots_fit(ones: &OnesTable, table: &Table, ranges: &[u32], n: usize, p: UsageFlags) -> bool
-    requires counts_ones { CountsOnes ones.now }
-    requires measured { Measured (numbers_of table.now) start_half table.now ranges.now }
-    requires n_value { (n ≡ get_or table.now textures_at 0) × (p ≡ flags_of table.now) }
-    requires n_value_2 { every (scope_word_fits table.now) (list_from itself 0 n) ≡ true }
-    ensures { result ≡ scope_slots_fit table.now ranges.now n }
-{
-    let mut i = 0;
-    while i < n {
-        if !slot_fits(ones, table, ranges, i, p) {
-            return false;
+    // Every index of a scope: the words first, and the ranges only if there are any.
+    fn all_fit(&self) -> bool
+        requires { self.now.at ≡ start_half }
+        ensures { let t = self.now.table.now in result ≡ scope_slots_fit t self.now.ranges.now (get_or t textures_at 0) }
+    {
+        match read_words(self, START) {
+            Words::Unfit => false,
+            Words::Plain => true,
+            Words::Ranged => (0..self.table[TEXTURES] as usize).all(|i| self.slot_fits(i)),
         }
-        i += 1;
     }
-    true
-}
-
-// Every index of a scope: the words first, and the ranges only if there are any.
-fn all_fit(ones: &OnesTable, table: &Table, ranges: &[u32], n: usize, p: UsageFlags) -> bool
-    requires counts_ones { CountsOnes ones.now }
-    requires measured { Measured (numbers_of table.now) start_half table.now ranges.now }
-    requires n_value { (n ≡ get_or table.now textures_at 0) × (p ≡ flags_of table.now) }
-    ensures { result ≡ scope_slots_fit table.now ranges.now n }
-{
-    let x = scope_words(ones, table, n, p);
-    if !x.fit {
-        return false;
-    }
-    if x.plain {
-        return true;
-    }
-    slots_fit(ones, table, ranges, n, p)
 }
 
 // Whether a scope's storage is a well-formed scope with room for its ranges.
 pub fn scope_fits(table: &Table, ranges: &[u32]) -> bool
     ensures { TestsScope table.now ranges.now result }
 {
-    table_len(table);
-    let ones = ones_table();
-    if !head_fits(&ones, table, ranges.len()) {
-        return false;
-    }
-    all_fit(&ones, table, ranges, wide(table[TEXTURES]), flags_of(table))
+    let ones = &OnesTable::new();
+    head_fits(ones, table, ranges.len()) && Half::new(ones, table, ranges, START).all_fit()
 }

@@ -1,0 +1,10 @@
+-- `mips_fit` tests mip by mip.
+use Rattle.std.proofs.Common.{rules}
+use Rattle.set_storage.specs.Storage.{numbers_of}
+use Rattle.set_wellformed.proofs.{Every.all_of, Mips.mips_are}
+use Rattle.set_wellformed.proofs.half.Half.mips_fit.Goals as goal
+
+pub returns : goal.returns
+returns c =
+    rw (mips_are (numbers_of c.args.self.now.table.now) _ _ c.requires.top)
+    (all_of _ _ _ c.all.ensures.ran (λ k b y h. search rules))
