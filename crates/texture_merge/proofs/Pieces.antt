@@ -1,13 +1,13 @@
 -- The loops over the ranges of a given mip, and over the given mips: what each lap needs, and where it leaves the storage.
-use Rattle.model.specs.Prelude.{ℕ, suc, add-one, arith, sym, subst, none, some, List, map, length, get_or, drop}
-use Rattle.model.specs.{declared.{UsageFlags.UsageFlags, Range.Range, InvalidUse.InvalidUse}, Base.{Stop, and_then, passes}}
+use Rattle.model.specs.Prelude.{ℕ, suc, add-one, arith, sym, subst, None, Some, List, map, length, get_or, drop}
+use Rattle.model.specs.Prelude.{Ok, Err, result_err}
+use Rattle.model.specs.{declared.{Range.Range, InvalidUse.InvalidUse}, Base.{Stop, and_then, passes}}
 use Rattle.model.specs.{Representation.select, Texture.pieces_of}
 use Rattle.std.specs.Prelude.{◌+◌, ◌≤◌, ◌<◌, ◌≡◌}
 use Rattle.range_states.specs.View.{view, blank, decode}
 use Rattle.set_storage.specs.{declared.Located.Located, Storage.{numbers_of, mips_of, layers_at}, Locate.LocatedAt}
-use Rattle.texture_merge.specs.{declared.{Stopped.Stopped, Doing.Doing}, declared.Stopped.TheVariants.{Nowhere, At}}
-use Rattle.texture_merge.specs.{Walks.{stopped_of, MipsWalked}, Ready.{ManyReady, HalfTiled, Selects, lent_part}}
-use Rattle.texture_merge.specs.Giving.{taken, taken_tiled, passes_tiled, piece_on, pieces_from, passes_append, Giving, giving_start}
+use Rattle.texture_merge.specs.{Walks.{Stopped, MipsWalked}, Ready.{ManyReady, HalfTiled, Selects, lent_part}}
+use Rattle.texture_merge.specs.Giving.{Does, KeepsTiled, passes_tiled, piece_on, pieces_from, passes_append, Giving, giving_start}
 use Rattle.texture_merge.specs.Giving.{giving_word, giving_ready, giving_turn, giving_stop, giving_end, GivenMip, GivenTexture}
 use Rattle.texture_merge.proofs.Given.{SameTexture, same_texture, range_none, range_next, range_inside, range_within, mips_none, mip_next}
 use Rattle.texture_merge.proofs.Given.{mip_tiles, mip_within}
@@ -24,9 +24,9 @@ module _ {h i : ℕ} {goal : Stop InvalidUse (List (List Range))} {t₀ r₀ t r
 
 -- ---- the ranges of one mip
 module _ {h i : ℕ} {t₀ r₀ : List ℕ} (m : ManyReady (numbers_of t₀) h t₀ r₀ i (get_or t₀ (layers_at i) 0)) {mip len : ℕ} {part : List ℕ}
-    (q : GivenMip t₀ i mip part len) (doing : Doing) (p : UsageFlags) where
+    (q : GivenMip t₀ i mip part len) (f : Does) (law : KeepsTiled f) where
   abbrev give : List Range → List (List Range) → Stop InvalidUse (List (List Range))
-  give rs = passes (taken doing p) (map (piece_on mip) rs)
+  give rs = passes f (map (piece_on mip) rs)
 
   abbrev pub RangeLap : ℕ → List ℕ → List ℕ → Type 0
   RangeLap k t r = Giving h i (get_or t₀ (layers_at i) 0) (give (decode len part) (mips_of (numbers_of t₀) h t₀ r₀ i)) t₀ r₀
@@ -36,7 +36,7 @@ module _ {h i : ℕ} {t₀ r₀ : List ℕ} (m : ManyReady (numbers_of t₀) h t
   range_start = giving_start m (give (decode len part))
 
   module _ {k : ℕ} {t r : List ℕ} (w : RangeLap k t r) where
-    pub range_done : len ≤ k → MipsWalked (numbers_of t₀) h i (give (decode len part) (mips_of (numbers_of t₀) h t₀ r₀ i)) t₀ r₀ Nowhere t r
+    pub range_done : len ≤ k → MipsWalked (numbers_of t₀) h i (give (decode len part) (mips_of (numbers_of t₀) h t₀ r₀ i)) t₀ r₀ (Ok tt) t r
     range_done b = giving_end m w (λ ss. rw (range_none q k b))
 
     module _ (b : k < len) {x : Range} (e : x ≡ get_or (view part) k blank) where
@@ -44,7 +44,7 @@ module _ {h i : ℕ} {t₀ r₀ : List ℕ} (m : ManyReady (numbers_of t₀) h t
       range_selects = range_within q k b e (same m w)
 
       abbrev one : List (List Range) → Stop InvalidUse (List (List Range))
-      one = taken doing p (piece_on mip x)
+      one = f (piece_on mip x)
 
       splits : (ss : List (List Range))
           → give (drop k (decode len part)) ss
@@ -52,32 +52,32 @@ module _ {h i : ℕ} {t₀ r₀ : List ℕ} (m : ManyReady (numbers_of t₀) h t
       splits ss = rw (range_next q k b e)
 
       module _ {z : Stopped} {t' r' : List ℕ} (s : MipsWalked (numbers_of t) h i (one (mips_of (numbers_of t) h t r i)) t r z t' r') where
-        pub range_turn : stopped_of z ≡ none → RangeLap (k + 1) t' r'
+        pub range_turn : result_err z ≡ None → RangeLap (k + 1) t' r'
         range_turn n =
             giving_turn m w one _ splits s n
-            (taken_tiled doing p (piece_on mip x) (get_or t₀ (layers_at i) 0) (mips_of (numbers_of t₀) h t r i) (range_inside q k b e).0
+            (law (piece_on mip x) (get_or t₀ (layers_at i) 0) (mips_of (numbers_of t₀) h t r i) (range_inside q k b e).0
             (range_inside q k b e).1 w.tiled)
 
-        pub range_stop : (c : InvalidUse) → stopped_of z ≡ some c
-            → MipsWalked (numbers_of t₀) h i (give (decode len part) (mips_of (numbers_of t₀) h t₀ r₀ i)) t₀ r₀ (At c) t' r'
+        pub range_stop : (c : InvalidUse) → result_err z ≡ Some c
+            → MipsWalked (numbers_of t₀) h i (give (decode len part) (mips_of (numbers_of t₀) h t₀ r₀ i)) t₀ r₀ (Err c) t' r'
         range_stop c n = giving_stop m w one (give (drop (k + 1) (decode len part))) splits s c n
 
 -- ---- the mips of a texture
 module _ {h i : ℕ} {t₀ r₀ : List ℕ} (m : ManyReady (numbers_of t₀) h t₀ r₀ i (get_or t₀ (layers_at i) 0)) {mips from : ℕ} {t₂ r₂ : List ℕ}
-    (q : GivenTexture t₀ i mips from t₂ r₂) (doing : Doing) (p : UsageFlags) where
+    (q : GivenTexture t₀ i mips from t₂ r₂) (f : Does) (law : KeepsTiled f) where
   abbrev gs : List (List Range)
   gs = mips_of (numbers_of t₂) from t₂ r₂ i
 
   abbrev pub MipLap : ℕ → List ℕ → List ℕ → Type 0
-  MipLap k t r = Giving h i (get_or t₀ (layers_at i) 0) (passes (taken doing p) (pieces_of gs) (mips_of (numbers_of t₀) h t₀ r₀ i)) t₀ r₀
-      (passes (taken doing p) (pieces_from k (drop k gs))) t r
+  MipLap k t r = Giving h i (get_or t₀ (layers_at i) 0) (passes f (pieces_of gs) (mips_of (numbers_of t₀) h t₀ r₀ i)) t₀ r₀
+      (passes f (pieces_from k (drop k gs))) t r
 
   pub mip_start_lem : MipLap 0 t₀ r₀
-  mip_start_lem = giving_start m (passes (taken doing p) (pieces_from 0 gs))
+  mip_start_lem = giving_start m (passes f (pieces_from 0 gs))
 
   module _ {k : ℕ} {t r : List ℕ} (w : MipLap k t r) where
     pub mip_done : mips ≤ k
-        → MipsWalked (numbers_of t₀) h i (passes (taken doing p) (pieces_of gs) (mips_of (numbers_of t₀) h t₀ r₀ i)) t₀ r₀ Nowhere t r
+        → MipsWalked (numbers_of t₀) h i (passes f (pieces_of gs) (mips_of (numbers_of t₀) h t₀ r₀ i)) t₀ r₀ (Ok tt) t r
     mip_done b = giving_end m w (λ ss. rw (mips_none q k b))
 
     module _ (b : k < mips) {x : Located} (l : LocatedAt t₂ from i k (length r₂) x) where
@@ -85,21 +85,21 @@ module _ {h i : ℕ} {t₀ r₀ : List ℕ} (m : ManyReady (numbers_of t₀) h t
       mip_given = mip_within q k b l (same m w)
 
       abbrev whole : List (List Range) → Stop InvalidUse (List (List Range))
-      whole = passes (taken doing p) (map (piece_on k) (decode x.len (lent_part x r₂)))
+      whole = passes f (map (piece_on k) (decode x.len (lent_part x r₂)))
 
       mip_splits : (ss : List (List Range))
-          → passes (taken doing p) (pieces_from k (drop k gs)) ss
-          ≡ and_then (whole ss).conflict (whole ss).value (passes (taken doing p) (pieces_from (k + 1) (drop (k + 1) gs)) (whole ss).value)
-      mip_splits ss = rw (mip_next q k b l, add-one) (passes_append (taken doing p) (map (piece_on k) (decode x.len (lent_part x r₂)))
+          → passes f (pieces_from k (drop k gs)) ss
+          ≡ and_then (whole ss).conflict (whole ss).value (passes f (pieces_from (k + 1) (drop (k + 1) gs)) (whole ss).value)
+      mip_splits ss = rw (mip_next q k b l, add-one) (passes_append f (map (piece_on k) (decode x.len (lent_part x r₂)))
           (pieces_from (suc k) (drop (suc k) gs)) ss)
 
       module _ {z : Stopped} {t' r' : List ℕ} (s : MipsWalked (numbers_of t) h i (whole (mips_of (numbers_of t) h t r i)) t r z t' r') where
-        pub mip_turn : stopped_of z ≡ none → MipLap (k + 1) t' r'
+        pub mip_turn : result_err z ≡ None → MipLap (k + 1) t' r'
         mip_turn n =
             giving_turn m w whole _ mip_splits s n
-            (passes_tiled doing p k (get_or t₀ (layers_at i) 0) (decode x.len (lent_part x r₂)) 0
+            (passes_tiled f law k (get_or t₀ (layers_at i) 0) (decode x.len (lent_part x r₂)) 0
             (mips_of (numbers_of t₀) h t r i) (mip_tiles q k b l) w.tiled)
 
-        pub mip_stop : (c : InvalidUse) → stopped_of z ≡ some c
-            → MipsWalked (numbers_of t₀) h i (passes (taken doing p) (pieces_of gs) (mips_of (numbers_of t₀) h t₀ r₀ i)) t₀ r₀ (At c) t' r'
-        mip_stop c n = giving_stop m w whole (passes (taken doing p) (pieces_from (k + 1) (drop (k + 1) gs))) mip_splits s c n
+        pub mip_stop : (c : InvalidUse) → result_err z ≡ Some c
+            → MipsWalked (numbers_of t₀) h i (passes f (pieces_of gs) (mips_of (numbers_of t₀) h t₀ r₀ i)) t₀ r₀ (Err c) t' r'
+        mip_stop c n = giving_stop m w whole (passes f (pieces_from (k + 1) (drop (k + 1) gs))) mip_splits s c n

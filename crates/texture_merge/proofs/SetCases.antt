@@ -1,5 +1,6 @@
 -- `insert` and `merge` of a texture of another set, case by case: what the code leaves is what the model gives.
-use Rattle.model.specs.Prelude.{ℕ, arith, refl, sym, ap, subst, ◌∙◌, none, some, List, [], get_or, set, replicate}
+use Rattle.model.specs.Prelude.{ℕ, arith, refl, sym, ap, subst, ◌∙◌, None, Some, List, [], get_or, set, replicate}
+use Rattle.model.specs.Prelude.{Ok, Err, result_err}
 use Rattle.model.specs.{declared.{UsageFlags.UsageFlags, Extent.Extent, Range.Range, InvalidUse.InvalidUse}, Base.{Stop, passes}}
 use Rattle.model.specs.{Sets.Numbers, RangedStates.range}
 use Rattle.model.specs.Texture.{single, many, Given, given_single, pieces_of, from_held, fresh_mips, paint_all, insert, spread_piece, merge}
@@ -8,10 +9,9 @@ use Rattle.set_storage.specs.{Storage.{numbers_of, count_at, mips_of, held_of, c
 use Rattle.set_storage.specs.Frames.{MipsBecome, frame_below, half_of, measured_then}
 use Rattle.set_storage.specs.Slots.{HalfBecomes, become_single, become_many, become_marked, held_single, held_many}
 use Rattle.set_storage.specs.Texture.{TextureReady, texture_then, texture_dims}
-use Rattle.texture_merge.specs.{declared.Stopped.Stopped, declared.Stopped.TheVariants.{Nowhere, At}}
-use Rattle.texture_merge.specs.{declared.Doing.TheVariants.{Insert, Merge, Spread}, Walks.{stopped_of, MipsWalked}}
+use Rattle.texture_merge.specs.Walks.{Stopped, MipsWalked}
 use Rattle.texture_merge.specs.{Ready.{ManyReady, HalfTiled, many_of, fresh_many}, Uses.HalfMerged}
-use Rattle.texture_merge.specs.Giving.{taken, inserts, merges, spreads, GivenTexture}
+use Rattle.texture_merge.specs.Giving.{inserted, inserts, merged, GivenTexture}
 use Rattle.texture_merge.specs.FromSet.{SetReady, MergeReady, given_state_lem, given_pieces, given_many_lem}
 use Rattle.texture_merge.proofs.Breaking.{break_many, break_texture, break_then}
 
@@ -48,7 +48,7 @@ module _ {h i from : ℕ} {sh : Extent} {p : UsageFlags} {t r t₂ r₂ : List �
       insert_ready = (break_many x.texture x.flags p.unknown b, given_many_lem x.given c (break_texture x.texture x.flags p.unknown b))
 
       pub insert_many : {z : Stopped} {t₄ r₄ : List ℕ}
-          → MipsWalked (numbers_of t₃) h i (passes (taken Insert p) (pieces_of gs) (mips_of (numbers_of t₃) h t₃ r₃ i)) t₃ r₃ z t₄ r₄
+          → MipsWalked (numbers_of t₃) h i (passes (inserted p) (pieces_of gs) (mips_of (numbers_of t₃) h t₃ r₃ i)) t₃ r₃ z t₄ r₄
           → HalfBecomes (numbers_of t) h i (insert p sh given) t r t₄ r₄
       unfolding insert
       insert_many {z} {t₄} {r₄} w =
@@ -66,14 +66,12 @@ module _ {h i from : ℕ} {sh : Extent} {p : UsageFlags} {t r t₂ r₂ : List �
         many_ready = (many_of (record { ready = x.texture; tiled = y.tiled }) told _ x.texture.layers, given_many_lem x.given c x.texture)
 
         pub many_many : {z : Stopped} {t' r' : List ℕ}
-            → MipsWalked (numbers_of t) h i (passes (taken Merge p) (pieces_of gs) (mips_of (numbers_of t) h t r i)) t r z t' r'
+            → MipsWalked (numbers_of t) h i (passes (merged p) (pieces_of gs) (mips_of (numbers_of t) h t r i)) t r z t' r'
             → HalfMerged (numbers_of t) h i (merge p sh (held_of (numbers_of t) h t r i) given) t r z t' r'
         unfolding merge
-        many_many {z} {t'} {r'} w =
-            let v = subst (λ (s : Stop InvalidUse (List (List Range))). MipsWalked (numbers_of t) h i s t r z t' r')
-            (merges p (pieces_of gs) (mips_of (numbers_of t) h t r i)) w in
+        many_many w =
             rw (given_pieces x.given c, held_many (numbers_of t) h t r i (mips_of (numbers_of t) h t r i) told refl)
-            record { conflict = v.conflict; into = become_many x.texture.measured x.texture.index told v.into }
+            record { conflict = w.conflict; into = become_many x.texture.measured x.texture.index told w.into }
 
       -- merge into Single: the mips are made anew in its state, and the word stays until all pieces are taken
       module _ {cur : ℕ} (e : cur ≡ get_or t (h + i) 0) (ne : cur ≡ p.complex → ⊥) {t₃ r₃ : List ℕ}
@@ -93,16 +91,15 @@ module _ {h i from : ℕ} {sh : Extent} {p : UsageFlags} {t r t₂ r₂ : List �
 
         module _ {z : Stopped} {t₄ r₄ : List ℕ}
             (w : MipsWalked (numbers_of t₃) h i
-            (passes (taken (Spread cur) p) (pieces_of gs) (mips_of (numbers_of t₃) h t₃ r₃ i)) t₃ r₃ z t₄ r₄) where
+            (passes (spread_piece p cur) (pieces_of gs) (mips_of (numbers_of t₃) h t₃ r₃ i)) t₃ r₃ z t₄ r₄) where
           abbrev s : Stop InvalidUse (List (List Range))
           s = passes (spread_piece p cur) (pieces_of gs) (fresh_mips sh cur)
 
           v : MipsWalked (numbers_of t) h i s t₃ r₃ z t₄ r₄
           v =
               subst (λ (q : Stop InvalidUse (List (List Range))). MipsWalked (numbers_of t) h i q t₃ r₃ z t₄ r₄)
-              (ap (λ (ss : List (List Range)). passes (taken (Spread cur) p) (pieces_of gs) ss) b.mips
-              ∙ spreads p cur (pieces_of gs) (fresh_mips sh cur))
-              (subst (λ (d : Numbers). MipsWalked d h i (passes (taken (Spread cur) p) (pieces_of gs) (mips_of d h t₃ r₃ i)) t₃ r₃ z t₄ r₄)
+              (ap (λ (ss : List (List Range)). passes (spread_piece p cur) (pieces_of gs) ss) b.mips)
+              (subst (λ (d : Numbers). MipsWalked d h i (passes (spread_piece p cur) (pieces_of gs) (mips_of d h t₃ r₃ i)) t₃ r₃ z t₄ r₄)
               dims₃ w)
 
           both : Frame (numbers_of t) h i t r t₄ r₄
@@ -114,11 +111,11 @@ module _ {h i from : ℕ} {sh : Extent} {p : UsageFlags} {t r t₂ r₂ : List �
           held_single_is : held_of (numbers_of t) h t r i ≡ single cur
           held_single_is = held_single (numbers_of t) h t r i (λ q. ne (e ∙ q ∙ sym complex_is)) ∙ ap single (sym e)
 
-          pub spread_stop : (k : InvalidUse) → z ≡ At k
-              → HalfMerged (numbers_of t) h i (merge p sh (held_of (numbers_of t) h t r i) given) t r (At k) t₄ r₄
+          pub spread_stop : (k : InvalidUse) → z ≡ Err k
+              → HalfMerged (numbers_of t) h i (merge p sh (held_of (numbers_of t) h t r i) given) t r (Err k) t₄ r₄
           unfolding merge
           spread_stop k q =
-              let n : s.conflict ≡ some k = sym v.conflict ∙ ap stopped_of q in
+              let n : s.conflict ≡ Some k = sym v.conflict ∙ ap result_err q in
               rw (given_pieces x.given c, held_single_is, n)
               record {
                 conflict = refl;
@@ -130,11 +127,11 @@ module _ {h i from : ℕ} {sh : Extent} {p : UsageFlags} {t r t₂ r₂ : List �
                 };
               }
 
-          pub spread_done : z ≡ Nowhere
-              → HalfMerged (numbers_of t) h i (merge p sh (held_of (numbers_of t) h t r i) given) t r Nowhere (set t₄ (h + i) p.complex) r₄
+          pub spread_done : z ≡ Ok tt
+              → HalfMerged (numbers_of t) h i (merge p sh (held_of (numbers_of t) h t r i) given) t r (Ok tt) (set t₄ (h + i) p.complex) r₄
           unfolding merge
           spread_done q =
-              let n : s.conflict ≡ none = sym v.conflict ∙ ap stopped_of q in
+              let n : s.conflict ≡ None = sym v.conflict ∙ ap result_err q in
               let m = become_marked (measured_then x.texture.measured both) x.texture.index (complex_is
               ∙ sym (word complex_at (omega (arith, x.texture.measured.half.0)))) in
               rw (given_pieces x.given c, held_single_is, n)

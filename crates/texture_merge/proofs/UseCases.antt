@@ -1,12 +1,13 @@
 -- `merge` of one use, case by case: what the code leaves is what the model's merge gives.
-use Rattle.model.specs.Prelude.{ℕ, refl, sym, ap, subst, ◌∙◌, Bool, true, false, none, some, List, bit_or, get_or, set}
+use Rattle.model.specs.Prelude.{ℕ, refl, sym, ap, subst, ◌∙◌, Bool, true, false, None, Some, List, get_or, set}
+use Rattle.model.specs.Prelude.{Ok, Err}
 use Rattle.model.specs.declared.{UsageFlags.UsageFlags, Extent.Extent, Selector.Selector, Range.Range, InvalidUse.InvalidUse}
 use Rattle.model.specs.{Base.{Stop, walk}, StateRules.unite}
 use Rattle.model.specs.Texture.{Held, single, many, merge_mip, merge_every, invalid_use, as_many, merge}
 use Rattle.std.specs.Prelude.{◌+◌, ◌≡◌}
 use Rattle.set_storage.specs.{Storage.{numbers_of, mips_of, held_of, complex_at}, Stays.keeps_refl}
 use Rattle.set_storage.specs.Slots.{HalfBecomes, become_single, become_many, held_single, held_many}
-use Rattle.texture_merge.specs.{declared.Stopped.Stopped, declared.Stopped.TheVariants.{Nowhere, At}, Walks.MipsWalked}
+use Rattle.texture_merge.specs.{Walks.{Stopped, MipsWalked}}
 use Rattle.texture_merge.specs.Ready.{HalfTiled, many_of}
 use Rattle.texture_merge.specs.Uses.{use_of, broken_up, UseReady, HeldReady, SingleReady, HalfMerged, united, single_conflict, single_all}
 use Rattle.texture_merge.specs.Uses.{single_part, many_all, many_part}
@@ -18,13 +19,13 @@ module _ {h i : ℕ} {sh : Extent} {all : Bool} {q : Selector} {p : UsageFlags} 
 
   -- ---- Single
   module _ {cur : ℕ} (s : SingleReady h t i p cur new) where
-    pub union_plain : (u : ℕ) → unite p cur new ≡ some u → u ≡ p.complex → ⊥
+    pub union_plain : (u : ℕ) → unite p cur new ≡ Some u → u ≡ p.complex → ⊥
     union_plain u e z = s.plain (sym (united p cur new u e) ∙ z)
 
-    pub conflict_left : unite p cur new ≡ none
-        → HalfMerged (numbers_of t) h i (merge p sh (single cur) (use_of all q new)) t r (At (invalid_use q cur new)) t r
+    pub conflict_left : unite p cur new ≡ None
+        → HalfMerged (numbers_of t) h i (merge p sh (single cur) (use_of all q new)) t r (Err (invalid_use q cur new)) t r
     conflict_left e =
-        subst (λ (w : Stop InvalidUse Held). HalfMerged (numbers_of t) h i w t r (At (invalid_use q cur new)) t r)
+        subst (λ (w : Stop InvalidUse Held). HalfMerged (numbers_of t) h i w t r (Err (invalid_use q cur new)) t r)
         (sym (single_conflict p sh cur new all q x.whole e))
         record {
           conflict = refl;
@@ -34,26 +35,23 @@ module _ {h i : ℕ} {sh : Extent} {all : Bool} {q : Selector} {p : UsageFlags} 
           };
         }
 
-    pub all_left : (u : ℕ) → unite p cur new ≡ some u → all ≡ true
-        → HalfMerged (numbers_of t) h i (merge p sh (single cur) (use_of all q new)) t r Nowhere (set t (h + i) u) r
+    pub all_left : (u : ℕ) → unite p cur new ≡ Some u → all ≡ true
+        → HalfMerged (numbers_of t) h i (merge p sh (single cur) (use_of all q new)) t r (Ok tt) (set t (h + i) u) r
     all_left u e a =
-        subst (λ (w : Stop InvalidUse Held). HalfMerged (numbers_of t) h i w t r Nowhere (set t (h + i) u) r)
+        subst (λ (w : Stop InvalidUse Held). HalfMerged (numbers_of t) h i w t r (Ok tt) (set t (h + i) u) r)
         (sym (ap (λ (b : Bool). merge p sh (single cur) (use_of b q new)) a ∙ single_all p sh cur new u q e))
         record { conflict = refl; into = become_single x.texture.measured x.texture.index (λ z. union_plain u e (z ∙ sym complex_is)) }
 
-    pub part_left : {t' r' : List ℕ} (u : ℕ) → unite p cur new ≡ some u → all ≡ false
+    pub part_left : {t' r' : List ℕ} (u : ℕ) → unite p cur new ≡ Some u → all ≡ false
         → HalfBecomes (numbers_of t) h i (broken_up sh cur q p.unknown u) t r t' r'
-        → HalfMerged (numbers_of t) h i (merge p sh (single cur) (use_of all q new)) t r Nowhere t' r'
+        → HalfMerged (numbers_of t) h i (merge p sh (single cur) (use_of all q new)) t r (Ok tt) t' r'
     part_left {t'} {r'} u e a b =
-        subst (λ (w : Stop InvalidUse Held). HalfMerged (numbers_of t) h i w t r Nowhere t' r')
+        subst (λ (w : Stop InvalidUse Held). HalfMerged (numbers_of t) h i w t r (Ok tt) t' r')
         (sym (ap (λ (y : Bool). merge p sh (single cur) (use_of y q new)) a ∙ single_part p sh cur new u q e))
         record { conflict = refl; into = b }
 
   -- ---- what is held there
   module _ (y : HeldReady h t r i sh new) where
-    pub single_ready : (cur : ℕ) → cur ≡ get_or t (h + i) 0 → (cur ≡ p.complex → ⊥) → SingleReady h t i p cur new
-    single_ready cur e n = record { here = e; single = n; plain = λ z. y.plain (ap (λ (c : ℕ). bit_or c new) (sym e) ∙ z ∙ complex_is) }
-
     pub single_merged : {z : Stopped} {t' r' : List ℕ} (cur : ℕ) → cur ≡ get_or t (h + i) 0 → (cur ≡ p.complex → ⊥)
         → HalfMerged (numbers_of t) h i (merge p sh (single cur) (use_of all q new)) t r z t' r'
         → HalfMerged (numbers_of t) h i (merge p sh (held_of (numbers_of t) h t r i) (use_of all q new)) t r z t' r'

@@ -1,5 +1,6 @@
 -- The pieces of another texture, given one after another to the mips of a texture in storage: what is left to give decides.
-use Rattle.model.specs.Prelude.{ℕ, zero, suc, arith, refl, sym, ap, subst, ◌∙◌, Bool, true, false, Option, none, some, Option_map, List, []}
+use Rattle.model.specs.Prelude.{ℕ, zero, suc, arith, refl, sym, ap, subst, ◌∙◌, Bool, true, false, Option, None, Some, option_map, List, []}
+use Rattle.model.specs.Prelude.{Ok, Err, result_err}
 use Rattle.model.specs.Prelude.{map, length, get_or}
 use Rattle.model.specs.declared.{UsageFlags.UsageFlags, Selector.Selector, Range.Range, InvalidUse.InvalidUse}
 use Rattle.model.specs.{Base.{each_at, Stop, fine, ruled, and_then, onward, passes, walk}, StateRules.{unite, end_after}, Sets.Numbers}
@@ -11,42 +12,37 @@ use Rattle.range_states.specs.View.{decode}
 use Rattle.texture_mips.specs.{Merge.{merge_mip_lem, merge_other}, Kept.{run_tiles, update_tiles}}
 use Rattle.set_storage.specs.{Storage.{numbers_of, mips_in, mips_of, layers_at, start_half}, Stays.{Frame, keeps_refl, keeps_then}}
 use Rattle.set_storage.specs.Frames.{Measured, frame_below, measured_then, mip_at, mips_long}
-use Rattle.texture_merge.specs.{declared.{Stopped.Stopped, Doing.Doing}, declared.Stopped.TheVariants.{Nowhere, At}}
-use Rattle.texture_merge.specs.{declared.Doing.TheVariants.{Insert, Merge, Spread, Cover}, Walks.{stopped_of, MipsWalked}}
+use Rattle.texture_merge.specs.Walks.{Stopped, MipsWalked}
 use Rattle.texture_merge.specs.Ready.{updated_mips, ManyReady}
 
 -- ---- What one piece does to the mips
-unfoldable pub taken : Doing → UsageFlags → Piece → List (List Range) → Stop InvalidUse (List (List Range))
-taken Insert p q ss = fine (on_mips q.selector (paint p.unknown (layer_start q.selector) (layer_end q.selector) q.state) 0 ss)
-taken Merge p q ss = walk (merge_mip p q) 0 ss
-taken (Spread cur) p q ss = spread_piece p cur q ss
-taken (Cover cur) p q ss = fine (updated_mips p.unknown q.selector (end_after p.unknown cur q.state) ss)
+abbrev pub Does : Type 0
+Does = Piece → List (List Range) → Stop InvalidUse (List (List Range))
+
+-- `insert`: it is painted
+unfoldable pub inserted : UsageFlags → Does
+inserted p q ss = fine (on_mips q.selector (paint p.unknown (layer_start q.selector) (layer_end q.selector) q.state) 0 ss)
+
+-- `merge` of Many with Many
+abbrev pub merged : UsageFlags → Does
+merged p q ss = walk (merge_mip p q) 0 ss
+
+-- `update` of a Single end in the state `cur`
+unfoldable pub covered : UsageFlags → ℕ → Does
+covered p cur q ss = fine (updated_mips p.unknown q.selector (end_after p.unknown cur q.state) ss)
 
 -- the model's `insert` and `update` give the pieces so
-pub inserts : (p : UsageFlags) (qs : List Piece) (ss : List (List Range))
-    → passes (taken Insert p) qs ss ≡ fine (paint_all p.unknown qs ss)
-unfolding taken paint_all
+pub inserts : (p : UsageFlags) (qs : List Piece) (ss : List (List Range)) → passes (inserted p) qs ss ≡ fine (paint_all p.unknown qs ss)
+unfolding inserted paint_all
 inserts p [] ss = refl
 inserts p (q ∷ qs) ss = inserts p qs
     (on_mips q.selector (paint p.unknown (layer_start q.selector) (layer_end q.selector) q.state) 0 ss)
 
 pub covers : (p : UsageFlags) (cur : ℕ) (qs : List Piece) (ss : List (List Range))
-    → passes (taken (Cover cur) p) qs ss ≡ fine (spread_end p.unknown cur qs ss)
-unfolding taken spread_end
+    → passes (covered p cur) qs ss ≡ fine (spread_end p.unknown cur qs ss)
+unfolding covered spread_end
 covers p cur [] ss = refl
 covers p cur (q ∷ qs) ss = covers p cur qs (updated_mips p.unknown q.selector (end_after p.unknown cur q.state) ss)
-
-pub merges : (p : UsageFlags) (qs : List Piece) (ss : List (List Range))
-    → passes (taken Merge p) qs ss ≡ passes (λ q. walk (merge_mip p q) 0) qs ss
-unfolding taken
-merges p [] ss = refl
-merges p (q ∷ qs) ss = rw (merges p qs (walk (merge_mip p q) 0 ss).value)
-
-pub spreads : (p : UsageFlags) (cur : ℕ) (qs : List Piece) (ss : List (List Range))
-    → passes (taken (Spread cur) p) qs ss ≡ passes (spread_piece p cur) qs ss
-unfolding taken
-spreads p cur [] ss = refl
-spreads p cur (q ∷ qs) ss = rw (spreads p cur qs (spread_piece p cur q ss).value)
 
 -- ---- Mips that tile their layers go on tiling them
 abbrev pub Tiled : ℕ → List (List Range) → Type 0
@@ -92,8 +88,8 @@ walk_tiled w f g k [] t = tt
 walk_tiled w f g k (s ∷ ss) t = go (walk_tiled w f g (suc k) ss t.1) (f k s).conflict
   where
     go : Tiled w (walk f (suc k) ss).value → (c : Option InvalidUse) → Tiled w (onward (f k s).value c ss (walk f (suc k) ss)).value
-    go ih none = (g k s t.0, ih)
-    go ih (some c) = (g k s t.0, t.1)
+    go ih None = (g k s t.0, ih)
+    go ih (Some c) = (g k s t.0, t.1)
 
 merge_tiled : (p : UsageFlags) (q : Piece) (w : ℕ) → layer_start q.selector < layer_end q.selector → layer_end q.selector ≤ w
     → (k : ℕ) (s : List Range) → Tiles 0 s w → Tiles 0 (merge_mip p q k s).value w
@@ -103,22 +99,34 @@ merge_tiled p q w h g k s t = go (in_mips q.selector k) refl
     go true e = rw (merge_mip_lem p q k s e) (run_tiles p k (layer_start q.selector) (layer_end q.selector) q.state s w h g t)
     go false e = rw (merge_other p q k s e) t
 
-pub taken_tiled : (d : Doing) (p : UsageFlags) (q : Piece) (w : ℕ) (ss : List (List Range))
-    → layer_start q.selector < layer_end q.selector → layer_end q.selector ≤ w → Tiled w ss → Tiled w (taken d p q ss).value
-unfolding taken spread_piece
-taken_tiled Insert p q w ss h g t =
+-- so does what one piece does to them
+abbrev pub KeepsTiled : Does → Type 0
+KeepsTiled f = (q : Piece) (w : ℕ) (ss : List (List Range)) → layer_start q.selector < layer_end q.selector → layer_end q.selector ≤ w
+    → Tiled w ss → Tiled w (f q ss).value
+
+pub inserted_tiled : (p : UsageFlags) → KeepsTiled (inserted p)
+unfolding inserted
+inserted_tiled p q w ss h g t =
     on_tiled w q.selector _ (λ s x. paint_tiles s 0 (layer_start q.selector) (layer_end q.selector) p.unknown
     q.state w (omega arith) h g x) 0 ss t
-taken_tiled Merge p q w ss h g t = walk_tiled w (merge_mip p q) (merge_tiled p q w h g) 0 ss t
-taken_tiled (Spread cur) p q w ss h g t = go (unite p cur q.state)
+
+pub merged_tiled : (p : UsageFlags) → KeepsTiled (merged p)
+merged_tiled p q w ss h g t = walk_tiled w (merge_mip p q) (merge_tiled p q w h g) 0 ss t
+
+pub spread_tiled : (p : UsageFlags) (cur : ℕ) → KeepsTiled (spread_piece p cur)
+unfolding spread_piece
+spread_tiled p cur q w ss h g t = go (unite p cur q.state)
   where
     go : (o : Option ℕ)
         → Tiled w (ruled {C = InvalidUse} ss (invalid_use q.selector cur q.state)
-        (Option_map (λ (u : ℕ). updated_mips p.unknown q.selector u ss) o)).value
-    go none = t
-    go (some u) = on_tiled w q.selector _
+        (option_map (λ (u : ℕ). updated_mips p.unknown q.selector u ss) o)).value
+    go None = t
+    go (Some u) = on_tiled w q.selector _
         (λ s x. update_tiles p.unknown (layer_start q.selector) (layer_end q.selector) u s w h g x) 0 ss t
-taken_tiled (Cover cur) p q w ss h g t =
+
+pub covered_tiled : (p : UsageFlags) (cur : ℕ) → KeepsTiled (covered p cur)
+unfolding covered
+covered_tiled p cur q w ss h g t =
     on_tiled w q.selector _ (λ s x. update_tiles p.unknown (layer_start q.selector) (layer_end q.selector)
     (end_after p.unknown cur q.state) s w h g x) 0 ss t
 
@@ -141,8 +149,8 @@ module _ {C Q S : Type 0} (f : Q → S → Stop C S) where
           → and_then c (f x s).value (passes f (xs ++ ys) (f x s).value)
           ≡ and_then (and_then c (f x s).value (passes f xs (f x s).value)).conflict (and_then c (f x s).value
           (passes f xs (f x s).value)).value (passes f ys (and_then c (f x s).value (passes f xs (f x s).value)).value)
-      go ih none = ih
-      go ih (some c) = refl
+      go ih None = ih
+      go ih (Some c) = refl
 
 -- ---- The storage on the way: `left` is what is still to be done
 module _ (h i layers : ℕ) (goal : Stop InvalidUse (List (List Range))) (t₀ r₀ : List ℕ) where
@@ -177,21 +185,21 @@ module _ {h i layers : ℕ} {goal : Stop InvalidUse (List (List Range))} {t₀ r
     here : MipsWalked (numbers_of t₀) h i (f (mips_of (numbers_of t₀) h t r i)) t r x t' r'
     here = subst (λ (d : Numbers). MipsWalked d h i (f (mips_of d h t r i)) t r x t' r') dims w
 
-    rest : (c : Option InvalidUse) → stopped_of x ≡ c
+    rest : (c : Option InvalidUse) → result_err x ≡ c
         → and_then c (mips_of (numbers_of t₀) h t' r' i) (next (mips_of (numbers_of t₀) h t' r' i)) ≡ goal
     rest c e = rw (← e, here.conflict, here.into.mips) (sym (splits (mips_of (numbers_of t₀) h t r i)) ∙ g.ends)
 
-    pub giving_turn : stopped_of x ≡ none → Tiled layers (f (mips_of (numbers_of t₀) h t r i)).value
+    pub giving_turn : result_err x ≡ None → Tiled layers (f (mips_of (numbers_of t₀) h t r i)).value
         → Giving h i layers goal t₀ r₀ next t' r'
     giving_turn e k = record {
-      ends = rest none e;
+      ends = rest None e;
       frame = keeps_then g.frame here.into.frame;
       tiled = subst (λ (ss : List (List Range)). Tiled layers ss) (sym here.into.mips) k;
     }
 
-    pub giving_stop : (c : InvalidUse) → stopped_of x ≡ some c → MipsWalked (numbers_of t₀) h i goal t₀ r₀ (At c) t' r'
+    pub giving_stop : (c : InvalidUse) → result_err x ≡ Some c → MipsWalked (numbers_of t₀) h i goal t₀ r₀ (Err c) t' r'
     giving_stop c e =
-        let z = rest (some c) e in
+        let z = rest (Some c) e in
         record {
           conflict = ap (λ (s : Stop InvalidUse (List (List Range))). s.conflict) z;
           into = record {
@@ -201,7 +209,7 @@ module _ {h i layers : ℕ} {goal : Stop InvalidUse (List (List Range))} {t₀ r
         }
 
   -- nothing is left
-  pub giving_end : ((ss : List (List Range)) → left ss ≡ fine ss) → MipsWalked (numbers_of t₀) h i goal t₀ r₀ Nowhere t r
+  pub giving_end : ((ss : List (List Range)) → left ss ≡ fine ss) → MipsWalked (numbers_of t₀) h i goal t₀ r₀ (Ok tt) t r
   giving_end e =
       let z = sym (e (mips_of (numbers_of t₀) h t r i)) ∙ g.ends in
       record {
@@ -221,16 +229,15 @@ pub record GivenTexture (t : List ℕ) (i mips h : ℕ) (t₂ r₂ : List ℕ) :
   pub same : mips ≡ mips_in (numbers_of t₂) t₂ i
 
 -- pieces within the layers keep the mips tiled
-pub passes_tiled : (d : Doing) (p : UsageFlags) (m w : ℕ) (rs : List Range) (a : ℕ) (ss : List (List Range)) → Tiles a rs w → Tiled w ss
-    → Tiled w (passes (taken d p) (map (piece_on m) rs) ss).value
-passes_tiled d p m w [] a ss t q = q
-passes_tiled d p m w (r ∷ rs) a ss t q =
-    let k = taken_tiled d p (piece_on m r) w ss (omega arith) (tiles_le rs r.end w t.2) q in
-    go (passes_tiled d p m w rs r.end (taken d p (piece_on m r) ss).value t.2 k) k (taken d p (piece_on m r) ss).conflict
+pub passes_tiled : (f : Does) → KeepsTiled f → (m w : ℕ) (rs : List Range) (a : ℕ) (ss : List (List Range)) → Tiles a rs w → Tiled w ss
+    → Tiled w (passes f (map (piece_on m) rs) ss).value
+passes_tiled f k m w [] a ss t q = q
+passes_tiled f k m w (r ∷ rs) a ss t q =
+    let j = k (piece_on m r) w ss (omega arith) (tiles_le rs r.end w t.2) q in
+    go (passes_tiled f k m w rs r.end (f (piece_on m r) ss).value t.2 j) j (f (piece_on m r) ss).conflict
   where
-    go : Tiled w (passes (taken d p) (map (piece_on m) rs) (taken d p (piece_on m r) ss).value).value
-        → Tiled w (taken d p (piece_on m r) ss).value → (c : Option InvalidUse)
-        → Tiled w (and_then c (taken d p (piece_on m r) ss).value
-        (passes (taken d p) (map (piece_on m) rs) (taken d p (piece_on m r) ss).value)).value
-    go ih k none = ih
-    go ih k (some c) = k
+    go : Tiled w (passes f (map (piece_on m) rs) (f (piece_on m r) ss).value).value → Tiled w (f (piece_on m r) ss).value
+        → (c : Option InvalidUse)
+        → Tiled w (and_then c (f (piece_on m r) ss).value (passes f (map (piece_on m) rs) (f (piece_on m r) ss).value)).value
+    go ih j None = ih
+    go ih j (Some c) = j

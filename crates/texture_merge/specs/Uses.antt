@@ -1,5 +1,6 @@
 -- One use of a texture, in one half: what is asked for, and the contracts of `insert` and `merge`.
-use Rattle.model.specs.Prelude.{ℕ, arith, refl, sym, ap, Bool, true, false, false≢true, Option, none, some, List, [], bit_or, get_or}
+use Rattle.model.specs.Prelude.{ℕ, arith, refl, sym, ap, Bool, true, false, false≢true, Option, None, Some, List, [], bit_or, get_or}
+use Rattle.model.specs.Prelude.{result_err}
 use Rattle.model.specs.declared.{UsageFlags.UsageFlags, Extent.Extent, Selector.Selector, Range.Range, InvalidUse.InvalidUse}
 use Rattle.model.specs.{Base.{Stop, fine, stopped, and_then, walk}, StateRules.{invalid_state, unite}, Sets.Numbers, Representation.full}
 use Rattle.model.specs.CheckLaws.{SelectorWithin}
@@ -7,7 +8,7 @@ use Rattle.model.specs.Texture.{Held, single, many, Given, given_single, given_m
 use Rattle.model.specs.Texture.{invalid_use, as_many, merge}
 use Rattle.std.specs.Prelude.{◌+◌, ◌≡◌, ◌∷◌, if◌then◌else◌}
 use Rattle.set_storage.specs.{Storage.{numbers_of, flags_of, complex_at}, Slots.HalfBecomes, Texture.{TextureReady, RangesTile}}
-use Rattle.texture_merge.specs.{declared.Stopped.Stopped, Walks.stopped_of, Ready.updated_mips}
+use Rattle.texture_merge.specs.{Walks.Stopped, Ready.updated_mips}
 
 -- a use of all of a texture, or of what a selector names
 abbrev pub use_of : Bool → Selector → ℕ → Given
@@ -39,7 +40,7 @@ pub record SingleReady (h : ℕ) (t : List ℕ) (i : ℕ) (p : UsageFlags) (cur 
 
 -- THE CONTRACT of a merge into one half
 pub record HalfMerged (d : Numbers) (h i : ℕ) (w : Stop InvalidUse Held) (t r : List ℕ) (x : Stopped) (t' r' : List ℕ) : Type 0 where
-  pub conflict : stopped_of x ≡ w.conflict
+  pub conflict : result_err x ≡ w.conflict
   pub into : HalfBecomes d h i w.value t r t' r'
 
 -- ---- The model's merge of one use, case by case
@@ -48,28 +49,28 @@ pub use_with : {d : Numbers} {h i : ℕ} {sh : Extent} {all : Bool} {q : Selecto
     → UseReady d h t r i sh all q p new → (u ≡ p.complex → ⊥) → UseReady d h t r i sh false q p u
 use_with u x c = record { texture = x.texture; selector = x.selector; flags = x.flags; whole = λ z. absurd (false≢true z); plain = c }
 
-pub united : (p : UsageFlags) (old new u : ℕ) → unite p old new ≡ some u → u ≡ bit_or old new
+pub united : (p : UsageFlags) (old new u : ℕ) → unite p old new ≡ Some u → u ≡ bit_or old new
 unfolding unite
 united p old new u e = go (invalid_state p (bit_or old new)) e
   where
-    go : (b : Bool) → (if b then none else some (bit_or old new)) ≡ some u → u ≡ bit_or old new
+    go : (b : Bool) → (if b then None else Some (bit_or old new)) ≡ Some u → u ≡ bit_or old new
     go true q = absurd (let z : ◌≡◌ {A = ℕ} 0 1 = cc in omega arith)
     go false q = cc
 
 -- Single, and the states do not fit: nothing changes, and the use's selector is told
 pub single_conflict : (p : UsageFlags) (sh : Extent) (cur new : ℕ) (all : Bool) (q : Selector) → (all ≡ true → q ≡ full sh)
-    → unite p cur new ≡ none → merge p sh (single cur) (use_of all q new) ≡ stopped (single cur) (invalid_use q cur new)
+    → unite p cur new ≡ None → merge p sh (single cur) (use_of all q new) ≡ stopped (single cur) (invalid_use q cur new)
 unfolding merge spread_piece
 single_conflict p sh cur new true q w e = rw (e, w refl)
 single_conflict p sh cur new false q w e = rw e
 
 -- Single, and they fit: the union, or the texture broken up
-pub single_all : (p : UsageFlags) (sh : Extent) (cur new u : ℕ) (q : Selector) → unite p cur new ≡ some u
+pub single_all : (p : UsageFlags) (sh : Extent) (cur new u : ℕ) (q : Selector) → unite p cur new ≡ Some u
     → merge p sh (single cur) (use_of true q new) ≡ fine (single u)
 unfolding merge
 single_all p sh cur new u q e = rw e
 
-pub single_part : (p : UsageFlags) (sh : Extent) (cur new u : ℕ) (q : Selector) → unite p cur new ≡ some u
+pub single_part : (p : UsageFlags) (sh : Extent) (cur new u : ℕ) (q : Selector) → unite p cur new ≡ Some u
     → merge p sh (single cur) (use_of false q new) ≡ fine (broken_up sh cur q p.unknown u)
 unfolding merge spread_piece broken_up
 single_part p sh cur new u q e = rw e
@@ -89,5 +90,5 @@ many_part p sh ss new q = ap as_many (once (walk (merge_mip p (record { selector
     once w = go w.conflict refl
       where
         go : (c : Option InvalidUse) → w.conflict ≡ c → and_then c w.value (fine w.value) ≡ w
-        go none e = λ i. record { value = w.value; conflict = sym e i }
-        go (some c) e = λ i. record { value = w.value; conflict = sym e i }
+        go None e = λ i. record { value = w.value; conflict = sym e i }
+        go (Some c) e = λ i. record { value = w.value; conflict = sym e i }

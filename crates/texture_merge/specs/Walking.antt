@@ -1,6 +1,6 @@
 -- A walk over a list that is changed in place: what is done, then what is left; and walks that no conflict stops.
 use Rattle.std.specs.Prelude.{◌+◌, ◌≤◌, ◌<◌, ◌≡◌, ◌&&◌, ◌∷◌, ◌++◌, if◌then◌else◌}
-use Rattle.model.specs.Prelude.{ℕ, zero, suc, add-one, arith, refl, sym, ◌∙◌, Bool, true, false, none, some, List}
+use Rattle.model.specs.Prelude.{ℕ, zero, suc, add-one, arith, refl, sym, ◌∙◌, Bool, true, false, None, Some, List}
 use Rattle.model.specs.Prelude.{[], append_assoc, leb, length, get_or, set, take, drop, replicate, take-append-drop, take-suc}
 use Rattle.model.specs.Prelude.{drop-cons, drop-set-lt, take-suc-set, set_split, get_or-set_other, le-leb, lt-leb, lt-ltb, le-ltb}
 use Rattle.model.specs.{declared.{Range.Range, Selector.Selector}, Base.{Stop, fine, onward, walk}}
@@ -25,15 +25,15 @@ module _ {C A : Type 0} (f : ℕ → A → Stop C A) where
     value_here = rw (drop-cons l k d h) at w.value
 
     -- one step, that does not stop
-    pub walk_turn : (l' : List A) → l' ≡ set l k here.value → here.conflict ≡ none → Walking l₀ (k + 1) l'
+    pub walk_turn : (l' : List A) → l' ≡ set l k here.value → here.conflict ≡ None → Walking l₀ (k + 1) l'
     walk_turn l' e c =
         let dr : drop (suc k) l' ≡ drop (suc k) l = rw e (drop-set-lt (suc k) l k here.value (omega arith)) in
         let tk : take (suc k) l' ≡ take k l ++ (here.value ∷ []) = rw e (take-suc-set l k here.value h) in
         rw add-one record { conflict = rw dr (rw c at conflict_here); value = rw (dr, tk, append_assoc) (rw c at value_here) }
 
     -- the step that stops
-    pub walk_stop : (l' : List A) (x : C) → l' ≡ set l k here.value → here.conflict ≡ some x
-        → (l' ≡ (walk f 0 l₀).value) × (some x ≡ (walk f 0 l₀).conflict)
+    pub walk_stop : (l' : List A) (x : C) → l' ≡ set l k here.value → here.conflict ≡ Some x
+        → (l' ≡ (walk f 0 l₀).value) × (Some x ≡ (walk f 0 l₀).conflict)
     walk_stop l' x e c = (e ∙ set_split l k here.value h ∙ rw c at value_here, rw c at conflict_here)
 
     -- a step that leaves the element
@@ -46,7 +46,7 @@ module _ {C A : Type 0} (f : ℕ → A → Stop C A) where
   walk_rest k (x ∷ l) g = rw (g k x (omega arith), walk_rest (suc k) l (λ j y q. g j y (omega arith)))
 
   pub walk_end : {l₀ : List A} {k : ℕ} {l : List A} → Walking l₀ k l → walk f k (drop k l) ≡ fine (drop k l)
-      → (l ≡ (walk f 0 l₀).value) × (none ≡ (walk f 0 l₀).conflict)
+      → (l ≡ (walk f 0 l₀).value) × (None ≡ (walk f 0 l₀).conflict)
   walk_end {l₀} {k} {l} w e = (sym (take-append-drop k l) ∙ rw e at w.value, rw e at w.conflict)
 
   -- what lies before k is passed over
@@ -66,7 +66,7 @@ module _ {C A : Type 0} (d : A) (f : ℕ → A → Stop C A) where
   place_skip l k h g = record { walking = walk_skip f d l k h g; left = λ j q. refl }
 
   pub place_turn : {l₀ : List A} {k : ℕ} {l : List A} → InPlace l₀ k l → k < length l → (l' : List A)
-      → l' ≡ set l k (f k (get_or l k d)).value → (f k (get_or l k d)).conflict ≡ none → InPlace l₀ (k + 1) l'
+      → l' ≡ set l k (f k (get_or l k d)).value → (f k (get_or l k d)).conflict ≡ None → InPlace l₀ (k + 1) l'
   place_turn {l₀} {k} {l} w h l' e c = record {
     walking = walk_turn f w.walking d h l' e c;
     left = λ j q. rw e (get_or-set_other l k j (f k (get_or l k d)).value d (λ z. omega arith)) ∙ w.left j (omega arith);

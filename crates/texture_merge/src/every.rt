@@ -1,19 +1,17 @@
 // Every mip of a texture in one half, or those of a selector, one after another.
-ghost use Rattle.std.specs.Prelude.{◌≡◌, [], ◌∷◌, suc, ◌+◌, ◌<◌, replicate};
+ghost use Rattle.std.specs.Prelude.{[], ◌∷◌, replicate};
 ghost use Rattle.model.specs.Base.{walk};
-ghost use Rattle.model.specs.Representation.{select, layer_start, layer_end};
-ghost use Rattle.model.specs.RangedStates.{range, paint};
-ghost use Rattle.model.specs.Texture.{on_mips, invalid_use, merge_mip, merge_every};
+ghost use Rattle.model.specs.Representation.{layer_start, layer_end};
+ghost use Rattle.model.specs.RangedStates.{range};
+ghost use Rattle.model.specs.Texture.{on_mips, merge_mip, merge_every};
 ghost use Rattle.set_storage.specs.Storage.{numbers_of, mips_of};
 ghost use Rattle.set_storage.specs.Frames.{MipsBecome};
-ghost use Rattle.texture_merge.specs.Ready.{updated_mips, HalfTiled, Selects, EveryReady};
+ghost use Rattle.texture_merge.specs.Ready.{HalfTiled, Selects, EveryReady};
 ghost use Rattle.texture_merge.specs.Walks.{MipsWalked};
 
-use crate::Stopped;
-use crate::mip::{fresh_mip, merge_every_mip, merge_mip, paint_mip, update_mip};
-use model::{InvalidUse, Layer, LayerRange, Mip, MipRange, Range, Selector, UsageFlags};
-use set_storage::{Table, wide};
-use texture_mips::Met;
+use crate::mip::{Edit, conflict_on};
+use model::{InvalidUse, Selector, UsageFlags};
+use set_storage::{Table, locate, set_count, wide};
 
 // `ComplexTextureState::new`, in any state: each mip one range over all layers.
 pub fn fresh_mips(
@@ -30,15 +28,15 @@ pub fn fresh_mips(
         MipsBecome (numbers_of t) half i (replicate mips (range 0 layers state ∷ []))
         t ranges.old table.new ranges.new }
 {
-    let mut m = 0;
-    while m < mips {
-        fresh_mip(table, ranges, half, i, m, layers, state);
-        m += 1;
+    for m in 0..mips {
+        let at = locate(table, ranges.len(), half, i, m);
+        texture_mips::fresh(&mut ranges[at.base..at.end], layers, state);
+        set_count(table, half, i, m, 1);
     }
 }
 
-// `update`, and `merge` of Single with Many: what a selector names takes a state, and its mips are coalesced.
-pub fn update_mips(
+// What a selector names takes a state, mip by mip.
+pub fn edit_mips<E: Edit>(
     table: &mut Table,
     ranges: &mut [u32],
     half: usize,
@@ -50,87 +48,15 @@ pub fn update_mips(
     requires half_tiled { HalfTiled half table.old ranges.old i }
     requires selects { Selects (numbers_of table.old) table.old i q }
     ensures { let t = table.old in let r = ranges.old in let d = numbers_of t in
-        MipsBecome d half i (updated_mips unknown q state (mips_of d half t r i)) t r table.new ranges.new }
-{
-    let top = wide(q.mips.end.0);
-    let mut m = wide(q.mips.start.0);
-    while m < top {
-        update_mip(
-            table,
-            ranges,
-            half,
-            i,
-            m,
-            q.layers.start.0,
-            q.layers.end.0,
-            unknown,
-            state,
-        );
-        m += 1;
-    }
-}
-
-// `insert`: what a selector names takes a state, and nothing is coalesced.
-pub fn paint_mips(
-    table: &mut Table,
-    ranges: &mut [u32],
-    half: usize,
-    i: usize,
-    q: Selector,
-    unknown: u32,
-    state: u32,
-)
-    requires half_tiled { HalfTiled half table.old ranges.old i }
-    requires selects { Selects (numbers_of table.old) table.old i q }
-    ensures { let t = table.old in let r = ranges.old in let d = numbers_of t in
-        MipsBecome d half i (on_mips q (paint unknown (layer_start q) (layer_end q) state) 0 (mips_of d half t r i))
+        MipsBecome d half i (on_mips q (E.edit unknown (layer_start q) (layer_end q) state) 0 (mips_of d half t r i))
         t r table.new ranges.new }
 {
-    let top = wide(q.mips.end.0);
-    let mut m = wide(q.mips.start.0);
-    while m < top {
-        paint_mip(
-            table,
-            ranges,
-            half,
-            i,
-            m,
-            q.layers.start.0,
-            q.layers.end.0,
-            unknown,
-            state,
-        );
-        m += 1;
-    }
-}
-
-// The selector of a range of mip m.
-pub fn piece_at(m: usize, r: Range) -> Selector
-    requires { m < 16 }
-    ensures { result ≡ select m (suc m) r.start r.end }
-{
-    let k = m as u32;
-    let mips = MipRange {
-        start: Mip(k),
-        end: Mip(k + 1),
-    };
-    let layers = LayerRange {
-        start: Layer(r.start),
-        end: Layer(r.end),
-    };
-    Selector { mips, layers }
-}
-
-// The invalid use of a range of mip m: that range, its state and the given one.
-pub fn met_at(m: usize, r: Range, new: u32) -> InvalidUse
-    requires { m < 16 }
-    ensures { result ≡ invalid_use (select m (suc m) r.start r.end) r.state new }
-{
-    let selector = piece_at(m, r);
-    InvalidUse {
-        selector,
-        old: r.state,
-        new,
+    let layers = q.layers;
+    for m in wide(q.mips.start.0)..wide(q.mips.end.0) {
+        let at = locate(table, ranges.len(), half, i, m);
+        let part = &mut ranges[at.base..at.end];
+        let n = E::edit(part, at.len, layers.start.0, layers.end.0, unknown, state);
+        set_count(table, half, i, m, n);
     }
 }
 
@@ -143,36 +69,26 @@ pub fn merge_mips(
     q: Selector,
     p: UsageFlags,
     new: u32,
-) -> Stopped
+) -> Result<(), InvalidUse>
     requires half_tiled { HalfTiled half table.old ranges.old i }
     requires selects { Selects (numbers_of table.old) table.old i q }
     ensures { let t = table.old in let r = ranges.old in let d = numbers_of t in
         MipsWalked d half i (walk (merge_mip p (record { selector = q; state = new })) 0 (mips_of d half t r i))
         t r result table.new ranges.new }
 {
-    let top = wide(q.mips.end.0);
-    let mut m = wide(q.mips.start.0);
-    while m < top {
-        let met = merge_mip(
-            table,
-            ranges,
-            half,
-            i,
-            m,
-            q.layers.start.0,
-            q.layers.end.0,
-            p,
-            new,
-        );
-        if let Met::Conflict(r) = met {
-            return Stopped::At(met_at(m, r, new));
-        }
-        m += 1;
+    let layers = q.layers;
+    for m in wide(q.mips.start.0)..wide(q.mips.end.0) {
+        let at = locate(table, ranges.len(), half, i, m);
+        let part = &mut ranges[at.base..at.end];
+        let r = texture_mips::merge_piece(part, at.len, layers.start.0, layers.end.0, p, new);
+        set_count(table, half, i, m, r.len);
+        conflict_on(m, r.met, new)?;
     }
-    Stopped::Nowhere
+    Ok(())
 }
 
-// `merge` of Many with Single: one state on every mip, up to the first conflict.
+// `merge` of Many with Single: one state on every mip, up to the first conflict. (Not one function with `merge_mips`, by a trait as `Edit`:
+// they go over other mips, and the trait with its two types would be longer than a loop.)
 pub fn merge_every_mips(
     table: &mut Table,
     ranges: &mut [u32],
@@ -181,19 +97,17 @@ pub fn merge_every_mips(
     mips: usize,
     p: UsageFlags,
     new: u32,
-) -> Stopped
+) -> Result<(), InvalidUse>
     requires half_tiled { HalfTiled half table.old ranges.old i }
     requires every_ready { EveryReady (numbers_of table.old) half table.old ranges.old i mips }
     ensures { let t = table.old in let r = ranges.old in let d = numbers_of t in
         MipsWalked d half i (walk (merge_every p new) 0 (mips_of d half t r i)) t r result table.new ranges.new }
 {
-    let mut m = 0;
-    while m < mips {
-        let met = merge_every_mip(table, ranges, half, i, m, p, new);
-        if let Met::Conflict(r) = met {
-            return Stopped::At(met_at(m, r, new));
-        }
-        m += 1;
+    for m in 0..mips {
+        let at = locate(table, ranges.len(), half, i, m);
+        let r = texture_mips::merge_every(&mut ranges[at.base..at.end], at.len, p, new);
+        set_count(table, half, i, m, r.len);
+        conflict_on(m, r.met, new)?;
     }
-    Stopped::Nowhere
+    Ok(())
 }

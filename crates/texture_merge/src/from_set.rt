@@ -1,34 +1,17 @@
 // A texture of another set, given to one half of a texture: `insert` and `merge` where the states come from `merge_usage_scope`,
 // `set_from_usage_scope` or `set_from_tracker`.
-ghost use Rattle.std.specs.Prelude.{◌≡◌};
-ghost use Rattle.model.specs.Representation.{full as full_of};
 ghost use Rattle.model.specs.Texture.{from_held, insert, merge};
 ghost use Rattle.set_storage.specs.Storage.{numbers_of, held_of};
 ghost use Rattle.set_storage.specs.Slots.{HalfBecomes};
 ghost use Rattle.texture_merge.specs.Uses.{HalfMerged};
 ghost use Rattle.texture_merge.specs.FromSet.{SetReady, MergeReady};
 
+use crate::doing::{Insert, Merge, Spread};
 use crate::every::fresh_mips;
 use crate::giving::give_mips;
-use crate::using::{merge_single_use, merge_use, set_state};
-use crate::{Doing, Stopped};
-use model::{Extent, Layer, LayerRange, Mip, MipRange, Selector, UsageFlags};
+use crate::using::{merge_use, set_state};
+use model::{Extent, InvalidUse, UsageFlags};
 use set_storage::{Table, wide};
-
-// The selector of all of a texture.
-pub fn full(extent: Extent) -> Selector
-    ensures { result ≡ full_of extent }
-{
-    let mips = MipRange {
-        start: Mip(0),
-        end: Mip(extent.mips),
-    };
-    let layers = LayerRange {
-        start: Layer(0),
-        end: Layer(extent.layers),
-    };
-    Selector { mips, layers }
-}
 
 // `insert`: the half holds what the given texture holds.
 pub fn insert_given(
@@ -48,25 +31,13 @@ pub fn insert_given(
         t r table.new ranges.new }
 {
     let word = given[from + i];
-    if word != p.complex {
-        set_state(table, half, i, word);
-        return;
+    set_state(table, half, i, word);
+    if word == p.complex {
+        let mips = wide(extent.mips);
+        fresh_mips(table, ranges, half, i, mips, extent.layers, p.unknown);
+        // An insert meets no conflict.
+        let _ = give_mips(table, ranges, half, i, Insert, mips, given, lent, from, p);
     }
-    set_state(table, half, i, p.complex);
-    let mips = wide(extent.mips);
-    fresh_mips(table, ranges, half, i, mips, extent.layers, p.unknown);
-    give_mips(
-        table,
-        ranges,
-        half,
-        i,
-        Doing::Insert,
-        mips,
-        given,
-        lent,
-        from,
-        p,
-    );
 }
 
 // `merge`: up to the first conflict; a Single texture that meets one is as it was.
@@ -80,7 +51,7 @@ pub fn merge_given(
     lent: &[u32],
     from: usize,
     p: UsageFlags,
-) -> Stopped
+) -> Result<(), InvalidUse>
     requires set_ready { SetReady half table.old ranges.old i extent from given.now lent.now p }
     requires merge_ready { MergeReady half table.old ranges.old i extent from given.now p }
     ensures { let t = table.old in let r = ranges.old in let g = given.now in let d = numbers_of t in
@@ -88,45 +59,18 @@ pub fn merge_given(
         t r result table.new ranges.new }
 {
     let word = given[from + i];
-    let cur = table[half + i];
     if word != p.complex {
-        let q = full(extent);
-        if cur != p.complex {
-            return merge_single_use(table, ranges, half, i, extent, true, q, p, cur, word);
-        }
+        let q = extent.full();
         return merge_use(table, ranges, half, i, extent, true, q, p, word);
     }
+    let cur = table[half + i];
     let mips = wide(extent.mips);
     if cur == p.complex {
-        return give_mips(
-            table,
-            ranges,
-            half,
-            i,
-            Doing::Merge,
-            mips,
-            given,
-            lent,
-            from,
-            p,
-        );
+        return give_mips(table, ranges, half, i, Merge, mips, given, lent, from, p);
     }
     fresh_mips(table, ranges, half, i, mips, extent.layers, cur);
-    let x = give_mips(
-        table,
-        ranges,
-        half,
-        i,
-        Doing::Spread(cur),
-        mips,
-        given,
-        lent,
-        from,
-        p,
-    );
-    if let Stopped::At(c) = x {
-        return Stopped::At(c);
-    }
+    let spread = Spread(cur);
+    give_mips(table, ranges, half, i, spread, mips, given, lent, from, p)?;
     set_state(table, half, i, p.complex);
-    Stopped::Nowhere
+    Ok(())
 }

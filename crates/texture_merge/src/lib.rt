@@ -3,9 +3,10 @@
 // Place in the picture: over `set_storage`, which says where a texture lies, and `texture_mips`, which changes the ranges of one mip; under
 // `texture_update`, which changes both halves of a tracker's texture, and the public calls.
 //
-//     mip        one mip: its ranges are borrowed by `texture_mips`, and its new count is written
-//     every      every mip, or those of a selector, up to the first conflict
+//     mip        one mip: how it takes a state, and the conflict that a merge tells
+//     every      every mip, or those of a selector: `texture_mips` is lent the ranges of each, and their new count is written
 //     using      one use of the texture, for all of it or for a selector
+//     doing      what is done with a piece of another set's texture
 //     giving     the ranges of another set's texture, one after another
 //     from_set   another set's texture
 //
@@ -15,30 +16,9 @@
 // other number of the storage changes (`HalfFrame`, `Frame`).
 #![tactic(auto)]
 
+pub mod doing;
 pub mod every;
 pub mod from_set;
 pub mod giving;
 pub mod mip;
 pub mod using;
-
-use model::InvalidUse;
-
-// Where a walk over a texture met a conflict.
-#[derive(Clone, Copy)]
-pub enum Stopped {
-    Nowhere,
-    At(InvalidUse),
-}
-
-// What a texture's mips do with a piece of another texture.
-#[derive(Clone, Copy)]
-pub enum Doing {
-    // `insert`: the piece is painted
-    Insert,
-    // `merge` of Many with Many
-    Merge,
-    // `merge` of Single, in the state that is told, with Many
-    Spread(u32),
-    // `update` of a Single end, in the state that is told: an UNKNOWN piece keeps it
-    Cover(u32),
-}

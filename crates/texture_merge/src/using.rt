@@ -6,11 +6,11 @@ ghost use Rattle.set_storage.specs.Storage.{numbers_of, held_of, end_half};
 ghost use Rattle.set_storage.specs.Slots.{HalfBecomes, own_words};
 ghost use Rattle.texture_merge.specs.Uses.{use_of, broken_up, UseReady, HeldReady, SingleReady, HalfMerged};
 
-use crate::Stopped;
-use crate::every::{fresh_mips, merge_every_mips, merge_mips, paint_mips, update_mips};
+use crate::every::{edit_mips, fresh_mips, merge_every_mips, merge_mips};
+use crate::mip::{Paint, Update};
 use model::{Extent, InvalidUse, Selector, UsageFlags};
 use set_storage::{Table, wide};
-use usage::{United, unite};
+use usage::unite;
 
 // Texture i becomes owned, with an extent.
 pub fn own(table: &mut Table, i: usize, extent: Extent)
@@ -61,7 +61,7 @@ pub fn insert_use(
         extent.layers,
         p.unknown,
     );
-    paint_mips(table, ranges, half, i, q, p.unknown, new);
+    edit_mips::<Paint>(table, ranges, half, i, q, p.unknown, new);
 }
 
 // A Single texture is broken up: what the selector names takes a state, the rest keeps its own.
@@ -91,7 +91,7 @@ pub fn break_up(
         extent.layers,
         was,
     );
-    update_mips(table, ranges, half, i, q, p.unknown, state);
+    edit_mips::<Update>(table, ranges, half, i, q, p.unknown, state);
 }
 
 // `merge` into a texture in the state `cur`: on a conflict nothing of it changes, and the use's own selector is told.
@@ -106,26 +106,24 @@ pub fn merge_single_use(
     p: UsageFlags,
     cur: u32,
     new: u32,
-) -> Stopped
+) -> Result<(), InvalidUse>
     requires use_ready { UseReady (numbers_of table.old) half table.old ranges.old i extent all q p new }
     requires single_ready { SingleReady half table.old i p cur new }
     ensures { let t = table.old in
         HalfMerged (numbers_of t) half i (merge p extent (single cur) (use_of all q new))
         t ranges.old result table.new ranges.new }
 {
-    let United::State(u) = unite(p, cur, new) else {
-        return Stopped::At(InvalidUse {
-            selector: q,
-            old: cur,
-            new,
-        });
-    };
+    let u = unite(p, cur, new).ok_or(InvalidUse {
+        selector: q,
+        old: cur,
+        new,
+    })?;
     if all {
         set_state(table, half, i, u);
-        return Stopped::Nowhere;
+        return Ok(());
     }
     break_up(table, ranges, half, i, extent, cur, q, p, u);
-    Stopped::Nowhere
+    Ok(())
 }
 
 // `merge` of a use into an owned texture.
@@ -139,7 +137,7 @@ pub fn merge_use(
     q: Selector,
     p: UsageFlags,
     new: u32,
-) -> Stopped
+) -> Result<(), InvalidUse>
     requires use_ready { UseReady (numbers_of table.old) half table.old ranges.old i extent all q p new }
     requires held_ready { HeldReady half table.old ranges.old i extent new }
     ensures { let t = table.old in let r = ranges.old in let d = numbers_of t in

@@ -1,11 +1,11 @@
 -- The loop of `learn`: what is left to learn, from here, is what was to learn from the start.
 use Rattle.std.specs.Prelude.{◌+◌, ◌*◌, ◌≤◌, ◌<◌, ◌≡◌, ◌∷◌}
-use Rattle.model.specs.Prelude.{ℕ, arith, refl, sym, ◌∙◌, List, [], length, get_or, drop, slice_empty, eq-eqb}
+use Rattle.model.specs.Prelude.{ℕ, arith, sym, ◌∙◌, List, [], length, get_or, drop, slice_empty, eq-eqb}
 use Rattle.model.specs.Prelude.{ne_eqb}
 use Rattle.model.specs.{declared.Range.Range, RangedStates.{coalesce, paint}, Texture.learn}
 use Rattle.range_states.specs.View.{view, decode, blank}
 use Rattle.range_isolate.specs.Isolation.{IsolateRoom}
-use Rattle.texture_mips.specs.{Paint.Leaves, Learn.{learnt, LearnFits, LearnRoom}}
+use Rattle.texture_mips.specs.{Paint.Leaves, Learn.{learnt, LearnFits}}
 use Rattle.range_states.proofs.Inserting.{next_is}
 
 pub record Learning (s₀ : List ℕ) (len : ℕ) (ends : List ℕ) (from to u new : ℕ) (s : List ℕ) (n k : ℕ) : Type 0 where
@@ -15,10 +15,6 @@ pub record Learning (s₀ : List ℕ) (len : ℕ) (ends : List ℕ) (from to u n
   pub fits : 3 * n ≤ length s₀
   pub grown : LearnFits (length s₀) u new (drop k (decode to ends)) (decode n s)
   pub left : learn u new (drop k (decode to ends)) (decode n s) ≡ learn u new (drop from (decode to ends)) (decode len s₀)
-
-pub start_of : {s : List ℕ} {len : ℕ} {ends : List ℕ} {from to u new : ℕ} → from ≤ to → LearnRoom s len u new (drop from (decode to ends))
-    → Learning s len ends from to u new s len from
-start_of h r = record { low = omega arith; high = h; long = refl; fits = r.fits; grown = r.grown; left = refl }
 
 module _ {s₀ : List ℕ} {len : ℕ} {ends : List ℕ} {from to u new : ℕ} {s : List ℕ} {n k : ℕ} (room : 3 * to ≤ length ends)
     (j : Learning s₀ len ends from to u new s n k) where

@@ -1,6 +1,6 @@
 -- A loop over the records from `from` up to `to` that changes each and stops at the first where a test says so, over plain lists.
 use Rattle.std.specs.Prelude.{◌+◌, ◌*◌, ◌≤◌, ◌<◌, ◌≡◌, ◌∷◌, ◌++◌}
-use Rattle.model.specs.Prelude.{ℕ, suc, add-one, arith, refl, sym, ◌∙◌, Bool, true, false, List, []}
+use Rattle.model.specs.Prelude.{ℕ, suc, add-one, arith, sym, subst, ◌∙◌, Bool, true, false, List, []}
 use Rattle.model.specs.Prelude.{append_assoc, length, get_or, take, drop, take-append-drop, length-append, length-drop, drop-set-lt}
 use Rattle.model.specs.Prelude.{take-suc-set, slice-cons, slice_empty, length-take-le}
 use Rattle.model.specs.declared.{Range.Range}
@@ -16,9 +16,6 @@ pub record Passing (stop : Range → Bool) (f : Range → Range) (s₀ : List �
   pub unread : drop k (view s) ≡ drop k (view s₀)
   pub rest : spare s ≡ spare s₀
   pub long : length s ≡ length s₀
-
-pub start_of : (stop : Range → Bool) (f : Range → Range) (s : List ℕ) (from to : ℕ) → from ≤ to → Passing stop f s from to s from
-start_of stop f s from to h = record { low = omega arith; high = h; made = refl; count = refl; unread = refl; rest = refl; long = refl }
 
 module _ {stop : Range → Bool} {f : Range → Range} {s₀ : List ℕ} {from to : ℕ} {s : List ℕ} {k : ℕ} (room : 3 * to ≤ length s₀)
     (j : Passing stop f s₀ from to s k) where
@@ -74,8 +71,8 @@ module _ {stop : Range → Bool} {f : Range → Range} {s₀ : List ℕ} {from t
   unfolding passed passed_count
   halt {x} t e g = ended (rw (next_is x t e, g)) (rw (next_is x t e, g))
 
-  pub finish : to ≤ k → Passed stop f s₀ from to k s
+  pub finish : to ≤ k → Passed stop f s₀ from to to s
   unfolding passed passed_count
   finish t =
       let e : k ≡ to = omega (arith, j.high) in
-      ended (rw (e, slice_empty to (view s₀))) (rw (e, slice_empty to (view s₀)))
+      subst (λ (r : ℕ). Passed stop f s₀ from to r s) e (ended (rw (e, slice_empty to (view s₀))) (rw (e, slice_empty to (view s₀))))

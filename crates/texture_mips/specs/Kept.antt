@@ -1,6 +1,6 @@
 -- A mip that tiles its layers goes on tiling them under every function here, and has room for it with as many records as layers.
 use Rattle.std.specs.Prelude.{◌*◌, ◌≤◌, ◌<◌, ◌≡◌, ◌∷◌, ◌++◌}
-use Rattle.model.specs.Prelude.{ℕ, suc, arith, refl, Option, none, some, List, [], eqb, length}
+use Rattle.model.specs.Prelude.{ℕ, suc, arith, refl, Option, None, Some, List, [], eqb, length}
 use Rattle.model.specs.{declared.{Range.Range, UsageFlags.UsageFlags}, Base.walk, StateRules.unite_known}
 use Rattle.model.specs.{RangedStates.{isolate, paint, coalesce, Tiles}, Texture.{merge_range, settled, learn}, BoolLaws.by_test}
 use Rattle.model.specs.RangeLaws.{tiles_append, isolate_cuts, isolate_few, paint_tiles, coalesce_tiles}
@@ -15,12 +15,12 @@ walk_tiles p k new i (r ∷ s) a e t = go (unite_known p r.state new) refl (walk
   where
     go : (o : Option ℕ) → unite_known p r.state new ≡ o → Tiles r.end (walk (λ (j : ℕ). merge_range p k new) (suc i) s).value e
         → Tiles a (walk (λ (j : ℕ). merge_range p k new) i (r ∷ s)).value e
-    go none q ih = rw q t
-    go (some u) q ih = rw q (t.0, t.1, ih)
+    go None q ih = rw q t
+    go (Some u) q ih = rw q (t.0, t.1, ih)
 
 settled_tiles : {C : Type 0} (c : Option C) (s : List Range) (a e : ℕ) → Tiles a s e → Tiles a (settled c s) e
-settled_tiles none s a e t = coalesce_tiles s a e t
-settled_tiles (some c) s a e t = t
+settled_tiles None s a e t = coalesce_tiles s a e t
+settled_tiles (Some c) s a e t = t
 
 pub run_tiles : (p : UsageFlags) (k a e new : ℕ) (s : List Range) (w : ℕ) → a < e → e ≤ w → Tiles 0 s w
     → Tiles 0 (merge_run p k a e new s).value w

@@ -1,21 +1,20 @@
 -- The contracts of the merges on one mip, over the model's walk.
 use Rattle.std.specs.Prelude.{◌*◌, ◌≤◌, ◌≡◌, ◌++◌}
-use Rattle.model.specs.Prelude.{ℕ, suc, Bool, true, false, Option, none, some, List, length}
+use Rattle.model.specs.Prelude.{ℕ, suc, Bool, true, false, Option, None, Some, option_map, List, length}
 use Rattle.model.specs.{declared.{Range.Range, UsageFlags.UsageFlags, InvalidUse.InvalidUse}, Base.{Stop, fine, walk}}
 use Rattle.model.specs.{StateRules.unite_known, Representation.{select, layer_start, layer_end, in_mips}, RangedStates.{in_state, isolate}}
 use Rattle.model.specs.Texture.{Piece, invalid_use, merge_range, settled, merge_mip, merge_every}
 use Rattle.range_states.specs.View.{decode}
-use Rattle.texture_mips.specs.{declared.uniting.Met.Met, declared.uniting.Met.TheVariants.{Nothing, Conflict}}
 use Rattle.texture_mips.specs.declared.uniting.Merged.{Merged}
 
 -- ---- One range: it stops where there is no union, and otherwise takes it
 abbrev pub is_none : Option ℕ → Bool
-is_none none = true
-is_none (some s) = false
+is_none None = true
+is_none (Some s) = false
 
 abbrev pub state_or : ℕ → Option ℕ → ℕ
-state_or old none = old
-state_or old (some s) = s
+state_or old None = old
+state_or old (Some s) = s
 
 unfoldable pub run_stops : UsageFlags → ℕ → Range → Bool
 run_stops p new r = is_none (unite_known p r.state new)
@@ -40,9 +39,8 @@ merge_other p q k s e = rw e
 
 -- ---- The contracts
 -- the conflict that was met, on mip k: the range, its old state and the given one
-abbrev pub conflict_of : ℕ → ℕ → Met → Option InvalidUse
-conflict_of k new Nothing = none
-conflict_of k new (Conflict r) = some (invalid_use (select k (suc k) r.start r.end) r.state new)
+abbrev pub conflict_of : ℕ → ℕ → Option Range → Option InvalidUse
+conflict_of k new met = option_map (λ (r : Range). invalid_use (select k (suc k) r.start r.end) r.state new) met
 
 -- what the model's walk leaves on any mip, and the conflict that it tells
 pub record Walked (new : ℕ) (w : ℕ → Stop InvalidUse (List Range)) (l : List ℕ) (r : Merged) (l' : List ℕ) : Type 0 where

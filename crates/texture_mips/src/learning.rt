@@ -25,10 +25,8 @@ pub fn learn(
         Leaves l result (learn_of unknown new (drop from (decode to ends.now)) (decode len l)) s.new }
 {
     let mut n = len;
-    let mut k = from;
-    while k < to {
+    for k in from..to {
         let r = get(ends, k);
-        k += 1;
         if r.state == unknown {
             n = update(s, n, r.start, r.end, unknown, new);
         }

@@ -20,4 +20,4 @@ pub mod uniting;
 
 pub use learning::learn;
 pub use painting::{fresh, paint, update};
-pub use uniting::{Merged, Met, merge_every, merge_piece};
+pub use uniting::{Merged, merge_every, merge_piece};

@@ -16,19 +16,9 @@ pub fn set_run(s: &mut [u32], from: usize, to: usize, state: u32)
     ensures { let l = s.old in
         Becomes l to (decode from l ++ map (in_state state) (drop from (decode to l))) s.new }
 {
-    let mut k = from;
-    while k < to {
+    for k in from..to {
         let r = get(s, k);
-        put(
-            s,
-            k,
-            Range {
-                start: r.start,
-                end: r.end,
-                state,
-            },
-        );
-        k += 1;
+        put(s, k, Range { state, ..r });
     }
 }
 

@@ -7,20 +7,13 @@ ghost use Rattle.texture_mips.specs.Merge.{run_stops, run_takes, PieceMerged, Ev
 use model::{Range, UsageFlags};
 use range_isolate::isolate;
 use range_states::{coalesce, get, put};
-use usage::{United, unite_known};
+use usage::unite_known;
 
-// What a merge met: nothing, or a range whose state cannot be united with the given one; the range is told with its old state.
-#[derive(Clone, Copy)]
-pub enum Met {
-    Nothing,
-    Conflict(Range),
-}
-
-// The new count, and what was met.
+// The new count, and what the merge met, if anything: a range, with its old state, that cannot be united with the given one.
 #[derive(Clone, Copy)]
 pub struct Merged {
     pub len: usize,
-    pub met: Met,
+    pub met: Option<Range>,
 }
 
 // The ranges from `from` up to `to` take `new`, up to the first that cannot. Tells where that is, or `to`.
@@ -29,24 +22,14 @@ pub fn merge_run(s: &mut [u32], from: usize, to: usize, p: UsageFlags, new: u32)
     requires to_in_bounds { 3 * to ≤ length s.old }
     ensures { Passed (run_stops p new) (run_takes p new) s.old from to result s.new }
 {
-    let mut k = from;
-    while k < to {
+    for k in from..to {
         let r = get(s, k);
-        let United::State(state) = unite_known(p, r.state, new) else {
+        let Some(state) = unite_known(p, r.state, new) else {
             return k;
         };
-        put(
-            s,
-            k,
-            Range {
-                start: r.start,
-                end: r.end,
-                state,
-            },
-        );
-        k += 1;
+        put(s, k, Range { state, ..r });
     }
-    k
+    to
 }
 
 // Many with Many: a piece with the layers from `start` to `end`. The mip is coalesced unless a conflict stopped the walk.
@@ -66,17 +49,16 @@ pub fn merge_piece(
     if k < i.end {
         return Merged {
             len: i.len,
-            met: Met::Conflict(get(s, k)),
+            met: Some(get(s, k)),
         };
     }
-    let n = coalesce(s, i.len);
     Merged {
-        len: n,
-        met: Met::Nothing,
+        len: coalesce(s, i.len),
+        met: None,
     }
 }
 
-// Many with Single: one state on every range of the mip.
+// Many with Single: one state on every range of the mip. (What it shares with `merge_piece` is `merge_run`: only a piece is isolated.)
 pub fn merge_every(s: &mut [u32], len: usize, p: UsageFlags, new: u32) -> Merged
     requires { 3 * len ≤ length s.old }
     ensures { EveryMerged p new s.old len result s.new }
@@ -85,12 +67,11 @@ pub fn merge_every(s: &mut [u32], len: usize, p: UsageFlags, new: u32) -> Merged
     if k < len {
         return Merged {
             len,
-            met: Met::Conflict(get(s, k)),
+            met: Some(get(s, k)),
         };
     }
-    let n = coalesce(s, len);
     Merged {
-        len: n,
-        met: Met::Nothing,
+        len: coalesce(s, len),
+        met: None,
     }
 }

@@ -5,8 +5,8 @@ use Rattle.model.specs.{Representation.Ends, RangedStates.range}
 use Rattle.model.specs.{Texture.{Held, single, Given, given_single, pieces_of, from_held, spread_end, update}, BoolLaws.by_eq}
 use Rattle.std.specs.Prelude.{◌+◌, ◌≡◌, ◌∷◌}
 use Rattle.set_storage.specs.{Storage.{numbers_of, start_half, end_half, mips_of, held_of, ends_of, layers_at, state_at}, Frames.MipsBecome}
-use Rattle.texture_merge.specs.{declared.Stopped.Stopped, declared.Doing.TheVariants.Cover, Walks.MipsWalked, Ready.ManyReady}
-use Rattle.texture_merge.specs.{Giving.{taken, covers, GivenTexture, many_tiled}, FromSet.{given_state_lem, given_pieces, given_many_lem}}
+use Rattle.texture_merge.specs.{Walks.{Stopped, MipsWalked}, Ready.ManyReady}
+use Rattle.texture_merge.specs.{Giving.{covered, covers, GivenTexture, many_tiled}, FromSet.{given_state_lem, given_pieces, given_many_lem}}
 use Rattle.texture_update.specs.{Both.BothBecome, Update.{UpdateReady, start_many, end_many}}
 use Rattle.texture_update.specs.Pieces.{updates, HeldTiled, ManyTiled, PairReady}
 use Rattle.texture_update.specs.FromSet.{UpdateFromReady, from_use_lem, pieces_single, pieces_many}
@@ -77,7 +77,7 @@ module _ {t s e : List ℕ} {i : ℕ} {sh : Extent} {from : ℕ} {t₂ r₂ : Li
       cover_ready = (break_many x.end.ready x.flags cur b, given_many_lem x.given c (break_texture x.end.ready x.flags cur b))
 
       pub cover_done : {y : Stopped} {t₄ e₄ : List ℕ}
-          → MipsWalked (numbers_of t₃) end_half i (passes (taken (Cover cur) p) (pieces_of gs)
+          → MipsWalked (numbers_of t₃) end_half i (passes (covered p cur) (pieces_of gs)
           (mips_of (numbers_of t₃) end_half t₃ e₃ i)) t₃ e₃ y t₄ e₄
           → BothBecome (numbers_of t) i (update p sh (ends_of (numbers_of t) t s e i) given) t s e t₄ s e₄
       cover_done {y} {t₄} {e₄} w =

@@ -114,9 +114,6 @@ module _ (u new : ℕ) {q : Selector} {i : ℕ} {t₀ s₀ e₀ : List ℕ} (p :
     count : mips_in (numbers_of t₀) t i ≡ mips_in (numbers_of t₀) t₀ i
     count = mips_same (numbers_of t₀) t₀ t i (low (mips_at i) (omega (arith, p.start.measured.textures, p.start.texture)))
 
-    pub turn_layers : get_or t (layers_at i) 0 ≡ get_or t₀ (layers_at i) 0
-    turn_layers = low (layers_at i) (omega (arith, p.start.measured.textures, p.start.texture))
-
     module _ (b : m < mip_end q) where
       inside : m < mips_in (numbers_of t₀) t₀ i
       inside = omega (arith, k.in_mips)

@@ -10,7 +10,7 @@ ghost use Rattle.texture_update.specs.Learning.{PairTiled, BothReady};
 
 use crate::pair::learn_update;
 use model::Selector;
-use set_storage::{Table, locate, set_count, wide};
+use set_storage::{END, START, Table, locate, set_count, wide};
 
 // Mip m of the start takes a state where mip m of the end is UNKNOWN.
 pub fn learn_mip(
@@ -28,22 +28,18 @@ pub fn learn_mip(
         (set (mips_of d start_half t s i) m (learn unknown new (mip_of d end_half t e i m) (mip_of d start_half t s i m)))
         t s table.new starts.new }
 {
-    let at = locate(table, starts.len(), set_storage::START, i, m);
-    let by = locate(table, ends.len(), set_storage::END, i, m);
-    let b = at.base;
-    let e = at.end;
-    let c = by.base;
-    let f = by.end;
+    let at = locate(table, starts.len(), START, i, m);
+    let by = locate(table, ends.len(), END, i, m);
     let n = texture_mips::learn(
-        &mut starts[b..e],
+        &mut starts[at.base..at.end],
         at.len,
-        &ends[c..f],
+        &ends[by.base..by.end],
         0,
         by.len,
         unknown,
         new,
     );
-    set_count(table, set_storage::START, i, m, n);
+    set_count(table, START, i, m, n);
 }
 
 // Every mip of the start takes a state where that of the end is UNKNOWN.
@@ -62,14 +58,13 @@ pub fn learn_mips(
         MipsBecome d start_half i (learn_all (λ k x. x) unknown new 0 (mips_of d end_half t e i) (mips_of d start_half t s i))
         t s table.new starts.new }
 {
-    let mut m = 0;
-    while m < mips {
+    for m in 0..mips {
         learn_mip(table, starts, ends, i, m, unknown, new);
-        m += 1;
     }
 }
 
-// The layers from `start` to `end` of mip m of the end take a state; where they were UNKNOWN, mip m of the start takes it too.
+// The layers from `start` to `end` of mip m of the end take a state; where they were UNKNOWN, mip m of the start takes it too. (Not one
+// function with `learn_mip`: it lends the end to be changed too, and writes both counts.)
 pub fn update_both_mip(
     table: &mut Table,
     starts: &mut [u32],
@@ -89,24 +84,20 @@ pub fn update_both_mip(
         (set (mips_of d end_half t e i) m (coalesce (paint unknown start end new last)))
         t s e table.new starts.new ends.new }
 {
-    let at = locate(table, starts.len(), set_storage::START, i, m);
-    let by = locate(table, ends.len(), set_storage::END, i, m);
-    let b = at.base;
-    let e = at.end;
-    let c = by.base;
-    let f = by.end;
+    let at = locate(table, starts.len(), START, i, m);
+    let by = locate(table, ends.len(), END, i, m);
     let n = learn_update(
-        &mut starts[b..e],
+        &mut starts[at.base..at.end],
         at.len,
-        &mut ends[c..f],
+        &mut ends[by.base..by.end],
         by.len,
         start,
         end,
         unknown,
         new,
     );
-    set_count(table, set_storage::START, i, m, n.start);
-    set_count(table, set_storage::END, i, m, n.end);
+    set_count(table, START, i, m, n.start);
+    set_count(table, END, i, m, n.end);
 }
 
 // What a selector names of the end takes a state that is not UNKNOWN; where it was UNKNOWN, the start takes it too.
@@ -128,9 +119,7 @@ pub fn update_both_mips(
         (updated_mips unknown q new (mips_of d end_half t e i))
         t s e table.new starts.new ends.new }
 {
-    let top = wide(q.mips.end.0);
-    let mut m = wide(q.mips.start.0);
-    while m < top {
+    for m in wide(q.mips.start.0)..wide(q.mips.end.0) {
         update_both_mip(
             table,
             starts,
@@ -142,6 +131,5 @@ pub fn update_both_mips(
             unknown,
             new,
         );
-        m += 1;
     }
 }

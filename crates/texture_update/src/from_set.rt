@@ -14,10 +14,11 @@ use crate::both::update_both_mips;
 use crate::using::update_state;
 use model::{Extent, Selector, UsageFlags};
 use range_states::get;
-use set_storage::{Table, locate, wide};
-use texture_merge::Doing;
-use texture_merge::every::{fresh_mips, piece_at, update_mips};
+use set_storage::{END, START, Table, locate, wide};
+use texture_merge::doing::Cover;
+use texture_merge::every::{edit_mips, fresh_mips};
 use texture_merge::giving::give_mips;
+use texture_merge::mip::Update;
 use texture_merge::using::set_state;
 
 // One piece, on a texture whose end is Many; one that is UNKNOWN is passed over.
@@ -39,15 +40,15 @@ pub fn update_piece(
     if state == p.unknown {
         return;
     }
-    let first = table[set_storage::START + i];
+    let first = table[START + i];
     if first != p.complex {
-        update_mips(table, ends, set_storage::END, i, q, p.unknown, state);
-        return;
+        edit_mips::<Update>(table, ends, END, i, q, p.unknown, state);
+    } else {
+        update_both_mips(table, starts, ends, i, q, p.unknown, state);
     }
-    update_both_mips(table, starts, ends, i, q, p.unknown, state);
 }
 
-// The ranges of mip m of the given texture, one after another.
+// The ranges of mip m of the given texture, one after another. (Not one function with `give_mip`: both halves change, and none stops.)
 pub fn update_from_mip(
     table: &mut Table,
     starts: &mut [u32],
@@ -64,12 +65,10 @@ pub fn update_from_mip(
         BothBecome d i (updates p.unknown (map (piece_on m) (decode len part.now)) (ends_of d t s e i))
         t s e table.new starts.new ends.new }
 {
-    let mut k = 0;
-    while k < len {
+    for k in 0..len {
         let r = get(part, k);
-        let q = piece_at(m, r);
+        let q = Selector::on_mip(m as u32, r.start, r.end);
         update_piece(table, starts, ends, i, q, p, r.state);
-        k += 1;
     }
 }
 
@@ -92,13 +91,10 @@ pub fn update_from_mips(
         BothBecome d i (updates p.unknown (pieces_of (mips_of (numbers_of g) from g lent.now i)) (ends_of d t s e i))
         t s e table.new starts.new ends.new }
 {
-    let mut m = 0;
-    while m < mips {
+    for m in 0..mips {
         let at = locate(given, lent.len(), from, i, m);
-        let b = at.base;
-        let e = at.end;
-        update_from_mip(table, starts, ends, i, m, &lent[b..e], at.len, p);
-        m += 1;
+        let part = &lent[at.base..at.end];
+        update_from_mip(table, starts, ends, i, m, part, at.len, p);
     }
 }
 
@@ -126,23 +122,13 @@ pub fn update_given(
         return;
     }
     let mips = wide(extent.mips);
-    let cur = table[set_storage::END + i];
+    let cur = table[END + i];
     if cur == p.complex {
         update_from_mips(table, starts, ends, i, mips, given, lent, from, p);
         return;
     }
-    set_state(table, set_storage::END, i, p.complex);
-    fresh_mips(table, ends, set_storage::END, i, mips, extent.layers, cur);
-    give_mips(
-        table,
-        ends,
-        set_storage::END,
-        i,
-        Doing::Cover(cur),
-        mips,
-        given,
-        lent,
-        from,
-        p,
-    );
+    set_state(table, END, i, p.complex);
+    fresh_mips(table, ends, END, i, mips, extent.layers, cur);
+    // Covering meets no conflict.
+    let _ = give_mips(table, ends, END, i, Cover(cur), mips, given, lent, from, p);
 }

@@ -8,8 +8,9 @@ ghost use Rattle.texture_update.specs.Update.{UpdateReady, Selecting};
 
 use crate::both::{learn_mips, update_both_mips};
 use model::{Extent, Selector, UsageFlags};
-use set_storage::{Table, wide};
-use texture_merge::every::update_mips;
+use set_storage::{END, START, Table, wide};
+use texture_merge::every::edit_mips;
+use texture_merge::mip::Update;
 use texture_merge::using::{break_up, set_state};
 
 // All of the texture takes a state; where its end was UNKNOWN, its start takes it too.
@@ -26,18 +27,12 @@ pub fn update_state(
     ensures { let t = table.old in let s = starts.old in let e = ends.now in let d = numbers_of t in
         BothBecome d i (update p extent (ends_of d t s e i) (given_single new)) t s e table.new starts.new e }
 {
-    let cur = table[set_storage::END + i];
-    let first = table[set_storage::START + i];
-    if cur != p.complex {
-        set_state(table, set_storage::END, i, new);
-        return;
+    let cur = table[END + i];
+    let first = table[START + i];
+    if cur == p.complex && first == p.complex {
+        learn_mips(table, starts, ends, i, wide(extent.mips), p.unknown, new);
     }
-    if first != p.complex {
-        set_state(table, set_storage::END, i, new);
-        return;
-    }
-    learn_mips(table, starts, ends, i, wide(extent.mips), p.unknown, new);
-    set_state(table, set_storage::END, i, new);
+    set_state(table, END, i, new);
 }
 
 // What a selector names takes a state that is not UNKNOWN; where its end was UNKNOWN, its start takes it too.
@@ -57,15 +52,13 @@ pub fn update_use(
         BothBecome d i (update p extent (ends_of d t s e i) (use_of false q new))
         t s e table.new starts.new ends.new }
 {
-    let cur = table[set_storage::END + i];
-    let first = table[set_storage::START + i];
+    let cur = table[END + i];
+    let first = table[START + i];
     if cur != p.complex {
-        break_up(table, ends, set_storage::END, i, extent, cur, q, p, new);
-        return;
+        break_up(table, ends, END, i, extent, cur, q, p, new);
+    } else if first != p.complex {
+        edit_mips::<Update>(table, ends, END, i, q, p.unknown, new);
+    } else {
+        update_both_mips(table, starts, ends, i, q, p.unknown, new);
     }
-    if first != p.complex {
-        update_mips(table, ends, set_storage::END, i, q, p.unknown, new);
-        return;
-    }
-    update_both_mips(table, starts, ends, i, q, p.unknown, new);
 }

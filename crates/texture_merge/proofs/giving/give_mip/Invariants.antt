@@ -1,16 +1,13 @@
 -- `give_mip`: each lap gives one range, and what is left decides.
 use Rattle.model.specs.Prelude.{map, get_or, drop}
 use Rattle.model.specs.Base.{passes}
-use Rattle.std.specs.Prelude.{◌-◌, ◌≤◌}
 use Rattle.set_storage.specs.Storage.{numbers_of, mips_of, layers_at}
 use Rattle.range_states.specs.View.{decode}
-use Rattle.texture_merge.specs.Giving.{Giving, taken, piece_on}
+use Rattle.texture_merge.specs.Giving.{Giving, piece_on}
 use Rattle.texture_merge.proofs.giving.give_mip.Given as goal
 
 abbrev pub invariant-loop-k : goal.invariant-loop-k
-invariant-loop-k l = (l.k ≤ l.len) × Giving l.half l.i (get_or l.initial.table (layers_at l.i) 0) (passes (taken l.doing l.p)
+invariant-loop-k g l = Giving l.half l.i (get_or l.initial.table (layers_at l.i) 0) (passes (g.D.Doing.does l.doing l.p)
     (map (piece_on l.m) (decode l.len l.part)) (mips_of (numbers_of l.initial.table) l.half l.initial.table l.initial.ranges l.i))
-    l.initial.table l.initial.ranges (passes (taken l.doing l.p) (map (piece_on l.m) (drop l.k (decode l.len l.part)))) l.table l.ranges
-
-abbrev pub decreases-loop-k : goal.decreases-loop-k
-decreases-loop-k l = l.len - l.k
+    l.initial.table l.initial.ranges (passes (g.D.Doing.does l.doing l.p) (map (piece_on l.m) (drop l.k (decode l.len l.part)))) l.table
+    l.ranges

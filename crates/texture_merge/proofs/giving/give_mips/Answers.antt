@@ -1,39 +1,37 @@
 -- `give_mips`: each lap gives one mip, and what is left decides.
-use Rattle.model.specs.Prelude.{arith, ◌∙◌}
+use Rattle.model.specs.Prelude.{Err}
+use Rattle.std.proofs.Common.{rules}
+use Rattle.std.specs.Prelude.{◌≡◌}
 use Rattle.set_storage.specs.Locate.{locates}
 use Rattle.texture_merge.proofs.{Given.given_mip, Pieces.{lap_many, mip_start_lem, mip_given, mip_turn, mip_stop, mip_done}}
-use Rattle.std.proofs.Common.{rules}
 use Rattle.texture_merge.proofs.giving.give_mips.Goals as goal
 
 pub loop-m-init : goal.loop-m-init
-loop-m-init c = let p = c.requires in (omega arith, mip_start_lem p.half_tiled p.given_texture _ _)
+loop-m-init g c = let p = c.requires in mip_start_lem p.half_tiled p.given_texture _ (g.met.D.Doing.keeps_tiled _ _)
 
 pub locate-at-requires : goal.locate-at-requires
-locate-at-requires c = let p = c.requires in locates (given_mip p.given_texture _ c.loop-m-test.true).ready
+locate-at-requires g c = let p = c.requires in locates (given_mip p.given_texture _ c.loop-m-test.true).ready
 
-pub give_mip-x-requires : goal.give_mip-x-requires
-give_mip-x-requires c =
+pub give_mip-requires : goal.give_mip-requires
+give_mip-requires g c =
     let p = c.requires in let w = c.loop-m.invariant in
     record {
-      half_tiled = lap_many p.half_tiled w.1;
+      half_tiled = lap_many p.half_tiled w;
       given_mip =
-          mip_given p.half_tiled p.given_texture _ _ w.1 c.loop-m-test.true c.locate-at.ensures;
+          mip_given p.half_tiled p.given_texture _ (g.met.D.Doing.keeps_tiled _ _) w c.loop-m-test.true c.locate-at.ensures;
     }
 
-pub shape_of-ranges-in-At : goal.shape_of-ranges-in-At
-shape_of-ranges-in-At c = let w = c.loop-m.invariant in let e = c.give_mip-x.ensures.into.frame.ranges.long ∙ w.1.frame.ranges.long in
-    search (rules, e)
-
-pub returns-in-At : goal.returns-in-At
-returns-in-At c = let p = c.requires in let w = c.loop-m.invariant in
-    mip_stop p.half_tiled p.given_texture _ _ w.1 c.loop-m-test.true c.locate-at.ensures c.give_mip-x.ensures _ (rw c.in-At.is)
+pub returns-in_err-give_mip : goal.returns-in_err-give_mip
+returns-in_err-give_mip g c =
+    let p = c.requires in let e : c.from_residual.result ≡ Err c.in_err-give_mip.field-0.0 = search rules in
+    rw e (mip_stop p.half_tiled p.given_texture _ (g.met.D.Doing.keeps_tiled _ _) c.loop-m.invariant c.loop-m-test.true
+    c.locate-at.ensures c.give_mip.ensures _ (rw c.in_err-give_mip.was))
 
 pub loop-m-preserved : goal.loop-m-preserved
-loop-m-preserved c = let p = c.requires in let w = c.loop-m.invariant in (
-  omega arith,
-  mip_turn p.half_tiled p.given_texture _ _ w.1 c.loop-m-test.true c.locate-at.ensures
-      c.give_mip-x.ensures (rw c.in_default.is),
-)
+loop-m-preserved g c = let p = c.requires in
+    mip_turn p.half_tiled p.given_texture _ (g.met.D.Doing.keeps_tiled _ _) c.loop-m.invariant c.loop-m-test.true c.locate-at.ensures
+    c.give_mip.ensures (rw c.in_ok-give_mip.was)
 
 pub returns : goal.returns
-returns c = let p = c.requires in let w = c.loop-m.invariant in mip_done p.half_tiled p.given_texture _ _ w.1 c.loop-m-test.false
+returns g c = let p = c.requires in
+    mip_done p.half_tiled p.given_texture _ (g.met.D.Doing.keeps_tiled _ _) c.loop-m.invariant c.loop-m-test.false

@@ -1,16 +1,13 @@
 -- `give_mips`: each lap gives one mip, and what is left decides.
 use Rattle.model.specs.Prelude.{get_or, drop}
 use Rattle.model.specs.{Texture.pieces_of, Base.passes}
-use Rattle.std.specs.Prelude.{◌-◌, ◌≤◌}
 use Rattle.set_storage.specs.Storage.{numbers_of, mips_of, layers_at}
-use Rattle.texture_merge.specs.Giving.{Giving, taken, pieces_from}
+use Rattle.texture_merge.specs.Giving.{Giving, pieces_from}
 use Rattle.texture_merge.proofs.giving.give_mips.Given as goal
 
 abbrev pub invariant-loop-m : goal.invariant-loop-m
-invariant-loop-m l = (l.m ≤ l.mips) × Giving l.half l.i (get_or l.initial.table (layers_at l.i) 0) (passes (taken l.doing l.p)
+invariant-loop-m g l = Giving l.half l.i (get_or l.initial.table (layers_at l.i) 0) (passes (g.D.Doing.does l.doing l.p)
     (pieces_of (mips_of (numbers_of l.given) l.from l.given l.lent l.i))
     (mips_of (numbers_of l.initial.table) l.half l.initial.table l.initial.ranges l.i)) l.initial.table l.initial.ranges
-    (passes (taken l.doing l.p) (pieces_from l.m (drop l.m (mips_of (numbers_of l.given) l.from l.given l.lent l.i)))) l.table l.ranges
-
-abbrev pub decreases-loop-m : goal.decreases-loop-m
-decreases-loop-m l = l.mips - l.m
+    (passes (g.D.Doing.does l.doing l.p) (pieces_from l.m (drop l.m (mips_of (numbers_of l.given) l.from l.given l.lent l.i)))) l.table
+    l.ranges

@@ -16,8 +16,8 @@ pub fresh_mips-requires : goal.fresh_mips-requires
 fresh_mips-requires c =
     rw (c.set_state-2.ensures, c.wide.ensures.0) (break_every c.requires.texture c.requires.flags)
 
-pub paint_mips-requires : goal.paint_mips-requires
-paint_mips-requires c =
+pub edit_mips-requires : goal.edit_mips-requires
+edit_mips-requires c =
     let u = c.requires in let b = rw (c.set_state-2.ensures, c.wide.ensures.0) at c.fresh_mips.ensures in
     record { half_tiled = break_many u.texture u.flags _ b; selects = texture_selects (break_texture u.texture u.flags _ b) u.selector }
 
@@ -25,4 +25,4 @@ pub returns : goal.returns
 unfolding insert paint_all
 returns c = let u = c.requires in
     rw (c.if-all.false) (break_then u.texture u.flags _ (rw (c.set_state-2.ensures, c.wide.ensures.0) at c.fresh_mips.ensures)
-    (on_mips c.args.q _ 0) c.paint_mips.ensures)
+    (on_mips c.args.q _ 0) c.edit_mips.ensures)

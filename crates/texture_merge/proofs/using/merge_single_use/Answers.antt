@@ -1,20 +1,28 @@
 -- `merge_single_use`: a conflict leaves the texture, a union is the word, and a part breaks the texture up.
-use Rattle.model.specs.Prelude.{sym}
+use Rattle.std.specs.Prelude.{◌≡◌}
+use Rattle.std.proofs.Common.{rules}
+use Rattle.model.specs.Prelude.{sym, ◌∙◌, Err}
 use Rattle.texture_merge.specs.Uses.{use_with}
+use Rattle.texture_merge.proofs.Unions.{no_union}
 use Rattle.texture_merge.proofs.UseCases.{union_plain, conflict_left, all_left, part_left}
 use Rattle.texture_merge.proofs.using.merge_single_use.Goals as goal
 
-pub returns-in_default : goal.returns-in_default
-returns-in_default c = let p = c.requires in conflict_left p.use_ready p.single_ready (sym (rw c.in_default.is at c.unite.ensures))
+pub returns-in_err-u : goal.returns-in_err-u
+returns-in_err-u c =
+    let e : c.from_residual.result ≡ Err c.in_err-u.field-0.0 = search rules in let n = no_union c.ok_or.ensures.value c.in_err-u.was in
+    rw (e, n.1) (conflict_left c.requires.use_ready c.requires.single_ready (sym c.unite.ensures ∙ n.0))
 
 pub returns-then-all : goal.returns-then-all
-returns-then-all c = let p = c.requires in
-    rw (c.set_state.ensures) (all_left p.use_ready p.single_ready _ (sym (rw c.in-State.is at c.unite.ensures)) c.if-all.true)
+returns-then-all c =
+    let p = c.requires in let u = sym c.unite.ensures ∙ (rw c.in_ok-u.was at c.ok_or.ensures.ok_part) in
+    rw c.set_state.ensures (all_left p.use_ready p.single_ready _ u c.if-all.true)
 
 pub break_up-requires : goal.break_up-requires
-break_up-requires c = let p = c.requires in
-    use_with _ p.use_ready (union_plain p.use_ready p.single_ready _ (sym (rw c.in-State.is at c.unite.ensures)))
+break_up-requires c =
+    let p = c.requires in let u = sym c.unite.ensures ∙ (rw c.in_ok-u.was at c.ok_or.ensures.ok_part) in
+    use_with _ p.use_ready (union_plain p.use_ready p.single_ready _ u)
 
 pub returns : goal.returns
-returns c = let p = c.requires in
-    part_left p.use_ready p.single_ready _ (sym (rw c.in-State.is at c.unite.ensures)) c.if-all.false c.break_up.ensures
+returns c =
+    let p = c.requires in let u = sym c.unite.ensures ∙ (rw c.in_ok-u.was at c.ok_or.ensures.ok_part) in
+    part_left p.use_ready p.single_ready _ u c.if-all.false c.break_up.ensures

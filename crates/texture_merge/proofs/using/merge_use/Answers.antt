@@ -1,12 +1,8 @@
 -- `merge_use`: the word tells whether the texture is Single or Many, and each case is the model's.
 use Rattle.model.specs.Prelude.{refl}
 use Rattle.texture_merge.specs.Ready.{texture_every, texture_selects}
-use Rattle.texture_merge.proofs.UseCases.{single_ready, single_merged, many_ready, every_merged, part_merged}
+use Rattle.texture_merge.proofs.UseCases.{single_merged, many_ready, every_merged, part_merged}
 use Rattle.texture_merge.proofs.using.merge_use.Goals as goal
-
-pub merge_single_use-requires : goal.merge_single_use-requires
-merge_single_use-requires c =
-    let p = c.requires in record { use_ready = p.use_ready; single_ready = single_ready p.use_ready p.held_ready _ refl c.if-cur-p.true }
 
 pub returns-then-cur-p : goal.returns-then-cur-p
 returns-then-cur-p c = let p = c.requires in single_merged p.use_ready p.held_ready _ refl c.if-cur-p.true c.merge_single_use.ensures

@@ -1,10 +1,6 @@
 -- `learn` updates the mip range by range of the end.
-use Rattle.std.specs.Prelude.{◌-◌}
 use Rattle.texture_mips.proofs.Learnt.{Learning}
 use Rattle.texture_mips.proofs.learning.learn.Given as goal
 
 abbrev pub invariant-loop-k : goal.invariant-loop-k
 invariant-loop-k l = Learning l.initial.s l.len l.ends l.from l.to l.unknown l.new l.s l.n l.k
-
-abbrev pub decreases-loop-k : goal.decreases-loop-k
-decreases-loop-k l = l.to - l.k

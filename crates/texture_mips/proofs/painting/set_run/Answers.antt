@@ -1,9 +1,6 @@
 -- `set_run` is a pass that nothing stops.
-use Rattle.texture_mips.proofs.{Passing.{start_of, turn}, Painted.{set_all}}
+use Rattle.texture_mips.proofs.{Passing.{turn}, Painted.{set_all}}
 use Rattle.texture_mips.proofs.painting.set_run.Goals as goal
-
-pub loop-k-init : goal.loop-k-init
-loop-k-init c = search start_of
 
 pub loop-k-preserved : goal.loop-k-preserved
 loop-k-preserved c = search turn

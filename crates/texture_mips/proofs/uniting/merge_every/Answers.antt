@@ -8,4 +8,4 @@ returns-then-k-len c =
 
 pub returns : goal.returns
 returns c =
-    every_done _ _ c.requires c.merge_run-k.ensures c.if-k-len.false c.coalesce-n.ensures
+    every_done _ _ c.requires c.merge_run-k.ensures c.if-k-len.false c.coalesce.ensures

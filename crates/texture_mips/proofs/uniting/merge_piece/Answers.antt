@@ -9,4 +9,4 @@ returns-then-k-i c =
 pub returns : goal.returns
 returns c =
     piece_done _ _ _ _ c.isolate-i.ensures c.merge_run-k.ensures c.if-k-i.false
-    c.coalesce-n.ensures
+    c.coalesce.ensures

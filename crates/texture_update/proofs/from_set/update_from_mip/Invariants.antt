@@ -1,6 +1,5 @@
 -- `update_from_mip`: each lap gives one range, and what is left decides.
 use Rattle.model.specs.Prelude.{map, drop}
-use Rattle.std.specs.Prelude.{◌-◌, ◌≤◌}
 use Rattle.range_states.specs.View.{decode}
 use Rattle.set_storage.specs.Storage.{numbers_of, ends_of}
 use Rattle.texture_merge.specs.Giving.{piece_on}
@@ -9,10 +8,6 @@ use Rattle.texture_update.proofs.Takes.{Taking}
 use Rattle.texture_update.proofs.from_set.update_from_mip.Given as goal
 
 abbrev pub invariant-loop-k : goal.invariant-loop-k
-invariant-loop-k l = (l.k ≤ l.len)
-    × Taking l.i l.p (updates l.p.unknown (map (piece_on l.m) (decode l.len l.part))
+invariant-loop-k l = Taking l.i l.p (updates l.p.unknown (map (piece_on l.m) (decode l.len l.part))
     (ends_of (numbers_of l.initial.table) l.initial.table l.initial.starts l.initial.ends l.i)) l.initial.table l.initial.starts
     l.initial.ends (updates l.p.unknown (map (piece_on l.m) (drop l.k (decode l.len l.part)))) l.table l.starts l.ends
-
-abbrev pub decreases-loop-k : goal.decreases-loop-k
-decreases-loop-k l = l.len - l.k

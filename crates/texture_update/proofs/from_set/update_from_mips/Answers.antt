@@ -1,24 +1,19 @@
 -- `update_from_mips`: each lap gives one mip, and what is left decides.
-use Rattle.model.specs.Prelude.{arith}
 use Rattle.set_storage.specs.Locate.{locates}
-use Rattle.texture_update.proofs.Takes.{mip_start_lem, mip_given, mip_turn, mip_done}
+use Rattle.texture_update.proofs.Takes.{mip_given, mip_turn, mip_done}
 use Rattle.texture_merge.proofs.Given.{given_mip}
 use Rattle.texture_update.proofs.from_set.update_from_mips.Goals as goal
-
-pub loop-m-init : goal.loop-m-init
-loop-m-init c = let p = c.requires in (omega arith, mip_start_lem p.pair_ready p.given_texture)
 
 pub locate-at-requires : goal.locate-at-requires
 locate-at-requires c = let p = c.requires in locates (given_mip p.given_texture _ c.loop-m-test.true).ready
 
-pub update_from_mip-requires : goal.update_from_mip-requires
-update_from_mip-requires c =
-    let p = c.requires in let w = c.loop-m.invariant in
-    record { pair_ready = w.1.ready; given_mip = mip_given p.pair_ready p.given_texture w.1 c.loop-m-test.true c.locate-at.ensures }
+pub update_from_mip-requires-clause-given_mip : goal.update_from_mip-requires-clause-given_mip
+update_from_mip-requires-clause-given_mip c = let p = c.requires in
+    mip_given p.pair_ready p.given_texture c.loop-m.invariant c.loop-m-test.true c.locate-at.ensures
 
 pub loop-m-preserved : goal.loop-m-preserved
-loop-m-preserved c = let p = c.requires in let w = c.loop-m.invariant in
-    (omega arith, mip_turn p.pair_ready p.given_texture w.1 c.loop-m-test.true c.locate-at.ensures c.update_from_mip.ensures)
+loop-m-preserved c = let p = c.requires in
+    mip_turn p.pair_ready p.given_texture c.loop-m.invariant c.loop-m-test.true c.locate-at.ensures c.update_from_mip.ensures
 
 pub returns : goal.returns
-returns c = let p = c.requires in let w = c.loop-m.invariant in mip_done p.pair_ready p.given_texture w.1 c.loop-m-test.false
+returns c = let p = c.requires in mip_done p.pair_ready p.given_texture c.loop-m.invariant c.loop-m-test.false

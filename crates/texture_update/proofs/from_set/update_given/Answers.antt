@@ -1,13 +1,8 @@
 -- `update_given`: the words tell whether the given texture and the end are Single or Many, and each case is the model's.
 use Rattle.model.specs.Prelude.{refl}
-use Rattle.texture_update.specs.FromSet.{from_use_lem}
 use Rattle.texture_update.proofs.SetCases.{state_given, pieces_ready, pieces_done, cover_ready, cover_done}
 use Rattle.texture_merge.proofs.Breaking.{break_every}
 use Rattle.texture_update.proofs.from_set.update_given.Goals as goal
-
-pub update_state-requires : goal.update_state-requires
-update_state-requires c =
-    from_use_lem c.requires _ c.if-word-p.true
 
 pub returns-then-word-p : goal.returns-then-word-p
 returns-then-word-p c =

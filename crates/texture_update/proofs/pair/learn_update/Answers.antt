@@ -1,17 +1,9 @@
 -- `learn_update`: the isolated run is read by the start, then takes the state, and the end is coalesced.
-use Rattle.model.specs.Prelude.{arith}
 use Rattle.texture_update.proofs.Pairs.{run_room, pair_is}
 use Rattle.texture_update.proofs.pair.learn_update.Goals as goal
 
-pub learn-n-requires : goal.learn-n-requires
-learn-n-requires c =
-    let i = c.isolate-at.ensures in
-    record {
-      from_le_to = omega (arith, i.some);
-      to_in_bounds = omega (arith, i.in_all, i.fits, i.into.long);
-      learn_room =
-          run_room i _ c.requires.learn_room;
-    }
+pub learn-n-requires-clause-learn_room : goal.learn-n-requires-clause-learn_room
+learn-n-requires-clause-learn_room c = run_room c.isolate-at.ensures _ c.requires.learn_room
 
 pub returns : goal.returns
 returns c =
