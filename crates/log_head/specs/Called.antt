@@ -1,8 +1,8 @@
 -- THE CONTRACT of a call that logs, over any view X of the sets that it is lent; and what it is check by check.
 use Rattle.model.specs.Prelude.{ℕ, arith, refl, sym, ap, ◌∙◌, Bool, true, false, false≢true, List, length}
 use Rattle.model.specs.declared.Refusal.TheVariants.{NotWellFormed, LogTooShort, NoFreeEntry}
-use Rattle.model.specs.declared.{Answered.Answered, InvalidUse.InvalidUse, LogHead.LogHead, PendingTransition.PendingTransition}
-use Rattle.model.specs.{declared.Refusal.Refusal, Calls.{done, CallResult}, Log.{Logged, is_refused, added, pending, logging}}
+use Rattle.model.specs.declared.{InvalidUse.InvalidUse, LogHead.LogHead, PendingTransition.PendingTransition}
+use Rattle.model.specs.{declared.Refusal.Refusal, Calls.{done, CallResult}, Log.{Answered, Logged, is_refused, added, pending, logging}}
 use Rattle.model.specs.{Texture.Entry, BoolLaws.by_lt}
 use Rattle.std.specs.Prelude.{◌+◌, ◌*◌, ◌/◌, ◌≤◌, ◌<◌, ◌≡◌}
 use Rattle.texture_barrier.specs.{Entries.Added, Adds.{Adds, adds_added}}

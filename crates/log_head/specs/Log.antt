@@ -1,13 +1,13 @@
 -- The log that a call is lent, what the call answers, and what the model's `logging` gives check by check: refused by the test, by the
 -- log's head, by its own checks or for want of entries; or done.
 use Rattle.std.specs.Prelude.{◌+◌, ◌-◌, ◌/◌, ◌≤◌, ◌<◌, ◌≡◌}
-use Rattle.model.specs.Prelude.{ℕ, refl, sym, ap, ◌∙◌, Bool, true, false, not, List, ltb, length, lt-ltb}
+use Rattle.model.specs.Prelude.{ℕ, refl, sym, ap, ◌∙◌, Bool, true, false, not, Ok, Err, List, ltb, length, lt-ltb}
 use Rattle.model.specs.Prelude.{le-ltb, ltb-false, not-true, not-false}
 use Rattle.model.specs.declared.Refusal.TheVariants.{NotWellFormed, LogTooShort, NoFreeEntry}
-use Rattle.model.specs.declared.Outcome.TheVariants.{Done, Refused}
+use Rattle.model.specs.declared.CallError.TheVariants.{Refused}
 use Rattle.model.specs.declared.{InvalidUse.InvalidUse, LogHead.LogHead, PendingTransition.PendingTransition, Refusal.Refusal}
-use Rattle.model.specs.{declared.Answered.Answered, Refusals.first_failing, Calls.{done, CallResult}}
-use Rattle.model.specs.{Log.{Log, Logged, added, pending, outcome_of, logging, emptying}, Texture.Entry}
+use Rattle.model.specs.{Refusals.first_failing, Calls.{done, CallResult}}
+use Rattle.model.specs.{Log.{Answered, Log, Logged, added, pending, outcome_of, logging, emptying}, Texture.Entry}
 use Rattle.texture_barrier.specs.Entries.{entries_of, unused, entries_long, Added}
 use Rattle.model.specs.Calls as calls
 
@@ -29,11 +29,15 @@ head_within lent h = not (ltb lent (h.written + h.free))
 
 -- turned away: "Everything lent stays."
 abbrev pub refused_with : Refusal → LogHead → Answered
-refused_with r h = record { outcome = Refused r; head = h }
+refused_with r h = record { outcome = Err (Refused r); head = h }
+
+-- the head after n entries more
+abbrev pub head_after : LogHead → ℕ → LogHead
+head_after h n = record { written = h.written + n; free = h.free - n }
 
 -- done, with n entries more
 abbrev pub moved_on : LogHead → ℕ → Answered
-moved_on h n = record { outcome = Done; head = record { written = h.written + n; free = h.free - n } }
+moved_on h n = record { outcome = Ok tt; head = head_after h n }
 
 -- as the code counts the entries that were lent
 pub lent_is : (l : List ℕ) (h : LogHead) {b : Bool} → head_within (length l / 7) h ≡ b → head_within (length (entries_of l)) h ≡ b
@@ -98,7 +102,7 @@ log_moves {X} {c} {l} h {l'} {n} after new e z a = record {
 -- ---- Emptying: "free gains what was written, written becomes 0, entries stay"
 -- what it answers where the head fits
 abbrev pub emptied_with : LogHead → Answered
-emptied_with h = record { outcome = Done; head = record { written = 0; free = h.free + h.written } }
+emptied_with h = record { outcome = Ok tt; head = record { written = 0; free = h.free + h.written } }
 
 module _ (l : List ℕ) (h : LogHead) where
   pub empty_away : head_within (length l / 7) h ≡ false → Logs (emptying (log_of l h)) l (refused_with LogTooShort h) l

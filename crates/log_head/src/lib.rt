@@ -7,32 +7,27 @@
 // that logs, over any view of the sets that it is lent, check by check; specs/UpTo what a loop over textures adds.
 #![tactic(auto)]
 
-ghost use Rattle.std.specs.Prelude.{◌≡◌, ◌+◌, ◌/◌, ◌≤◌, ◌<◌, length, get_or};
+ghost use Rattle.std.specs.Prelude.{◌≡◌, ◌+◌, ◌/◌, ◌^◌, ◌≤◌, ◌<◌, true, false, MatchResult, length, get_or};
+ghost use Rattle.model.specs.Log.{answered};
 ghost use Rattle.model.specs.Sets.{capacity};
+ghost use Rattle.model.specs.declared.Refusal.TheVariants.{LogTooShort};
 ghost use Rattle.set_storage.specs.Storage.{numbers_of, layer_limit_at, mip_limit_at, textures_at};
-ghost use Rattle.log_head.specs.Log.{Emptying, head_within, refused_with, moved_on};
+ghost use Rattle.log_head.specs.Log.{Emptying, head_within, head_after};
 
-use model::{Answered, LogHead, Outcome, Refusal};
-use set_storage::{LAYER_LIMIT, MIP_LIMIT, TEXTURES, Table, wide};
+use model::{LogHead, Refusal};
+use set_storage::{LAYER_LIMIT, MIP_LIMIT, TEXTURES, Table};
 
-// How many entries were lent. Tells a proof that their numbers can be counted.
-pub fn lent_entries(log: &[u32]) -> usize
-    ensures { (result ≡ length log.now / 7) × (length log.now < 18446744073709551616) }
+// 5: whether the head tells no more entries, written and free together, than were lent. Tells a proof that the numbers can be counted.
+pub fn check_head(log: &[u32], head: LogHead) -> Result<(), Refusal>
+    ensures fits { MatchResult result (λ _. head_within (length log.now / 7) head ≡ true)
+        (λ r. (r ≡ LogTooShort) × (head_within (length log.now / 7) head ≡ false)) }
+    ensures countable { length log.now < 2 ^ 64 }
 {
-    log.len() / 7
-}
-
-// 5: whether the head tells no more entries, written and free together, than were lent.
-pub fn head_fits(lent: usize, head: LogHead) -> bool
-    ensures { result ≡ head_within lent head }
-{
-    if lent < head.written {
-        return false;
+    let lent = log.len() / 7;
+    if lent < head.written || lent - head.written < head.free {
+        return Err(Refusal::LogTooShort);
     }
-    if lent - head.written < head.free {
-        return false;
-    }
-    true
+    Ok(())
 }
 
 // N x M x W, a subresource for each: no call adds more entries, so a log with as many free ones need not be counted for.
@@ -41,47 +36,28 @@ pub fn subresources(table: &Table) -> usize
         × ((get_or table.now mip_limit_at 0 ≤ 16) × (get_or table.now layer_limit_at 0 ≤ 256)) }
     ensures { result ≡ capacity (numbers_of table.now) }
 {
-    wide(table[TEXTURES]) * wide(table[MIP_LIMIT]) * wide(table[LAYER_LIMIT])
+    table[TEXTURES] as usize * table[MIP_LIMIT] as usize * table[LAYER_LIMIT] as usize
 }
 
-// A call that is turned away: the head stays.
-pub fn refused(r: Refusal, head: LogHead) -> Answered
-    ensures { result ≡ refused_with r head }
-{
-    Answered {
-        outcome: Outcome::Refused(r),
-        head,
-    }
-}
-
-// A call that added n entries.
-pub fn moved_on(head: LogHead, n: usize) -> Answered
+// The head after a call that added n entries.
+pub fn moved_on(head: LogHead, n: usize) -> LogHead
     requires n_le_free { n ≤ head.free }
     requires free_bound { head.written + head.free < 18446744073709551616 }
-    ensures { result ≡ moved_on head n }
+    ensures { result ≡ head_after head n }
 {
-    Answered {
-        outcome: Outcome::Done,
-        head: LogHead {
-            written: head.written + n,
-            free: head.free - n,
-        },
+    LogHead {
+        written: head.written + n,
+        free: head.free - n,
     }
 }
 
 // Empties the log: free gains what was written, written becomes 0, and the entries stay.
-pub fn empty_log(log: &[u32], head: LogHead) -> Answered
-    ensures { Emptying head log.now result }
+pub fn empty_log(log: &[u32], head: LogHead) -> Result<LogHead, Refusal>
+    ensures { Emptying head log.now (answered head result) }
 {
-    let lent = lent_entries(log);
-    if !head_fits(lent, head) {
-        return refused(Refusal::LogTooShort, head);
-    }
-    Answered {
-        outcome: Outcome::Done,
-        head: LogHead {
-            written: 0,
-            free: head.free + head.written,
-        },
-    }
+    check_head(log, head)?;
+    Ok(LogHead {
+        written: 0,
+        free: head.free + head.written,
+    })
 }

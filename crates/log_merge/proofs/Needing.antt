@@ -1,14 +1,13 @@
 -- How many entries a merge writes, before it writes: `need_of`, way by way.
-use Rattle.std.specs.Prelude.{◌+◌, ◌-◌, ◌/◌, ◌%◌, ◌≤◌, ◌<◌, ◌≡◌, ◌&&◌, ◌∷◌, if◌then◌else◌}
-use Rattle.model.specs.Prelude.{ℕ, arith, refl, sym, ap, ◌∙◌, Bool, true, false, and-false}
-use Rattle.model.specs.Prelude.{and-true, false≢true, List, [], ltb, length, get_or, lt-ltb, le-ltb, eq-eqb, ne_eqb}
+use Rattle.std.specs.Prelude.{◌+◌, ◌-◌, ◌/◌, ◌%◌, ◌≤◌, ◌<◌, ◌≡◌, ◌&&◌, ◌∷◌}
+use Rattle.model.specs.Prelude.{ℕ, arith, refl, sym, ap, ◌∙◌, true, false, and-false, Option, None, Some}
+use Rattle.model.specs.Prelude.{and-true, List, [], ltb, length, get_or, lt-ltb, le-ltb, eq-eqb, ne_eqb}
 use Rattle.model.specs.{declared.PendingTransition.PendingTransition}
 use Rattle.texture_barrier.specs.Entries.{entries_of, entries_long, blank_entry}
-use Rattle.log_merge.specs.declared.order.Scanned.{Scanned}
 use Rattle.log_merge.specs.Merge.{index_of, Merge, merge_of, rises_from, ascending, below, last_of, first_count, second_count}
 use Rattle.log_merge.specs.{MergeLaws.{merge_no_first, merge_no_second, below_none}, Calls.in_order}
 use Rattle.log_merge.proofs.ClosedForm.{count_is}
-use Rattle.log_merge.specs.Order.{Scans, Needs, out_of_order, both}
+use Rattle.log_merge.specs.Order.{Scans, Needs}
 
 -- ---- Of lists of entries
 pub no_entries : (a : List ℕ) → length a / 7 ≡ 0 → entries_of a ≡ []
@@ -66,25 +65,12 @@ cut : (a : List ℕ) → (length a % 7 ≡ 0 → ⊥) → in_order a ≡ false
 unfolding in_order
 cut a h = rw (ne_eqb (length a % 7) 0 h)
 
-module _ (a b : List ℕ) where
-  away : (in_order a && in_order b) ≡ false → Needs a b out_of_order
-  away e = record { ordered = sym e; counts = λ q. absurd (false≢true q) }
+-- one of them stops inside an entry
+pub first_cut : (a b : List ℕ) → (length a % 7 ≡ 0 → ⊥) → (in_order a && in_order b) ≡ false
+first_cut a b h = rw (cut a h)
 
-  pub first_cut : (length a % 7 ≡ 0 → ⊥) → Needs a b out_of_order
-  first_cut h = away (rw (cut a h))
-
-  pub second_cut : (length b % 7 ≡ 0 → ⊥) → Needs a b out_of_order
-  second_cut h = away (rw (cut b h) (and-false (in_order a)))
-
-  -- by what a scan of one of them tells
-  by_scan : (n : ℕ) (x : Scanned) → (in_order a && in_order b) ≡ x.ascends
-      → (x.ascends ≡ true → n + x.below ≡ length (merge_of a b).merged) → Needs a b (both n x)
-  by_scan n x p q = go x.ascends p q
-    where
-      go : (v : Bool) → (in_order a && in_order b) ≡ v → (v ≡ true → n + x.below ≡ length (merge_of a b).merged)
-          → Needs a b (if v then record { ordered = true; total = n + x.below } else out_of_order)
-      go true p q = record { ordered = sym p; counts = q }
-      go false p q = away p
+pub second_cut : (a b : List ℕ) → (length b % 7 ≡ 0 → ⊥) → (in_order a && in_order b) ≡ false
+second_cut a b h = rw (cut b h) (and-false (in_order a))
 
 -- two logs of whole entries
 pub record Whole (a b : List ℕ) : Type 0 where
@@ -98,54 +84,57 @@ module _ {a b : List ℕ} (w : Whole a b) where
   second_told : ascending (entries_of a) ≡ true → (in_order a && in_order b) ≡ ascending (entries_of b)
   second_told g = rw (whole a w.first, g) (whole b w.second)
 
-  pub first_empty : {x : Scanned} → length a / 7 ≡ 0 → Scans (entries_of b) 0 x → Needs a b (both 0 x)
-  first_empty {x} z s =
+  -- nothing is merged, and the one that is not empty is scanned
+  none_needed : (s : List PendingTransition) (x : Option ℕ) → (in_order a && in_order b) ≡ ascending s
+      → length (merge_of a b).merged ≡ 0 → Scans s 0 x → Needs a b x
+  none_needed s None g m n = g ∙ n
+  none_needed s (Some x) g m n = (g ∙ n.0, n.1 ∙ below_none 0 0 s (omega arith) n.0 ∙ sym m)
+
+  pub first_empty : (x : Option ℕ) → length a / 7 ≡ 0 → Scans (entries_of b) 0 x → Needs a b x
+  first_empty x z s =
       let f = no_entries a z in
-      let g : ascending (entries_of a) ≡ true = rw f nil_ascends in
-      by_scan a b 0 x (second_told g ∙ sym s.ascends) (λ r.
-      let c = s.counts r ∙ below_none 0 0 (entries_of b) (omega arith) (sym s.ascends ∙ r) in
+      let g = second_told (rw f nil_ascends) in
       let m : length (merge_of a b).merged ≡ 0 = rw f (ap (λ (m : Merge). length m.merged) (merge_no_first (entries_of b))) in
-      omega arith)
+      none_needed (entries_of b) x g m s
 
-  pub second_empty : {x : Scanned} → length b / 7 ≡ 0 → Scans (entries_of a) 0 x → Needs a b (both 0 x)
-  second_empty {x} z s =
+  pub second_empty : (x : Option ℕ) → length b / 7 ≡ 0 → Scans (entries_of a) 0 x → Needs a b x
+  second_empty x z s =
       let f = no_entries b z in
-      let g : ascending (entries_of b) ≡ true = rw f nil_ascends in
-      by_scan a b 0 x (first_told g ∙ sym s.ascends) (λ r.
-      let c = s.counts r ∙ below_none 0 0 (entries_of a) (omega arith) (sym s.ascends ∙ r) in
+      let g = first_told (rw f nil_ascends) in
       let m : length (merge_of a b).merged ≡ 0 = rw f (ap (λ (m : Merge). length m.merged) (merge_no_second (entries_of a))) in
-      omega arith)
+      none_needed (entries_of a) x g m s
 
--- two that have entries, with their last indices u and v
+  -- one of them descends
+  pub first_descends : ascending (entries_of a) ≡ false → (in_order a && in_order b) ≡ false
+  first_descends z = rw (whole a w.first, z)
+
+  pub second_descends : ascending (entries_of b) ≡ false → (in_order a && in_order b) ≡ false
+  second_descends z = rw (whole b w.second, z) (and-false (in_order a))
+
+-- two that have entries, with their last indices u and v, and that ascend
 pub record Lasts (a b : List ℕ) (u v : ℕ) : Type 0 where
   pub whole : Whole a b
   pub some : (length a / 7 ≡ 0 → ⊥) × (length b / 7 ≡ 0 → ⊥)
   pub first : u ≡ index_of (get_or (entries_of a) (length a / 7 - 1) blank_entry)
   pub second : v ≡ index_of (get_or (entries_of b) (length b / 7 - 1) blank_entry)
 
-module _ {a b : List ℕ} {u v : ℕ} (k : Lasts a b u v) where
-  pub first_descends : ascending (entries_of a) ≡ false → Needs a b out_of_order
-  first_descends z = away a b (rw (whole a k.whole.first, z))
+module _ {a b : List ℕ} {u v : ℕ} (k : Lasts a b u v) (d : ascending (entries_of a) ≡ true) (e : ascending (entries_of b) ≡ true) where
+  told : (in_order a && in_order b) ≡ true
+  told = first_told k.whole e ∙ d
 
-  pub second_descends : ascending (entries_of b) ≡ false → Needs a b out_of_order
-  second_descends z = away a b (rw (whole b k.whole.second, z) (and-false (in_order a)))
-
-  pub all_second : {x : Scanned} {limit : ℕ} → v < u → ascending (entries_of b) ≡ true → limit ≡ v + 1 → Scans (entries_of a) limit x
-      → Needs a b (both (length b / 7) x)
-  all_second {x} {limit} l o w s =
-      by_scan a b (length b / 7) x (first_told k.whole o ∙ sym s.ascends) (λ r.
+  pub all_second : {x : ℕ} → v < u → x ≡ below (v + 1) (entries_of a)
+      → ((in_order a && in_order b) ≡ true) × (length b / 7 + x ≡ length (merge_of a b).merged)
+  all_second {x} l s =
       let i = second_used_up (entries_of a) (entries_of b) (length a / 7) (length b / 7) (sym (entries_long a)) (sym (entries_long b))
       (omega (arith, k.some.0)) (omega (arith, k.some.1)) (omega (arith, k.first, k.second)) in
-      let c : x.below ≡ first_count (entries_of a) (entries_of b) =
-      s.counts r ∙ ap (λ (t : ℕ). below t (entries_of a)) (w ∙ ap (λ (t : ℕ). t + 1) k.second) ∙ sym i.0 in
-      omega (arith, i.1, count_is (entries_of a) (entries_of b) (sym s.ascends ∙ r) o))
+      let c : x ≡ first_count (entries_of a) (entries_of b) =
+      s ∙ ap (λ (t : ℕ). below (t + 1) (entries_of a)) k.second ∙ sym i.0 in
+      (told, omega (arith, i.1, count_is (entries_of a) (entries_of b) d e))
 
-  pub all_first : {x : Scanned} {limit : ℕ} → u ≤ v → ascending (entries_of a) ≡ true → limit ≡ u → Scans (entries_of b) limit x
-      → Needs a b (both (length a / 7) x)
-  all_first {x} {limit} l o w s =
-      by_scan a b (length a / 7) x (second_told k.whole o ∙ sym s.ascends) (λ r.
+  pub all_first : {x : ℕ} → u ≤ v → x ≡ below u (entries_of b)
+      → ((in_order a && in_order b) ≡ true) × (length a / 7 + x ≡ length (merge_of a b).merged)
+  all_first {x} l s =
       let i = first_used_up (entries_of a) (entries_of b) (length a / 7) (length b / 7) (sym (entries_long a)) (sym (entries_long b))
       (omega (arith, k.some.0)) (omega (arith, k.some.1)) (omega (arith, k.first, k.second)) in
-      let c : x.below ≡ second_count (entries_of a) (entries_of b) =
-      s.counts r ∙ ap (λ (t : ℕ). below t (entries_of b)) (w ∙ k.first) ∙ sym i.1 in
-      omega (arith, i.0, count_is (entries_of a) (entries_of b) o (sym s.ascends ∙ r)))
+      let c : x ≡ second_count (entries_of a) (entries_of b) = s ∙ ap (λ (t : ℕ). below t (entries_of b)) k.first ∙ sym i.1 in
+      (told, omega (arith, i.0, count_is (entries_of a) (entries_of b) d e))

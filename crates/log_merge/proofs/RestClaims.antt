@@ -2,7 +2,7 @@
 -- definition leaves.
 use Rattle.std.specs.Prelude.{◌-◌, ◌*◌, ◌≤◌, ◌≡◌, ◌&&◌, ◌∷◌, ◌++◌, ◌⊎◌, if◌then◌else◌}
 use Rattle.model.specs.Prelude.{ℕ, suc, arith, refl, sym, ap, ◌∙◌, Bool, true, false, true≢false, false≢true, not}
-use Rattle.model.specs.Prelude.{Option, none, some, List, [], append-nil, inl, inr, length, drop}
+use Rattle.model.specs.Prelude.{Option, None, Some, List, [], append-nil, inl, inr, length, drop}
 use Rattle.model.specs.Prelude.{length-drop}
 use Rattle.model.specs.declared.Refusal.TheVariants.{LogOutOfOrder}
 use Rattle.model.specs.{declared.{InvalidUse.InvalidUse, PendingTransition.PendingTransition, Refusal.Refusal}}
@@ -12,19 +12,19 @@ use Rattle.texture_barrier.specs.Entries.{entries_of, entries_drop}
 use Rattle.log_merge.specs.{declared.Rest.Rest, Merge.{merge_of, rest_of, first_count, second_count}}
 use Rattle.log_merge.specs.{Claims.one_used_up, Rest.in_order_lem}
 use Rattle.log_merge.proofs.ClosedForm.{left_is, first_few, second_few}
-use Rattle.log_merge.specs.Calls.{in_order, merge_checks, end_of, rest_from, merging_logs, which_of}
+use Rattle.log_merge.specs.Calls.{in_order, merge_checks, end_of, rest_from, merging_logs, which_of, begins_at}
 
 -- ---- It is the definition's
-not_refused : (f : Option Refusal) (third : Log) (was : Rest) (o : Logged Rest) → (unless_logged f third was o).answer ≡ done → f ≡ none
-not_refused none third was o e = refl
-not_refused (some r) third was o e = absurd (true≢false (ap (λ (x : Answer InvalidUse). is_refused (outcome_of x)) e))
+not_refused : (f : Option Refusal) (third : Log) (was : Rest) (o : Logged Rest) → (unless_logged f third was o).answer ≡ done → f ≡ None
+not_refused None third was o e = refl
+not_refused (Some r) third was o e = absurd (true≢false (ap (λ (x : Answer InvalidUse). is_refused (outcome_of x)) e))
 
 -- where no check fails both logs are in order
-second_passes : (x : Check) (b : Bool) (r : Refusal) (cs : List Check) → first_failing (x ∷ check (not b) r ∷ cs) ≡ none → b ≡ true
+second_passes : (x : Check) (b : Bool) (r : Refusal) (cs : List Check) → first_failing (x ∷ check (not b) r ∷ cs) ≡ None → b ≡ true
 unfolding first_failing
 second_passes x b r cs e = go x.fails b e
   where
-    go : (v w : Bool) → (if v then some x.answer else if not w then some r else first_failing cs) ≡ none → w ≡ true
+    go : (v w : Bool) → (if v then Some x.answer else if not w then Some r else first_failing cs) ≡ None → w ≡ true
     go true w e = absurd (false≢true (ap accepted e))
     go false true e = refl
     go false false e = absurd (false≢true (ap accepted e))
@@ -46,7 +46,7 @@ tail_is a k s e h q =
     rw z (entries_drop a k (omega arith)) ∙ sym q
 
 pub rest_is : (a b : List ℕ) (third : Log) → (merging_logs a b third).answer ≡ done
-    → entries_of (drop (merging_logs a b third).after.from (which_of (merging_logs a b third).after.first a b)) ≡ rest_of (merge_of a b)
+    → entries_of (drop (begins_at (merging_logs a b third).after) (which_of (merging_logs a b third).after a b)) ≡ rest_of (merge_of a b)
 unfolding merging_logs
 rest_is a b third e =
     let f = not_refused (first_failing (merge_checks a b third)) third (end_of b) _ e in
@@ -61,7 +61,7 @@ rest_is a b third e =
   where
     go : (s t : List PendingTransition) → entries_of (drop (length a - 7 * length s) a) ≡ s
         → entries_of (drop (length b - 7 * length t) b) ≡ t
-        → (s ≡ []) ⊎ (t ≡ []) → entries_of (drop (rest_from s t a b).from (which_of (rest_from s t a b).first a b)) ≡ s ++ t
+        → (s ≡ []) ⊎ (t ≡ []) → entries_of (drop (begins_at (rest_from s t a b)) (which_of (rest_from s t a b) a b)) ≡ s ++ t
     go [] t x y u = y
     go (c ∷ s) [] x y u = x ∙ sym (append-nil (c ∷ s))
     go (c ∷ s) (d ∷ t) x y (inl z) = absurd (let n : suc (length s) ≡ 0 = ap length z in omega arith)

@@ -1,14 +1,15 @@
 -- THE CONTRACTS: the call on borrowed numbers. `merging_logs` is what it answers, `MergesLogs` and `HandsOver` what becomes of what is
 -- borrowed.
-use Rattle.std.specs.Prelude.{◌+◌, ◌-◌, ◌*◌, ◌%◌, ◌≡◌, ◌&&◌, ◌∷◌}
-use Rattle.model.specs.Prelude.{ℕ, Bool, true, false, not, List, [], eqb, length, drop, min}
-use Rattle.model.specs.{declared.Refusal.TheVariants.LogOutOfOrder, declared.Outcome.TheVariants.{Done, Refused, Conflict}}
-use Rattle.model.specs.declared.{Answered.Answered, LogHead.LogHead, Outcome.Outcome, PendingTransition.PendingTransition, Refusal.Refusal}
-use Rattle.model.specs.{Refusals.{Check, check, first_failing, number_of}, Calls.done}
-use Rattle.model.specs.Log.{Log, Logged, added, head_check, free_check, unless_logged, is_refused, outcome_of}
+use Rattle.std.specs.Prelude.{◌+◌, ◌-◌, ◌*◌, ◌%◌, ◌≡◌, ◌&&◌, ◌∷◌, IfOk}
+use Rattle.model.specs.Prelude.{ℕ, Bool, true, not, Result, Ok, Err, List, [], eqb, length, drop, min}
+use Rattle.model.specs.{declared.Refusal.TheVariants.LogOutOfOrder, declared.CallError.TheVariants.Refused}
+use Rattle.model.specs.declared.{LogHead.LogHead, PendingTransition.PendingTransition, Refusal.Refusal}
+use Rattle.model.specs.{Refusals.{Check, check, first_failing}, Calls.done}
+use Rattle.model.specs.Log.{Answered, Log, Logged, Outcome, added, head_check, free_check, unless_logged, is_refused}
 use Rattle.texture_barrier.specs.Entries.{entries_of}
 use Rattle.log_head.specs.Log.{log_of, Logs}
-use Rattle.log_merge.specs.{declared.{MergedAt.MergedAt, Rest.Rest}, Merge.{Merge, merge_of, ascending}}
+use Rattle.log_merge.specs.{declared.{Merged.Merged, Rest.Rest}, Merge.{Merge, merge_of, ascending}}
+use Rattle.log_merge.specs.declared.Rest.TheVariants.{First, Second}
 use Rattle.std.specs.Borrow.{Bor}
 
 -- ---- The call
@@ -23,12 +24,12 @@ merge_checks a b third =
 
 -- "the empty end of the second"
 abbrev pub end_of : List ℕ → Rest
-end_of b = record { first = false; from = length b }
+end_of b = Second (length b)
 
 -- "the rest of the other log": the last numbers of the first, if any of its entries are left, otherwise of the second
 abbrev pub rest_from : List PendingTransition → List PendingTransition → List ℕ → List ℕ → Rest
-rest_from [] t a b = record { first = false; from = length b - 7 * length t }
-rest_from (e ∷ s) t a b = record { first = true; from = length a - 7 * length (e ∷ s) }
+rest_from [] t a b = Second (length b - 7 * length t)
+rest_from (e ∷ s) t a b = First (length a - 7 * length (e ∷ s))
 
 abbrev pub rest_at : Merge → List ℕ → List ℕ → Rest
 rest_at m a b = rest_from m.first m.second a b
@@ -40,9 +41,15 @@ merging_logs a b third =
     unless_logged (first_failing (merge_checks a b third)) third (end_of b)
     (record { answer = done; log = added (merge_of a b).merged third; after = rest_at (merge_of a b) a b })
 
--- turned away: the head stays
-abbrev pub turned_away : Refusal → List ℕ → LogHead → MergedAt
-turned_away r b h = record { merged = record { outcome = Refused r; rest = end_of b }; head = h }
+-- as the code answers it, which was told the head h: turned away, the head stays
+abbrev pub told : LogHead → Result Merged Refusal → Answered
+told h (Ok m) = record { outcome = Ok tt; head = m.head }
+told h (Err r) = record { outcome = Err (Refused r); head = h }
+
+-- and the rest that it tells: turned away, "the empty end of the second"
+abbrev pub rest_told : List ℕ → Result Merged Refusal → Rest
+rest_told b (Ok m) = m.rest
+rest_told b (Err r) = end_of b
 
 -- THE CONTRACT of the call by value: a, b are the two logs, l the third's numbers and h its head
 pub record MergesLogs (a b : List ℕ) (h : LogHead) (l : List ℕ) (x : Answered) (r : Rest) (l' : List ℕ) : Type 0 where
@@ -58,29 +65,32 @@ pub record PartOf (s : Bor (List ℕ)) (from : ℕ) (r : Bor (List ℕ)) : Type 
   pub block : r.ref_ptr.0 ≡ s.ref_ptr.0
   pub place : r.ref_ptr.1 ≡ s.ref_ptr.1 + 4 * from
 
--- of two the first, or the second
-abbrev pub which_of : {A : Type 0} → Bool → A → A → A
-which_of true a b = a
-which_of false a b = b
+-- of two the one that a rest is of
+abbrev pub which_of : {A : Type 0} → Rest → A → A → A
+which_of (First n) a b = a
+which_of (Second n) a b = b
+
+-- the number of it that the rest begins at
+abbrev pub begins_at : Rest → ℕ
+begins_at (First n) = n
+begins_at (Second n) = n
 
 -- THE CONTRACT of `rest_of`: a part that would begin past its log's end begins there
 abbrev pub RestOf : Bor (List ℕ) → Bor (List ℕ) → Rest → Bor (List ℕ) → Type 0
-RestOf a b x r = let s = which_of x.first a b in PartOf s (min x.from (length s.now)) r
+RestOf a b x r = let s = which_of x a b in PartOf s (min (begins_at x) (length s.now)) r
 
--- an outcome as one number: 0 where it is done, otherwise the refusal's. A merge of logs meets no conflict
-abbrev pub number_told : Outcome → ℕ
-number_told Done = 0
-number_told (Refused r) = number_of r
-number_told (Conflict c) = 0
+-- what a call that hands over a rest answers
+abbrev pub handed : {A : Type 0} → Result A Refusal → Outcome
+handed (Ok r) = Ok tt
+handed (Err r) = Err (Refused r)
 
--- what a call that comes to c hands over: written and free are the third's head after it, n is the number of its outcome
-pub record HandedOver (c : Logged Rest) (a b : Bor (List ℕ)) (l : List ℕ) (written free n : ℕ)
-    (r : Bor (List ℕ)) (l' : List ℕ) : Type 0 where
-  pub number : n ≡ number_told (outcome_of c.answer)
-  pub log : Logs c l (record { outcome = outcome_of c.answer; head = record { written = written; free = free } }) l'
-  pub kept : (n ≡ 0 → ⊥) → l' ≡ l
-  pub rest : PartOf (which_of c.after.first a b) c.after.from r
+-- what a call that comes to c hands over: h' is the third's head after it
+pub record HandedOver (c : Logged Rest) (a b : Bor (List ℕ)) (l : List ℕ) (h' : LogHead) (x : Result (Bor (List ℕ)) Refusal)
+    (l' : List ℕ) : Type 0 where
+  pub log : Logs c l (record { outcome = handed x; head = h' }) l'
+  pub kept : is_refused (handed x) ≡ true → l' ≡ l
+  pub rest : IfOk x (PartOf (which_of c.after a b) (begins_at c.after))
 
 -- THE CONTRACT of the call that hands over the rest itself
-abbrev pub HandsOver : Bor (List ℕ) → Bor (List ℕ) → LogHead → List ℕ → ℕ → ℕ → ℕ → Bor (List ℕ) → List ℕ → Type 0
+abbrev pub HandsOver : Bor (List ℕ) → Bor (List ℕ) → LogHead → List ℕ → LogHead → Result (Bor (List ℕ)) Refusal → List ℕ → Type 0
 HandsOver a b h l = HandedOver (merging_logs a.now b.now (log_of l h)) a b l

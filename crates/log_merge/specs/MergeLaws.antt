@@ -94,7 +94,7 @@ pub below_more : (k : ℕ) (a : PendingTransition) (s : List PendingTransition) 
 unfolding below
 below_more k a s h = rw (lt-ltb (index_of a) k h) (omega arith)
 
-one_few : (b : Bool) → one b ≤ 1
+pub one_few : (b : Bool) → one b ≤ 1
 one_few true = omega arith
 one_few false = omega arith
 

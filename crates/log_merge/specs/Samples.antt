@@ -2,6 +2,7 @@
 use Rattle.model.specs.Prelude.{ℕ, refl, true, false, []}
 use Rattle.model.specs.{declared.PendingTransition.PendingTransition, Refusals.tracker_index, Representation.select}
 use Rattle.std.specs.Prelude.{◌≡◌, ◌∷◌}
+use Rattle.log_merge.specs.declared.Rest.TheVariants.{Second}
 use Rattle.texture_barrier.specs.Entries.{read, entries_of}
 use Rattle.log_merge.specs.{Merge.{merge, ahead, rises_from, below, last_of, first_count, second_count}, Calls.{rest_at, in_order}}
 
@@ -36,7 +37,7 @@ unfolding merge
 one_empty = refl
 
 -- both are empty: "the empty end of the second"
-pub both_empty : rest_at (merge [] []) [] [] ≡ record { first = false; from = 0 }
+pub both_empty : rest_at (merge [] []) [] [] ≡ Second 0
 unfolding merge
 both_empty = refl
 

@@ -1,19 +1,8 @@
--- What the merge itself does: an entry moved, and all of them until one log is used up.
-use Rattle.model.specs.Prelude.{ℕ, List, [], length, get_or, sets}
-use Rattle.std.specs.Prelude.{◌+◌, ◌*◌, ◌%◌, ◌≤◌, ◌≡◌, ◌∷◌}
+-- What the merge itself does: the entries of two logs written until one of them is used up.
+use Rattle.model.specs.Prelude.{ℕ, List, length}
+use Rattle.std.specs.Prelude.{◌+◌, ◌*◌, ◌%◌, ◌≤◌, ◌≡◌}
 use Rattle.texture_barrier.specs.Entries.{Added}
 use Rattle.log_merge.specs.{declared.Rest.Rest, Merge.merge_of, Calls.rest_at}
-
--- the seven numbers of a log from a place on
-abbrev pub seven_from : List ℕ → ℕ → List ℕ
-seven_from l at =
-    get_or l at 0 ∷ get_or l (at + 1) 0 ∷ get_or l (at + 2) 0 ∷ get_or l (at + 3) 0 ∷ get_or l (at + 4) 0
-    ∷ get_or l (at + 5) 0 ∷ get_or l (at + 6) 0 ∷ []
-
--- they are written to the place `to` of the third log t
-pub record Moves (l : List ℕ) (from : ℕ) (t : List ℕ) (to : ℕ) (t' : List ℕ) : Type 0 where
-  pub content : t' ≡ sets t to (seven_from l from)
-  pub long : length t' ≡ length t
 
 -- two logs of whole entries, and room for those that are merged, after the third's first n entries
 pub record Weavable (a b l : List ℕ) (n : ℕ) : Type 0 where

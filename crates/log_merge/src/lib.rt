@@ -5,8 +5,7 @@
 //
 //     order    the pass over a log that looks for a descent, and how many entries a merge writes
 //     weave    the merge itself: one comparison an entry, which moves as seven numbers
-//     calls    `merge_at`, by value; `rest_of`, the part of a log that an answer tells; `hand_over`, that part and the number of the
-//              outcome; `merge_logs`, all in one call
+//     calls    `merge_at`, by value; `rest_of`, the part of a log that an answer tells; `merge_logs`, both in one call
 //
 // What holds: specs/Merge is the definition, specs/Claims, proofs/ClosedForm and proofs/RestClaims what is proved of it, and specs/Calls
 // the contracts. Nothing is required of a caller. Whether there is room (15) is known before anything is written, by the closed form of how
@@ -17,26 +16,19 @@ pub mod calls;
 mod order;
 mod weave;
 
-pub use calls::{hand_over, merge_at, merge_logs, rest_of};
-use model::{LogHead, Outcome};
+pub use calls::{merge_at, merge_logs, rest_of};
+use model::LogHead;
 
-// What is left of one of the two logs: the first's numbers from `from` on, otherwise the second's.
+// What is left of one of the two logs: its numbers from there on.
 #[derive(Clone, Copy)]
-pub struct Rest {
-    pub first: bool,
-    pub from: usize,
+pub enum Rest {
+    First(usize),
+    Second(usize),
 }
 
-// What a merge of two logs tells: the outcome, and the rest.
+// What a merge of two logs tells: the rest, and the head of the third log after it.
 #[derive(Clone, Copy)]
 pub struct Merged {
-    pub outcome: Outcome,
     pub rest: Rest,
-}
-
-// What it answers: what it tells, and the head of the third log after it.
-#[derive(Clone, Copy)]
-pub struct MergedAt {
-    pub merged: Merged,
     pub head: LogHead,
 }

@@ -1,14 +1,15 @@
 -- The model's `barrier` of a stored texture, by what its word tells: Many, or one state.
-use Rattle.model.specs.Prelude.{ℕ, arith, refl, Bool, true, false, List, [], get_or}
-use Rattle.model.specs.{declared.{Range.Range, Selector.Selector, Extent.Extent, UsageFlags.UsageFlags}, Base.each_at}
-use Rattle.model.specs.{Representation.{full, mip_start, mip_end}, StateRules.move_of, CheckLaws.SelectorWithin}
-use Rattle.model.specs.Texture.{Given, given_single, given_many, from_held, single, many, entry, barrier}
-use Rattle.std.specs.Prelude.{◌+◌, ◌-◌, ◌≡◌, ◌∷◌, if◌then◌else◌}
+use Rattle.model.specs.Prelude.{ℕ, arith, Option, None, Some, List, [], get_or}
+use Rattle.model.specs.{declared.{Selector.Selector, Extent.Extent, UsageFlags.UsageFlags}, StateRules.move_of, RangedStates.range}
+use Rattle.model.specs.{Representation.{full, mip_start, mip_end, layer_start, layer_end}, CheckLaws.SelectorWithin}
+use Rattle.model.specs.Texture.{given_single, given_many, from_held, many, entry, barrier}
+use Rattle.std.specs.Option.{unwrap_or}
+use Rattle.std.specs.Prelude.{◌+◌, ◌-◌, ◌≡◌, ◌∷◌}
 use Rattle.set_storage.specs.{Storage.{numbers_of, mip_of, list_from, held_of, complex_at}, Slots.{held_many, held_single}}
 use Rattle.set_storage.specs.Texture.{TextureHeld, texture_mips}
-use Rattle.texture_barrier.specs.{declared.mip.Step.TheVariants.From, Steps.step_entries}
-use Rattle.texture_barrier.specs.Textures.{piece, step_of, single_to_state, many_to_state, single_to_piece, many_to_piece, single_to_many}
-use Rattle.texture_barrier.specs.{Textures.many_to_many, Ready.{mips_entries, pair_entries}}
+use Rattle.texture_barrier.specs.{Steps.{to_state, from_state, within, against, step_entries}, Ready.mips_entries}
+use Rattle.texture_barrier.specs.Textures.{piece, single_to_state, many_to_state, single_to_piece, many_to_piece, single_to_many}
+use Rattle.texture_barrier.specs.Textures.{many_to_many, given_part}
 
 -- its word w against COMPLEX, with the flags as the code read them
 module _ {f g : UsageFlags} {w : ℕ} (e : f ≡ g) where
@@ -28,28 +29,27 @@ is_many_lem {h} {t} {r} {i} {sh} q c =
 module _ {h : ℕ} {t r : List ℕ} {i : ℕ} {sh : Extent} (q : TextureHeld (numbers_of t) h t r i sh) where
   module _ (p : UsageFlags) (mask : ℕ) where
     -- ---- a state is given: of all of the texture, or of what a selector names
-    module _ (all : Bool) (s : Selector) (new : ℕ) (w : SelectorWithin sh s) (e : all ≡ true → s ≡ full sh) where
-      abbrev used : Bool → Given
-      used b = if b then given_single new else given_many (piece s new ∷ [])
+    pub use_single : (part : Option Selector) (new : ℕ) → (get_or t (h + i) 0 ≡ get_or t complex_at 0 → ⊥)
+        → barrier p mask sh (held_of (numbers_of t) h t r i) (given_part part new)
+        ≡ entry (unwrap_or part (full sh)) (move_of p.unknown mask (get_or t (h + i) 0) new)
+    use_single None new c =
+        rw (held_single (numbers_of t) h t r i c) (single_to_state p mask sh (get_or t (h + i) 0) new)
+    use_single (Some s) new c =
+        rw (held_single (numbers_of t) h t r i c) (single_to_piece p mask sh (get_or t (h + i) 0) new s)
 
-      pub use_single : (get_or t (h + i) 0 ≡ get_or t complex_at 0 → ⊥)
-          → barrier p mask sh (held_of (numbers_of t) h t r i) (used all) ≡ entry s (move_of p.unknown mask (get_or t (h + i) 0) new)
-      use_single c = let x = get_or t (h + i) 0 in rw (held_single (numbers_of t) h t r i c) (go x all e)
-        where
-          go : (x : ℕ) (b : Bool) → (b ≡ true → s ≡ full sh)
-              → barrier p mask sh (single x) (used b) ≡ entry s (move_of p.unknown mask x new)
-          go x true z = rw (z refl) (single_to_state p mask sh x new)
-          go x false z = single_to_piece p mask sh x new s
+    module _ (c : get_or t (h + i) 0 ≡ get_or t complex_at 0) (new : ℕ) where
+      pub all_many : barrier p mask sh (held_of (numbers_of t) h t r i) (given_single new)
+          ≡ mips_entries (step_entries (to_state new p.unknown mask)) (mip_of (numbers_of t) h t r i) 0 sh.mips
+      all_many =
+          let n : sh.mips - 0 ≡ sh.mips = omega arith in
+          rw (is_many_lem q c, n) (many_to_state p mask sh (list_from (mip_of (numbers_of t) h t r i) 0 sh.mips) new)
 
-      pub use_many : get_or t (h + i) 0 ≡ get_or t complex_at 0 → barrier p mask sh (held_of (numbers_of t) h t r i) (used all)
-          ≡ mips_entries (step_entries p.unknown mask (step_of all s new)) h t r i (mip_start s) (mip_end s)
-      use_many c = rw (is_many_lem q c) (go (mip_of (numbers_of t) h t r i) all e)
-        where
-          go : (G : ℕ → List Range) (b : Bool) → (b ≡ true → s ≡ full sh) → barrier p mask sh (many (list_from G 0 sh.mips)) (used b)
-              ≡ each_at (step_entries p.unknown mask (step_of b s new)) (mip_start s) (list_from G (mip_start s) (mip_end s - mip_start s))
-          go G true z =
-              let n : sh.mips - 0 ≡ sh.mips = omega arith in rw (z refl, n) (many_to_state p mask sh (list_from G 0 sh.mips) new)
-          go G false z = many_to_piece p mask sh G sh.mips new s (omega (arith, w.order)) w.in_mips
+      pub part_many : (s : Selector) → SelectorWithin sh s
+          → barrier p mask sh (held_of (numbers_of t) h t r i) (given_many (piece s new ∷ []))
+          ≡ mips_entries (step_entries (within (range (layer_start s) (layer_end s) new) p.unknown mask))
+          (mip_of (numbers_of t) h t r i) (mip_start s) (mip_end s)
+      part_many s w =
+          rw (is_many_lem q c) (many_to_piece p mask sh (mip_of (numbers_of t) h t r i) sh.mips new s (omega (arith, w.order)) w.in_mips)
 
     -- ---- a given texture: g, u and v are its half, its table and its ranges
     module _ {g : ℕ} {u v : List ℕ} (w : TextureHeld (numbers_of u) g u v i sh) where
@@ -61,7 +61,8 @@ module _ {h : ℕ} {t r : List ℕ} {i : ℕ} {sh : Extent} (q : TextureHeld (nu
       module _ (c : get_or u (g + i) 0 ≡ get_or u complex_at 0) where
         pub given_many_lem : get_or t (h + i) 0 ≡ get_or t complex_at 0
             → barrier p mask sh (held_of (numbers_of t) h t r i) (from_held (held_of (numbers_of u) g u v i))
-            ≡ pair_entries p.unknown mask h t r g u v i sh.mips
+            ≡ mips_entries (step_entries (against (mip_of (numbers_of t) h t r i) p.unknown mask))
+            (mip_of (numbers_of u) g u v i) 0 sh.mips
         given_many_lem e =
             let z : sh.mips - 0 ≡ sh.mips = omega arith in
             rw (is_many_lem w c, is_many_lem q e, z)
@@ -69,7 +70,8 @@ module _ {h : ℕ} {t r : List ℕ} {i : ℕ} {sh : Extent} (q : TextureHeld (nu
 
         pub given_from : (get_or t (h + i) 0 ≡ get_or t complex_at 0 → ⊥)
             → barrier p mask sh (held_of (numbers_of t) h t r i) (from_held (held_of (numbers_of u) g u v i))
-            ≡ mips_entries (step_entries p.unknown mask (From (get_or t (h + i) 0))) g u v i 0 sh.mips
+            ≡ mips_entries (step_entries (from_state (get_or t (h + i) 0) p.unknown mask))
+            (mip_of (numbers_of u) g u v i) 0 sh.mips
         given_from e =
             let z : sh.mips - 0 ≡ sh.mips = omega arith in
             rw (is_many_lem w c, held_single (numbers_of t) h t r i e, z)

@@ -1,9 +1,9 @@
--- One transition in the log: not made, made and counted, made and written.
-use Rattle.std.specs.Prelude.{◌+◌, ◌*◌, ◌≤◌, ◌≡◌}
-use Rattle.model.specs.Prelude.{ℕ, arith, refl, Bool, true, false, List, length}
+-- One transition in the log: not made, or made and written.
+use Rattle.std.specs.Prelude.{◌≡◌}
+use Rattle.model.specs.Prelude.{ℕ, arith, refl, Bool, true, false, List}
 use Rattle.model.specs.{declared.{PendingTransition.PendingTransition, Selector.Selector}, Refusals.tracker_index, StateRules.move_of}
 use Rattle.model.specs.Texture.{entry}
-use Rattle.texture_barrier.specs.{Entries.{flatten, PutEntry}, Adds.{entries_at, RoomFor, Adds, adds_none}}
+use Rattle.texture_barrier.specs.{Entries.{flatten, PutEntry}, Adds.{entries_at, Adds, adds_none}}
 use Rattle.texture_barrier.specs.Steps.{is_made, entry_yes, entry_no}
 
 module _ (q : Selector) (unknown mask old new : ℕ) (i : ℕ) (write : Bool) (l : List ℕ) (n : ℕ) where
@@ -15,13 +15,6 @@ module _ (q : Selector) (unknown mask old new : ℕ) (i : ℕ) (write : Bool) (l
   move_none h = rw (entry_no q unknown mask old new h) (adds_none 1 write l n)
 
   module _ (made : is_made (move_of unknown mask old new) ≡ true) where
-    pub move_counted : write ≡ false → Adds 1 write l n moved 1 l
-    move_counted w = rw (w, entry_yes q unknown mask old new made) record { count = refl; few = omega arith; content = refl; long = refl }
-
-    pub move_room : write ≡ true → RoomFor write l n moved → 7 * n + 7 ≤ length l
-    move_room w room =
-        let h : 7 * (n + 1) ≤ length l = rw (entry_yes q unknown mask old new made) at (room w) in omega arith
-
     pub move_written : write ≡ true → {l' : List ℕ}
         → PutEntry l n (record { index = tracker_index i; selector = q; old = old; new = new }) l' → Adds 1 write l n moved 1 l'
     unfolding flatten

@@ -1,20 +1,30 @@
 -- The model's `barrier` of one texture, by cases, as the code adds its entries mip by mip.
 use Rattle.std.specs.Prelude.{◌-◌, ◌≤◌, ◌<◌, ◌≡◌, ◌&&◌, ◌∷◌, if◌then◌else◌}
-use Rattle.model.specs.Prelude.{ℕ, suc, arith, refl, ◌∙◌, Bool, true, false, List, [], map, append-nil, leb}
+use Rattle.model.specs.Prelude.{ℕ, suc, arith, refl, ◌∙◌, Bool, true, false, Option, None, Some, List, [], map, append-nil, leb}
 use Rattle.model.specs.Prelude.{le-leb, lt-leb, lt-ltb, le-ltb}
 use Rattle.model.specs.declared.{PendingTransition.PendingTransition, Range.Range, Selector.Selector, Extent.Extent, UsageFlags.UsageFlags}
 use Rattle.model.specs.{Base.{each, each_at}, Refusals.tracker_index, RangedStates.range}
 use Rattle.model.specs.{Representation.{select, full, mip_start, mip_end, layer_start, layer_end, in_mips}, StateRules.move_of}
 use Rattle.model.specs.Texture.{single, many, Piece, Given, given_single, given_many, pieces_of, Entry, entry, barrier}
+use Rattle.model.specs.CheckLaws.{SelectorWithin}
 use Rattle.model.specs.ListLaws.{each_map, each_at_lem, each_ext, at_ext}
 use Rattle.set_storage.specs.Storage.{numbers_of, end_half, held_of, list_from}
-use Rattle.texture_barrier.specs.{declared.transition.Task.Task, declared.mip.Step.Step}
-use Rattle.texture_barrier.specs.{declared.mip.Step.TheVariants.{To, Within, From}, Adds.entries_at}
-use Rattle.texture_barrier.specs.{Steps.{step_entries, to_ranges, to_state_in, within_is}, Mips.{mips_same, mips_only, mips_one}}
+use Rattle.texture_barrier.specs.{declared.transition.Task.Task, Adds.entries_at, Mips.{mips_same, mips_only, mips_one}}
+use Rattle.texture_barrier.specs.Steps.{to_state, from_state, within, against, step_entries, to_state_in, within_is}
 
 -- a state of what a selector names, as it is given
 abbrev pub piece : Selector → ℕ → Piece
 piece q st = record { selector = q; state = st }
+
+-- a state of all of a texture, or of the part that a selector names
+abbrev pub given_part : Option Selector → ℕ → Given
+given_part None new = given_single new
+given_part (Some q) new = given_many (piece q new ∷ [])
+
+-- the part lies within the texture
+abbrev pub PartWithin : Extent → Option Selector → Type 0
+PartWithin sh None = Unit {0}
+PartWithin sh (Some q) = SelectorWithin sh q
 
 -- the transitions from a tracker's end of texture i to what is given
 abbrev pub barrier_at : UsageFlags → ℕ → Extent → List ℕ → List ℕ → ℕ → Given → List PendingTransition
@@ -23,10 +33,6 @@ barrier_at p mask sh t e i g = entries_at i (barrier p mask sh (held_of (numbers
 -- what stays the same while the transitions of texture i are logged
 abbrev pub task_of : ℕ → UsageFlags → ℕ → Bool → Task
 task_of i p mask write = record { index = tracker_index i; unknown = p.unknown; mask = mask; write = write }
-
--- what is done with each range of the mips of q
-abbrev pub step_of : Bool → Selector → ℕ → Step
-step_of all q new = if all then To new else Within (range (layer_start q) (layer_end q) new)
 
 -- a range of mip k, handed on
 abbrev range_piece : ℕ → Range → Piece
@@ -58,7 +64,7 @@ module _ (p : UsageFlags) (mask : ℕ) (sh : Extent) where
   single_to_state cur new = refl
 
   pub many_to_state : (ss : List (List Range)) (new : ℕ)
-      → barrier p mask sh (many ss) (given_single new) ≡ each_at (step_entries p.unknown mask (To new)) 0 ss
+      → barrier p mask sh (many ss) (given_single new) ≡ each_at (step_entries (to_state new p.unknown mask)) 0 ss
   unfolding barrier
   many_to_state ss new = refl
 
@@ -68,32 +74,32 @@ module _ (p : UsageFlags) (mask : ℕ) (sh : Extent) where
   single_to_piece cur new q = append-nil _
 
   pub single_to_many : (cur : ℕ) (gs : List (List Range))
-      → barrier p mask sh (single cur) (given_many (pieces_of gs)) ≡ each_at (step_entries p.unknown mask (From cur)) 0 gs
+      → barrier p mask sh (single cur) (given_many (pieces_of gs)) ≡ each_at (step_entries (from_state cur p.unknown mask)) 0 gs
   unfolding barrier
   single_to_many cur gs =
       let f : Piece → List Entry = λ q. entry q.selector (move_of p.unknown mask cur q.state) in
       each_at_lem f (λ k. map (range_piece k)) 0 gs
-      ∙ at_ext (λ k s. each f (map (range_piece k) s)) (step_entries p.unknown mask (From cur)) (λ k s.
+      ∙ at_ext (λ k s. each f (map (range_piece k) s)) (step_entries (from_state cur p.unknown mask)) (λ k s.
       each_map f (range_piece k) s) 0 gs
 
   -- ---- a held Many texture, whose mips are G 0, G 1 and so on
   module _ (G : ℕ → List Range) (n : ℕ) where
     pub many_to_piece : (new : ℕ) (q : Selector) → mip_start q ≤ mip_end q → mip_end q ≤ n
         → barrier p mask sh (many (list_from G 0 n)) (given_many (piece q new ∷ []))
-        ≡ each_at (step_entries p.unknown mask (Within (range (layer_start q) (layer_end q) new))) (mip_start q) (list_from G
+        ≡ each_at (step_entries (within (range (layer_start q) (layer_end q) new) p.unknown mask)) (mip_start q) (list_from G
         (mip_start q) (mip_end q - mip_start q))
     unfolding barrier
     many_to_piece new q a b =
         let F = piece_at p.unknown mask (piece q new) in
         append-nil (each_at F 0 (list_from G 0 n))
         ∙ mips_only F G (mip_start q) (mip_end q) n a b (λ x h. rw (under_mips q x h)) (λ x h. rw (past_mips q x h))
-        ∙ mips_same F G (step_entries p.unknown mask (Within (range (layer_start q) (layer_end q) new))) (mip_start q)
+        ∙ mips_same F G (step_entries (within (range (layer_start q) (layer_end q) new) p.unknown mask)) (mip_start q)
         (mip_end q - mip_start q) (λ x h k. rw (in_mips_lem q x h (omega arith))
         (within_is p.unknown mask (range (layer_start q) (layer_end q) new) x (G x)))
 
     -- the piece of one range is on its own mip
     one_mip : (k : ℕ) (g : Range) → k < n
-        → each_at (piece_at p.unknown mask (range_piece k g)) 0 (list_from G 0 n) ≡ step_entries p.unknown mask (Within g) k (G k)
+        → each_at (piece_at p.unknown mask (range_piece k g)) 0 (list_from G 0 n) ≡ each (within g p.unknown mask k) (G k)
     one_mip k g h =
         let q = select k (suc k) g.start g.end in
         mips_one (piece_at p.unknown mask (piece q g.state)) G k n h (λ x b. rw (under_mips q x b)) (λ x b. rw (past_mips q x b))
@@ -101,12 +107,12 @@ module _ (p : UsageFlags) (mask : ℕ) (sh : Extent) where
 
     pub many_to_many : (H : ℕ → List Range)
         → barrier p mask sh (many (list_from G 0 n)) (given_many (pieces_of (list_from H 0 n)))
-        ≡ each_at (λ k s. to_ranges p.unknown mask (G k) k s) 0 (list_from H 0 n)
+        ≡ each_at (step_entries (against G p.unknown mask)) 0 (list_from H 0 n)
     unfolding barrier
     many_to_many H =
         let f : Piece → List Entry = λ q. each_at (piece_at p.unknown mask q) 0 (list_from G 0 n) in
         each_at_lem f (λ k. map (range_piece k)) 0 (list_from H 0 n)
-        ∙ mips_same (λ k s. each f (map (range_piece k) s)) H (λ k s. to_ranges p.unknown mask (G k) k s) 0 n
+        ∙ mips_same (λ k s. each f (map (range_piece k) s)) H (step_entries (against G p.unknown mask)) 0 n
         (λ k a b. each_map f (range_piece k) (H k)
-        ∙ each_ext (λ (r : Range). f (range_piece k r)) (λ (r : Range). step_entries p.unknown mask (Within r) k (G k)) (λ r.
+        ∙ each_ext (λ (r : Range). f (range_piece k r)) (λ (r : Range). each (within r p.unknown mask k) (G k)) (λ r.
         one_mip k r (omega arith)) (H k))

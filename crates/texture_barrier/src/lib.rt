@@ -7,14 +7,14 @@
 //
 //     entries      a log, seven numbers an entry
 //     transition   one transition
-//     mip          the ranges of one mip, each by the same step
+//     mip          the ranges of one mip, each by the same step: a `Step` says what is added for a range
 //     many         a texture that is held, or given, as Many: mip by mip
-//     sources      one texture, to a state of all of it or of what a selector names, to what another set holds
+//     sources      one texture, to a state of all of it or of the part that a selector names, to what another set holds
 //
 // What holds of every function: with es the model's entries, it tells how many es are. With `write` they stand after the first `at` entries
 // of the log and every other number of it is as it was, and without it no number changes; room is required only where they are written
-// (`Adds` and `RoomFor`, specs/Adds). Here only `put_entry` and `get_entry` know where an entry's numbers stand, and above only
-// `log_merge`, which moves whole entries: `entries_of` (specs/Entries) is the view of a log, and through it what is written is the model's
+// (`Adds` and `RoomFor`, specs/Adds). Only `put_entry` and `get_entry` know where an entry's numbers stand, and above `log_merge` knows
+// that they are seven, the index first: `entries_of` (specs/Entries) is the view of a log, and through it what is written is the model's
 // `added`. The bounds in the contracts are crude and are there so that no sum is too large; `log_top` (specs/Steps) is past the entries of
 // any log, so a caller always meets it.
 #![tactic(auto)]

@@ -1,152 +1,132 @@
-// The transitions of one mip, whose ranges stand in a borrowed run of which `len` are in use.
-ghost use Rattle.std.specs.Prelude.{◌≡◌, suc, ◌<◌};
-ghost use Rattle.model.specs.Representation.{select};
+// The transitions of one mip: what is added for each of its ranges.
+ghost use Rattle.std.specs.Prelude.{◌≡◌, ℕ, List, ◌+◌, ◌*◌, ◌^◌, ◌<◌, ◌≤◌, suc, length};
+ghost use Rattle.model.specs.declared.Range.{Range};
+ghost use Rattle.model.specs.Base.{each};
+ghost use Rattle.model.specs.Texture.{Entry};
 ghost use Rattle.range_states.specs.View.{decode};
+ghost use Rattle.texture_barrier.specs.declared.transition.Task.{Task};
 ghost use Rattle.texture_barrier.specs.Adds.{RoomFor, Adds, entries_at};
-ghost use Rattle.texture_barrier.specs.Steps.{RunReady, PairReady, change_of, range_entries, step_entries, to_ranges};
+ghost use Rattle.texture_barrier.specs.Steps.{to_state, from_state, within};
+ghost use Rattle.std.proofs.Common.{rules};
 
-use crate::transition::{Task, log_move};
-use model::{Layer, LayerRange, Mip, MipRange, Range, Selector};
+use crate::transition::Task;
+use model::{Range, Selector};
 use range_states::filtering::{clipped, overlap};
 use range_states::get;
 
-// What is done with each range of a texture that is Many.
-#[derive(Clone, Copy)]
-pub enum Step {
-    // it goes to one state
-    To(u32),
-    // what of it lies within a range goes to that range's state
-    Within(Range),
-    // it is given, and one state goes to its state
-    From(u32),
+// What is added for each range of a texture that is Many.
+pub trait Step {
+    // what is added for a range of a mip
+    ghost entries: { Self → Task → ℕ → Range → List Entry };
+
+    // what is counted on at a mip
+    ghost usable: { Self → ℕ → Type 0 };
+
+    // at most so many entries are added for a range
+    ghost most: { ℕ };
+
+    // Adds what is added for one range.
+    fn log(&self, r: Range, mip: u32, t: Task, log: &mut [u32], at: usize) -> usize
+        requires usable_there { usable self.now mip }
+        requires no_overflow { at + most < 2 ^ 64 }
+        requires room_for { RoomFor t.write log.old at (entries_at t.index.0 (entries self.now t mip r)) }
+        ensures { Adds most t.write log.old at (entries_at t.index.0 (entries self.now t mip r)) result log.new };
+
+    ghost few: { most ≤ 256 };
 }
 
-// What a step makes of a range: whether anything, of which layers, from which state to which.
+// It goes to one state.
 #[derive(Clone, Copy)]
-pub struct Change {
-    pub made: bool,
-    pub start: u32,
-    pub end: u32,
-    pub old: u32,
-    pub new: u32,
-}
+pub struct ToState(pub u32);
 
-// The selector of layers of one mip.
-pub fn on_mip(mip: u32, start: u32, end: u32) -> Selector
-    requires { mip < 16 }
-    ensures { result ≡ select mip (suc mip) start end }
-{
-    Selector {
-        mips: MipRange {
-            start: Mip(mip),
-            end: Mip(mip + 1),
-        },
-        layers: LayerRange {
-            start: Layer(start),
-            end: Layer(end),
-        },
+impl Step for ToState {
+    ghost entries = { λ s t. to_state s.0 t.unknown t.mask };
+
+    ghost usable = { λ _ m. m < 16 };
+
+    ghost most = { 1 };
+
+    fn log(&self, r: Range, mip: u32, t: Task, log: &mut [u32], at: usize) -> usize {
+        let q = Selector::on_mip(mip, r.start, r.end);
+        t.log_move(q, r.state, self.0, log, at)
     }
+
+    ghost few = { Prim.search rules };
 }
 
-// What a step makes of the range r.
-pub fn change_of(step: Step, r: Range) -> Change
-    ensures { result ≡ change_of step r }
-{
-    match step {
-        Step::To(new) => Change {
-            made: true,
-            start: r.start,
-            end: r.end,
-            old: r.state,
-            new,
-        },
-        Step::Within(g) => {
-            let made = overlap(r, g.start, g.end);
-            let c = clipped(r, g.start, g.end);
-            Change {
-                made,
-                start: c.start,
-                end: c.end,
-                old: c.state,
-                new: g.state,
-            }
+// It is given, and one state goes to its state.
+#[derive(Clone, Copy)]
+pub struct FromState(pub u32);
+
+impl Step for FromState {
+    ghost entries = { λ s t. from_state s.0 t.unknown t.mask };
+
+    ghost usable = { λ _ m. m < 16 };
+
+    ghost most = { 1 };
+
+    fn log(&self, r: Range, mip: u32, t: Task, log: &mut [u32], at: usize) -> usize {
+        let q = Selector::on_mip(mip, r.start, r.end);
+        t.log_move(q, self.0, r.state, log, at)
+    }
+
+    ghost few = { Prim.search rules };
+}
+
+// What of it lies within a range goes to that range's state.
+#[derive(Clone, Copy)]
+pub struct Within(pub Range);
+
+impl Step for Within {
+    ghost entries = { λ s t. within s.0 t.unknown t.mask };
+
+    ghost usable = { λ _ m. m < 16 };
+
+    ghost most = { 1 };
+
+    fn log(&self, r: Range, mip: u32, t: Task, log: &mut [u32], at: usize) -> usize {
+        let to = self.0;
+        if !overlap(r, to.start, to.end) {
+            return 0;
         }
-        Step::From(cur) => Change {
-            made: true,
-            start: r.start,
-            end: r.end,
-            old: cur,
-            new: r.state,
-        },
+        let part = clipped(r, to.start, to.end);
+        let q = Selector::on_mip(mip, part.start, part.end);
+        t.log_move(q, part.state, to.state, log, at)
     }
+
+    ghost few = { Prim.search rules };
 }
 
-// A step's transition of one range, if it makes one.
-pub fn log_range(r: Range, step: Step, mip: u32, t: Task, log: &mut [u32], at: usize) -> usize
-    requires mip_bound { mip < 16 }
-    requires room_for { RoomFor t.write log.old at (entries_at t.index.0 (range_entries t.unknown t.mask step mip r)) }
-    ensures { Adds 1 t.write log.old at (entries_at t.index.0 (range_entries t.unknown t.mask step mip r)) result
-        log.new }
-{
-    let c = change_of(step, r);
-    if !c.made {
-        return 0;
-    }
-    let q = on_mip(mip, c.start, c.end);
-    log_move(q, c.old, c.new, t, log, at)
+// The ranges of a mip: the first `len` of a borrowed run.
+#[derive(Clone, Copy)]
+pub struct Run<'a> {
+    pub records: &'a [u32],
+    pub len: usize,
+    ghost inside: { 3 * len ≤ length records.now },
+    ghost few: { len ≤ 256 },
 }
 
-// A step's transitions of the ranges.
-pub fn log_run(
-    run: &[u32],
-    len: usize,
-    step: Step,
-    mip: u32,
-    t: Task,
-    log: &mut [u32],
-    at: usize,
-) -> usize
-    requires run_ready { RunReady run.now len mip at }
-    requires fact { let es = step_entries t.unknown t.mask step mip (decode len run.now) in
-        RoomFor t.write log.old at (entries_at t.index.0 es) }
-    ensures { let es = step_entries t.unknown t.mask step mip (decode len run.now) in
-        Adds 256 t.write log.old at (entries_at t.index.0 es) result log.new }
-{
-    let mut x = 0;
-    let mut k = 0;
-    while k < len {
-        let r = get(run, k);
-        let w = log_range(r, step, mip, t, log, at + x);
-        x += w;
-        k += 1;
+impl Run<'_> {
+    // A step's transitions of the ranges.
+    pub fn log_each<S: Step>(
+        &self,
+        step: &S,
+        mip: u32,
+        t: Task,
+        log: &mut [u32],
+        at: usize,
+    ) -> usize
+        requires usable { S.usable step.now mip }
+        requires no_overflow { at + 256 * S.most < 2 ^ 64 }
+        requires room_for { let es = each (S.entries step.now t mip) (decode self.now.len self.now.records.now) in
+            RoomFor t.write log.old at (entries_at t.index.0 es) }
+        ensures { let es = each (S.entries step.now t mip) (decode self.now.len self.now.records.now) in
+            Adds (256 * S.most) t.write log.old at (entries_at t.index.0 es) result log.new }
+    {
+        let mut added = 0;
+        for k in 0..self.len {
+            added += step.log(get(self.records, k), mip, t, log, at + added);
+        }
+        added
     }
-    x
-}
-
-// The ranges to each given range: what of them lies within it.
-pub fn log_pairs(
-    run: &[u32],
-    len: usize,
-    given: &[u32],
-    many: usize,
-    mip: u32,
-    t: Task,
-    log: &mut [u32],
-    at: usize,
-) -> usize
-    requires pair_ready { PairReady run.now len given.now many mip at }
-    requires fact { let es = to_ranges t.unknown t.mask (decode len run.now) mip (decode many given.now) in
-        RoomFor t.write log.old at (entries_at t.index.0 es) }
-    ensures { let es = to_ranges t.unknown t.mask (decode len run.now) mip (decode many given.now) in
-        Adds 65536 t.write log.old at (entries_at t.index.0 es) result log.new }
-{
-    let mut x = 0;
-    let mut k = 0;
-    while k < many {
-        let r = get(given, k);
-        let w = log_run(run, len, Step::Within(r), mip, t, log, at + x);
-        x += w;
-        k += 1;
-    }
-    x
 }

@@ -2,39 +2,22 @@
 //
 // A texture is held as Many where its word tells COMPLEX (the tracker's table and the given one each have the word), otherwise the word
 // is its one state.
-ghost use Rattle.std.specs.Prelude.{◌≡◌, true, [], ◌∷◌, ◌≤◌, ◌<◌};
-ghost use Rattle.std.specs.Prelude.{if◌then◌else◌};
+ghost use Rattle.std.specs.Prelude.{◌≡◌, ◌≤◌, ◌<◌};
 ghost use Rattle.model.specs.CheckLaws.{SelectorWithin};
 ghost use Rattle.model.specs.Representation.{full as full_of};
 ghost use Rattle.model.specs.StateRules.{move_of};
-ghost use Rattle.model.specs.Texture.{given_single, given_many, from_held, entry};
+ghost use Rattle.model.specs.Texture.{from_held, entry};
 ghost use Rattle.set_storage.specs.Storage.{numbers_of, end_half, held_of};
 ghost use Rattle.texture_barrier.specs.Adds.{RoomFor, Adds, entries_at};
 ghost use Rattle.set_storage.specs.Texture.{TextureHeld};
 ghost use Rattle.texture_barrier.specs.Steps.{log_top};
-ghost use Rattle.texture_barrier.specs.Textures.{piece, task_of, step_of, barrier_at};
+ghost use Rattle.texture_barrier.specs.Textures.{given_part, task_of, barrier_at, PartWithin};
 
-use crate::many::{log_mip_pairs, log_mips};
-use crate::mip::Step;
-use crate::transition::{Task, log_move};
-use model::{Extent, Layer, LayerRange, Mip, MipRange, Range, Selector, TrackerIndex, UsageFlags};
+use crate::many::Stored;
+use crate::mip::{FromState, ToState, Within};
+use crate::transition::Task;
+use model::{Extent, Range, Selector, TrackerIndex, UsageFlags};
 use set_storage::{END, Table, flags_of};
-
-// The selector of all of a texture.
-fn full(extent: Extent) -> Selector
-    ensures { result ≡ full_of extent }
-{
-    Selector {
-        mips: MipRange {
-            start: Mip(0),
-            end: Mip(extent.mips),
-        },
-        layers: LayerRange {
-            start: Layer(0),
-            end: Layer(extent.layers),
-        },
-    }
-}
 
 // What stays the same during one `barrier` of texture i.
 fn task_of(i: usize, p: UsageFlags, mask: u32, write: bool) -> Task
@@ -47,20 +30,6 @@ fn task_of(i: usize, p: UsageFlags, mask: u32, write: bool) -> Task
         mask,
         write,
     }
-}
-
-// What is done with each range of the mips of q: all of it goes to the state, or what of it lies within the layers of q.
-fn step_of(all: bool, q: Selector, new: u32) -> Step
-    ensures { result ≡ step_of all q new }
-{
-    if all {
-        return Step::To(new);
-    }
-    Step::Within(Range {
-        start: q.layers.start.0,
-        end: q.layers.end.0,
-        state: new,
-    })
 }
 
 // The transition of all of a texture that is held as one state to another.
@@ -80,20 +49,17 @@ pub fn barrier_single(
     ensures { let es = entries_at i (entry (full_of extent) (move_of p.unknown mask cur new)) in
         Adds 1 write log.old at es result log.new }
 {
-    let t = task_of(i, p, mask, write);
-    let q = full(extent);
-    log_move(q, cur, new, t, log, at)
+    task_of(i, p, mask, write).log_move(extent.full(), cur, new, log, at)
 }
 
-// The transitions to one state, of all of the texture or of what a selector names. A Single texture makes one entry over all the mips of
-// the selector. That it lies within the texture is required of the full one too: a plain bound.
+// The transitions to one state, of all of the texture or of the part that a selector names. A Single texture makes one entry over all the
+// mips of the part.
 pub fn barrier_use(
     table: &Table,
     ends: &[u32],
     i: usize,
     extent: Extent,
-    all: bool,
-    q: Selector,
+    part: Option<Selector>,
     p: UsageFlags,
     mask: u32,
     new: u32,
@@ -102,24 +68,33 @@ pub fn barrier_use(
     write: bool,
 ) -> usize
     requires texture_held { TextureHeld (numbers_of table.now) end_half table.now ends.now i extent }
-    requires selector_within { SelectorWithin extent q × (all ≡ true → q ≡ full_of extent) }
+    requires part_within { PartWithin extent part }
     requires at_le_log_top { at ≤ log_top }
-    requires fact { let g = if all then given_single new else given_many (piece q new ∷ []) in
-        RoomFor write log.old at (barrier_at p mask extent table.now ends.now i g) }
-    ensures { let t = table.now in let e = ends.now in
-        let g = if all then given_single new else given_many (piece q new ∷ []) in
-        Adds 4096 write log.old at (barrier_at p mask extent t e i g) result log.new }
+    requires room_for { RoomFor write log.old at (barrier_at p mask extent table.now ends.now i (given_part part new)) }
+    ensures { Adds 4096 write log.old at (barrier_at p mask extent table.now ends.now i (given_part part new)) result log.new }
 {
     let t = task_of(i, p, mask, write);
-    let flags = flags_of(table);
     let cur = table[END + i];
-    if cur != flags.complex {
-        return log_move(q, cur, new, t, log, at);
+    if cur != flags_of(table).complex {
+        return t.log_move(part.unwrap_or(extent.full()), cur, new, log, at);
     }
-    let low = q.mips.start.0;
-    let high = q.mips.end.0;
-    let step = step_of(all, q, new);
-    log_mips(table, ends, END, i, low, high, step, t, log, at)
+    let held = Stored {
+        table,
+        ranges: ends,
+        half: END,
+        i,
+    };
+    match part {
+        None => held.log_mips(0, extent.mips, &ToState(new), t, log, at),
+        Some(q) => {
+            let to = Range {
+                start: q.layers.start.0,
+                end: q.layers.end.0,
+                state: new,
+            };
+            held.log_mips(q.mips.start.0, q.mips.end.0, &Within(to), t, log, at)
+        }
+    }
 }
 
 // The transitions to what texture i of another set holds, in the half of `given` that begins at `side`, with its ranges in `pieces`.
@@ -138,38 +113,34 @@ pub fn barrier_texture(
     write: bool,
 ) -> usize
     requires texture_held { TextureHeld (numbers_of table.now) end_half table.now ends.now i extent }
-    requires texture_held_2 { TextureHeld (numbers_of given.now) side given.now pieces.now i extent }
+    requires given_held { TextureHeld (numbers_of given.now) side given.now pieces.now i extent }
     requires at_le_log_top { at ≤ log_top }
-    requires fact { let x = held_of (numbers_of given.now) side given.now pieces.now i in
+    requires room_for { let x = held_of (numbers_of given.now) side given.now pieces.now i in
         RoomFor write log.old at (barrier_at p mask extent table.now ends.now i (from_held x)) }
     ensures { let t = table.now in let e = ends.now in let g = given.now in let r = pieces.now in
         Adds 1048576 write log.old at (barrier_at p mask extent t e i (from_held (held_of (numbers_of g) side g r i))) result
         log.new }
 {
-    let flags = flags_of(given);
     let new = given[side + i];
-    if new != flags.complex {
-        return barrier_use(
-            table,
-            ends,
-            i,
-            extent,
-            true,
-            full(extent),
-            p,
-            mask,
-            new,
-            log,
-            at,
-            write,
-        );
+    if new != flags_of(given).complex {
+        return barrier_use(table, ends, i, extent, None, p, mask, new, log, at, write);
     }
     let t = task_of(i, p, mask, write);
-    let own = flags_of(table);
     let cur = table[END + i];
-    let top = extent.mips;
-    if cur == own.complex {
-        return log_mip_pairs(table, ends, END, given, pieces, side, i, top, t, log, at);
+    let to = Stored {
+        table: given,
+        ranges: pieces,
+        half: side,
+        i,
+    };
+    if cur == flags_of(table).complex {
+        let held = Stored {
+            table,
+            ranges: ends,
+            half: END,
+            i,
+        };
+        return to.log_mips(0, extent.mips, &held, t, log, at);
     }
-    log_mips(given, pieces, side, i, 0, top, Step::From(cur), t, log, at)
+    to.log_mips(0, extent.mips, &FromState(cur), t, log, at)
 }

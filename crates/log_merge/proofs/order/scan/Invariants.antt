@@ -1,10 +1,6 @@
 -- `scan` looks at every entry in turn, and ends at the first descent.
-use Rattle.std.specs.Prelude.{◌-◌}
-use Rattle.log_merge.proofs.{Scanning.{Scanning}}
+use Rattle.log_merge.proofs.Scanning.{Scanning}
 use Rattle.log_merge.proofs.order.scan.Given as goal
 
 abbrev pub invariant-loop-i : goal.invariant-loop-i
-invariant-loop-i l = Scanning l.log l.limit l.n l.i l.last l.below
-
-abbrev pub decreases-loop-i : goal.decreases-loop-i
-decreases-loop-i l = l.n - l.i
+invariant-loop-i l = Scanning l.log l.limit l.i l.last l.below

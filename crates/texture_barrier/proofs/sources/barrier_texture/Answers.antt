@@ -1,65 +1,56 @@
 -- `barrier_texture` goes by the given texture's word and then by its own.
-use Rattle.model.specs.Prelude.{arith, refl}
-use Rattle.model.specs.{Representation.full, CheckLaws.SelectorWithin}
+use Rattle.model.specs.Prelude.{arith}
 use Rattle.texture_barrier.proofs.Holding.{told_many, told_single, given_single_lem, given_many_lem, given_from}
-use Rattle.texture_barrier.specs.{Ready.ready, Adds.adds_within}
+use Rattle.texture_barrier.specs.{Ready.{ready, ready_at}, Adds.adds_within}
 use Rattle.texture_barrier.proofs.sources.barrier_texture.Goals as goal
 
-pub barrier_use-requires : goal.barrier_use-requires
-barrier_use-requires c =
-    let p = c.requires in let r = p.texture_held.ready in let a = c.args in
-    let n = told_single c.flags_of-flags.ensures c.if-new-flags.true in
-    let room = rw (given_single_lem p.texture_held a.p a.mask p.texture_held_2 n) at p.fact in
-    let w : SelectorWithin a.extent (full a.extent) =
-    record { order = r.mip; in_mips = omega arith; span = r.some; in_layers = omega arith } in
-    rw c.full.ensures (record
-    { texture_held = p.texture_held; selector_within = (w, λ z. refl); at_le_log_top = p.at_le_log_top; fact = room })
+pub barrier_use-requires-clause-room_for : goal.barrier_use-requires-clause-room_for
+barrier_use-requires-clause-room_for c =
+    let p = c.requires in
+    let single = told_single c.flags_of.ensures c.if-new-flags_of.true in
+    rw (given_single_lem p.texture_held c.args.p c.args.mask p.given_held single) at p.room_for
 
-pub returns-then-new-flags : goal.returns-then-new-flags
-returns-then-new-flags c =
-    let p = c.requires in let a = c.args in
-    let n = told_single c.flags_of-flags.ensures c.if-new-flags.true in
-    rw (given_single_lem p.texture_held a.p a.mask p.texture_held_2 n) (adds_within c.barrier_use.ensures 1048576 (omega arith))
+pub returns-then-new-flags_of : goal.returns-then-new-flags_of
+returns-then-new-flags_of c =
+    let p = c.requires in
+    let single = told_single c.flags_of.ensures c.if-new-flags_of.true in
+    rw (given_single_lem p.texture_held c.args.p c.args.mask p.given_held single) (adds_within c.barrier_use.ensures 1048576 (omega arith))
 
-pub log_mip_pairs-requires : goal.log_mip_pairs-requires
-log_mip_pairs-requires c =
-    let p = c.requires in let a = c.args in
-    let m = told_many c.flags_of-own.ensures c.if-cur-own.true in
-    let g = told_many c.flags_of-flags.ensures c.if-new-flags.false in
-    let room = rw (given_many_lem p.texture_held a.p a.mask p.texture_held_2 g m) at p.fact in let k = c.task_of-t.ensures in
-    record {
-      ready = ready p.texture_held m _ (omega arith);
-      ready_2 = ready p.texture_held_2 g _ (omega arith);
-      at_le_log_top =
-          p.at_le_log_top;
-      fact = rw k room;
-    }
+pub log_mips-requires-clause-ready : goal.log_mips-requires-clause-ready
+log_mips-requires-clause-ready c = ready c.requires.given_held (told_many c.flags_of.ensures c.if-new-flags_of.false) _ (omega arith)
 
-pub returns-then-cur-own : goal.returns-then-cur-own
-returns-then-cur-own c =
-    let p = c.requires in let a = c.args in
-    let m = told_many c.flags_of-own.ensures c.if-cur-own.true in
-    let g = told_many c.flags_of-flags.ensures c.if-new-flags.false in
-    rw (given_many_lem p.texture_held a.p a.mask p.texture_held_2 g m)
-    (rw c.task_of-t.ensures at c.log_mip_pairs.ensures)
+pub log_mips-requires-clause-usable : goal.log_mips-requires-clause-usable
+log_mips-requires-clause-usable c =
+    λ m l. ready_at (ready c.requires.texture_held (told_many c.flags_of-2.ensures c.if-cur-flags_of.true) _ (omega arith)) l
 
-pub log_mips-requires : goal.log_mips-requires
-log_mips-requires c =
-    let p = c.requires in let a = c.args in
-    let n = told_single c.flags_of-own.ensures c.if-cur-own.false in
-    let g = told_many c.flags_of-flags.ensures c.if-new-flags.false in
-    let room = rw (given_from p.texture_held a.p a.mask p.texture_held_2 g n) at p.fact in let k = c.task_of-t.ensures in
-    record {
-      ready = ready p.texture_held_2 g _ (omega arith);
-      low_le_high = omega arith;
-      at_le_log_top = p.at_le_log_top;
-      fact = rw k room;
-    }
+pub log_mips-requires-clause-room_for : goal.log_mips-requires-clause-room_for
+log_mips-requires-clause-room_for c =
+    let p = c.requires in
+    let given = told_many c.flags_of.ensures c.if-new-flags_of.false in
+    let held = told_many c.flags_of-2.ensures c.if-cur-flags_of.true in
+    rw c.task_of-t.ensures (rw (given_many_lem p.texture_held c.args.p c.args.mask p.given_held given held) at p.room_for)
+
+pub returns-then-cur-flags_of : goal.returns-then-cur-flags_of
+returns-then-cur-flags_of c =
+    let p = c.requires in
+    let given = told_many c.flags_of.ensures c.if-new-flags_of.false in
+    let held = told_many c.flags_of-2.ensures c.if-cur-flags_of.true in
+    rw (given_many_lem p.texture_held c.args.p c.args.mask p.given_held given held) (rw c.task_of-t.ensures at c.log_mips.ensures)
+
+pub log_mips-requires-2-clause-ready : goal.log_mips-requires-2-clause-ready
+log_mips-requires-2-clause-ready c = ready c.requires.given_held (told_many c.flags_of.ensures c.if-new-flags_of.false) _ (omega arith)
+
+pub log_mips-requires-2-clause-room_for : goal.log_mips-requires-2-clause-room_for
+log_mips-requires-2-clause-room_for c =
+    let p = c.requires in
+    let given = told_many c.flags_of.ensures c.if-new-flags_of.false in
+    let single = told_single c.flags_of-2.ensures c.if-cur-flags_of.false in
+    rw c.task_of-t.ensures (rw (given_from p.texture_held c.args.p c.args.mask p.given_held given single) at p.room_for)
 
 pub returns : goal.returns
 returns c =
-    let p = c.requires in let a = c.args in
-    let n = told_single c.flags_of-own.ensures c.if-cur-own.false in
-    let g = told_many c.flags_of-flags.ensures c.if-new-flags.false in
-    rw (given_from p.texture_held a.p a.mask p.texture_held_2 g n)
-    (adds_within (rw c.task_of-t.ensures at c.log_mips.ensures) 1048576 (omega arith))
+    let p = c.requires in
+    let given = told_many c.flags_of.ensures c.if-new-flags_of.false in
+    let single = told_single c.flags_of-2.ensures c.if-cur-flags_of.false in
+    rw (given_from p.texture_held c.args.p c.args.mask p.given_held given single)
+    (adds_within (rw c.task_of-t.ensures at c.log_mips-2.ensures) 1048576 (omega arith))
