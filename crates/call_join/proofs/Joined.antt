@@ -1,6 +1,6 @@
 -- `set_from` and the calls: from what the code found and changed to the contract.
-use Rattle.model.specs.Prelude.{ℕ, refl, sym, ap, subst, ◌∙◌, Bool, true, Option, none, some, List, length, get_or}
-use Rattle.model.specs.{declared.{InvalidUse.InvalidUse, LogHead.LogHead, Refusal.Refusal, Answered.Answered}, Base.{each_at₂, over₂}}
+use Rattle.model.specs.Prelude.{ℕ, refl, sym, ap, subst, ◌∙◌, Bool, true, Option, None, Some, List, length, get_or, Ok, Err}
+use Rattle.model.specs.{declared.{InvalidUse.InvalidUse, LogHead.LogHead, Refusal.Refusal}, Base.{each_at₂, over₂}}
 use Rattle.model.specs.{Representation.Ends, Log.pending, Sets.{Head, Tracker, capacity, Slot, with_tracker, head_of}, Refusals.set_refusal}
 use Rattle.model.specs.Calls.{CallResult, Indexed, done, unless, set_from, set_given, log_given, set_from_usage_scope, set_from_tracker}
 use Rattle.model.specs.Texture.{Held, Entry, from_held, ranged}
@@ -15,7 +15,7 @@ use Rattle.texture_track.specs.{Tracked.{Tracked, Changes, away_own, changes_tra
 use Rattle.log_head.specs.Log.{head_within, refused_with}
 use Rattle.call_join.specs.{Lists.{over_same, each_same}, Join.{GivenTested, Joins, join_call, given_of, joined_entries, joined_tracker}}
 use Rattle.call_join.proofs.Logs.{entries_model}
-use Rattle.model.specs.declared.Verdict.TheVariants as verdict
+use Rattle.model.specs.Log.{Answered}
 
 -- ---- `set_from`
 -- what a tracker's call gives
@@ -43,26 +43,26 @@ module _ (t s e : List ℕ) (from to : ℕ) (g a b : List ℕ) where
 
 module _ {t s e : List ℕ} {from to : ℕ} {g a b : List ℕ} (w : TrackerTested t s e) (v : GivenTested from to g a b) where
   -- the checks passed
-  pub joins : SetTold t g verdict.Accepted → Joins t s e from to g a b
+  pub joins : SetTold t g (Ok tt) → Joins t s e from to g a b
   joins z = record { tracker = w; given = v; passed = set_passed t g z.is }
 
   -- no more entries than the model's call adds
-  pub joined_few : SetTold t g verdict.Accepted → length (pending (join_call t s e from to g a b).log) ≤ capacity (numbers_of t)
+  pub joined_few : SetTold t g (Ok tt) → length (pending (join_call t s e from to g a b).log) ≤ capacity (numbers_of t)
       → length (joined_entries t e from g a) ≤ capacity (numbers_of t)
-  joined_few z k = rw (call_is t s e from to g a b none z.is, entries_model (joins z)) at k
+  joined_few z k = rw (call_is t s e from to g a b None z.is, entries_model (joins z)) at k
 
   module _ {h : LogHead} {l : List ℕ} (k : head_within (length l / 7) h ≡ true) where
     -- 6 to 9
-    pub from_away : {r : Refusal} → SetTold t g (verdict.Refused r)
+    pub from_away : {r : Refusal} → SetTold t g (Err r)
         → Tracked (OwnedBy g) true (join_call t s e from to g a b) h t s e l (refused_with r h) t s e l
-    from_away {r} z = away_own r refl k (ap (λ (y : TrackerResult). y.answer) (call_is t s e from to g a b (some r) z.is))
+    from_away {r} z = away_own r refl k (ap (λ (y : TrackerResult). y.answer) (call_is t s e from to g a b (Some r) z.is))
 
     -- 15, or done
-    pub from_done : {x : Answered} {t' s' e' l' : List ℕ} → SetTold t g verdict.Accepted
+    pub from_done : {x : Answered} {t' s' e' l' : List ℕ} → SetTold t g (Ok tt)
         → Changes (OwnedBy g) (joined_entries t e from g a) (joined_tracker t s e from to g a b) h t s e l x t' s' e' l'
         → Tracked (OwnedBy g) true (join_call t s e from to g a b) h t s e l x t' s' e' l'
     from_done {x} {t'} {s'} {e'} {l'} z c =
-        subst (λ (y : TrackerResult). Tracked (OwnedBy g) true y h t s e l x t' s' e' l') (sym (call_is t s e from to g a b none z.is))
+        subst (λ (y : TrackerResult). Tracked (OwnedBy g) true y h t s e l x t' s' e' l') (sym (call_is t s e from to g a b None z.is))
         (changes_tracked refl k refl (rw (entries_model (joins z)) c))
 
 -- ---- The calls

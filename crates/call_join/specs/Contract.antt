@@ -1,7 +1,7 @@
 -- THE CONTRACTS of the calls over a whole set, of what is lent, and a primed name for what they leave. The given set g is only read.
 use Rattle.std.specs.Prelude.{◌&&◌}
 use Rattle.model.specs.Prelude.{ℕ, List}
-use Rattle.model.specs.{declared.{Answered.Answered, LogHead.LogHead}, Calls.{set_from_usage_scope, set_from_tracker}, Texture.ranged}
+use Rattle.model.specs.{declared.LogHead.LogHead, Log.Answered, Calls.{set_from_usage_scope, set_from_tracker}, Texture.ranged}
 use Rattle.set_storage.specs.{Lent.{LentScope, LentTracker, scope_in, tracker_in, scope_test, tracker_test}, Stays.OwnedBy}
 use Rattle.texture_track.specs.Tracked.{TrackerCall}
 

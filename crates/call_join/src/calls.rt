@@ -1,7 +1,6 @@
 // `TextureTracker::set_from_usage_scope` and `set_from_tracker`: every texture that a given set owns.
 ghost use Rattle.std.specs.Prelude.{◌≡◌, true, ◌/◌, ◌≤◌, ◌<◌, length};
-ghost use Rattle.model.specs.Sets.{capacity};
-ghost use Rattle.model.specs.Log.{pending};
+ghost use Rattle.model.specs.{Log.{answered, pending}, Sets.{capacity}};
 ghost use Rattle.set_storage.specs.Storage.{numbers_of};
 ghost use Rattle.set_storage.specs.Lent.{LentScope, LentTracker};
 ghost use Rattle.set_storage.specs.Stays.{OwnedBy};
@@ -12,8 +11,8 @@ ghost use Rattle.call_join.specs.Join.{GivenTested, Joins, join_call, joined_ent
 ghost use Rattle.call_join.specs.Contract.{SetFromUsageScope, SetFromTracker};
 
 use crate::every::{log_set, set_slots};
-use log_head::{head_fits, lent_entries, moved_on, refused, subresources};
-use model::{Answered, LogHead, Refusal, Verdict};
+use log_head::{check_head, moved_on, subresources};
+use model::{LogHead, Refusal};
 use set_checks::check_set;
 use set_storage::{END, MASK, START, TEXTURES, Table, flags_of, wide};
 use set_wellformed::{scope_fits, tracker_fits};
@@ -31,7 +30,7 @@ fn set_checked(
     to: usize,
     log: &mut [u32],
     head: LogHead,
-) -> Answered
+) -> Result<LogHead, Refusal>
     requires joins { Joins table.old starts.old ends.old from to given.now first.now last.now }
     requires first_len_bound { length (joined_entries table.old ends.old from given.now first.now) ≤ capacity (numbers_of table.old) }
     requires head_value { head_within (length log.old / 7) head ≡ true }
@@ -39,22 +38,21 @@ fn set_checked(
     ensures { let t = table.old in let s = starts.old in let e = ends.old in
         let g = given.now in let a = first.now in let b = last.now in
         Changes (OwnedBy g) (joined_entries t e from g a) (joined_tracker t s e from to g a b) head
-        t s e log.old result table.new starts.new ends.new log.new }
+        t s e log.old (answered head result) table.new starts.new ends.new log.new }
 {
     let p = flags_of(table);
     let mask = table[MASK];
     let n = wide(given[TEXTURES]);
-    let free = head.free;
-    if free < subresources(table) {
+    if head.free < subresources(table) {
         let x = log_set(table, ends, p, mask, given, first, from, n, log, 0, false);
-        if free < x {
-            return refused(Refusal::NoFreeEntry, head);
+        if head.free < x {
+            return Err(Refusal::NoFreeEntry);
         }
     }
     let at = head.written;
     let x = log_set(table, ends, p, mask, given, first, from, n, log, at, true);
     set_slots(table, starts, ends, given, first, from, last, to, n, p);
-    moved_on(head, x)
+    Ok(moved_on(head, x))
 }
 
 // The set, once both sets passed the test: the log's head and the checks of 01's table come first.
@@ -69,7 +67,7 @@ fn set_from(
     to: usize,
     log: &mut [u32],
     head: LogHead,
-) -> Answered
+) -> Result<LogHead, Refusal>
     requires tracker_tested { TrackerTested table.old starts.old ends.old }
     requires given_tested { GivenTested from to given.now first.now last.now }
     requires last_len_bound { length (pending (join_call table.old starts.old ends.old from to given.now first.now last.now).log)
@@ -77,18 +75,11 @@ fn set_from(
     ensures { let t = table.old in let s = starts.old in let e = ends.old in
         let g = given.now in let a = first.now in let b = last.now in
         Tracked (OwnedBy g) true (join_call t s e from to g a b) head t s e log.old
-        result table.new starts.new ends.new log.new }
+        (answered head result) table.new starts.new ends.new log.new }
 {
-    let lent = lent_entries(log);
-    if !head_fits(lent, head) {
-        return refused(Refusal::LogTooShort, head);
-    }
-    match check_set(table, given) {
-        Verdict::Accepted => set_checked(
-            table, starts, ends, given, first, from, last, to, log, head,
-        ),
-        Verdict::Refused(r) => refused(r, head),
-    }
+    check_head(log, head)?;
+    check_set(table, given)?;
+    set_checked(table, starts, ends, given, first, from, last, to, log, head)
 }
 
 // Sets what a scope holds in a tracker, and logs the transitions.
@@ -100,17 +91,17 @@ pub fn set_from_usage_scope(
     lent: &[u32],
     log: &mut [u32],
     head: LogHead,
-) -> Answered
+) -> Result<LogHead, Refusal>
     ensures { let t : LentTracker = record { table = table.old; starts = starts.old; ends = ends.old } in
         let g : LentScope = record { table = given.now; ranges = lent.now } in
         let t' : LentTracker = record { table = table.new; starts = starts.new; ends = ends.new } in
-        SetFromUsageScope t g head log.old result t' log.new }
+        SetFromUsageScope t g head log.old (answered head result) t' log.new }
 {
     if !tracker_fits(table, starts, ends) {
-        return refused(Refusal::NotWellFormed, head);
+        return Err(Refusal::NotWellFormed);
     }
     if !scope_fits(given, lent) {
-        return refused(Refusal::NotWellFormed, head);
+        return Err(Refusal::NotWellFormed);
     }
     set_from(
         table, starts, ends, given, lent, START, lent, START, log, head,
@@ -127,17 +118,17 @@ pub fn set_from_tracker(
     last: &[u32],
     log: &mut [u32],
     head: LogHead,
-) -> Answered
+) -> Result<LogHead, Refusal>
     ensures { let t : LentTracker = record { table = table.old; starts = starts.old; ends = ends.old } in
         let g : LentTracker = record { table = given.now; starts = first.now; ends = last.now } in
         let t' : LentTracker = record { table = table.new; starts = starts.new; ends = ends.new } in
-        SetFromTracker t g head log.old result t' log.new }
+        SetFromTracker t g head log.old (answered head result) t' log.new }
 {
     if !tracker_fits(table, starts, ends) {
-        return refused(Refusal::NotWellFormed, head);
+        return Err(Refusal::NotWellFormed);
     }
     if !tracker_fits(given, first, last) {
-        return refused(Refusal::NotWellFormed, head);
+        return Err(Refusal::NotWellFormed);
     }
     set_from(
         table, starts, ends, given, first, START, last, END, log, head,

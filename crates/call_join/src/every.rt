@@ -31,9 +31,8 @@ pub fn log_set(
         Adds set_top write log.old at (entries_to p mask t e from g a n) result log.new }
 {
     let mut x = 0;
-    let mut k = 0;
-    while k < n {
-        let y = log_at(
+    for k in 0..n {
+        x += log_at(
             table,
             ends,
             k,
@@ -46,8 +45,6 @@ pub fn log_set(
             at + x,
             write,
         );
-        x += y;
-        k += 1;
     }
     x
 }
@@ -71,9 +68,7 @@ pub fn set_slots(
         let a = first.now in let b = last.now in
         SetsAll t s e from to g a b table.new starts.new ends.new }
 {
-    let mut k = 0;
-    while k < n {
+    for k in 0..n {
         set_at(table, starts, ends, k, given, first, from, last, to, p);
-        k += 1;
     }
 }

@@ -1,21 +1,20 @@
 -- `merge_single`, and any merge that is turned away: from what the code found to the contract.
 use Rattle.std.specs.Prelude.{◌<◌, ◌≡◌}
-use Rattle.model.specs.Prelude.{ℕ, refl, sym, ap, subst, ◌∙◌, Bool, true, false, false≢true, Option, none, some, List, get_or, set}
+use Rattle.model.specs.Prelude.{ℕ, refl, sym, ap, subst, ◌∙◌, Bool, true, false, false≢true, Option, None, Some, List, get_or, set, Ok, Err}
 use Rattle.model.specs.declared.Refusal.TheVariants.{NotWellFormed}
-use Rattle.model.specs.declared.{UsageFlags.UsageFlags, Extent.Extent, Selection.Selection, InvalidUse.InvalidUse, Refusal.Refusal}
-use Rattle.model.specs.{declared.Outcome.Outcome, Base.Stop, Sets.{Slot, Set, Head, slot_at, with_slots, empty_slot}}
+use Rattle.model.specs.declared.{UsageFlags.UsageFlags, Extent.Extent, InvalidUse.InvalidUse, Refusal.Refusal, Selector.Selector}
+use Rattle.model.specs.declared.CallError.TheVariants.{Refused}
+use Rattle.model.specs.{Base.Stop, Sets.{Slot, Set, Head, slot_at, with_slots, empty_slot}}
 use Rattle.model.specs.{Refusals.{first_failing, single_refusal}, CheckLaws.StatePassed}
 use Rattle.model.specs.Calls.{Indexed, CallResult, answer, turned_away, unless, merge_slot, merge_single}
-use Rattle.model.specs.{Log.{is_refused, outcome_of, merging}, Texture.{Held, single, Entry, from_use, ranged}}
+use Rattle.model.specs.{Log.{Outcome, is_refused, outcome_of, merging}, Texture.{Held, single, Entry, from_use, ranged}}
 use Rattle.set_storage.specs.{Storage.{flags_of, scope_of, start_half, textures_at, scope_slot}, Stays.{Only, keeps_refl, keeps_more}}
 use Rattle.set_storage.specs.Lists.{list_at}
-use Rattle.texture_merge.specs.declared.{Stopped.Stopped}
-use Rattle.set_checks.specs.{Head.{selector_of, use_refusal, scope_head, UseTold}, Passed.{use_passed, texture_passed, state_passed}}
+use Rattle.texture_merge.specs.Walks.{Stopped}
+use Rattle.set_checks.specs.{Head.{use_refusal, scope_head, UseTold}, Passed.{use_passed, texture_passed, state_passed}}
 use Rattle.set_ready.specs.{Tested.ScopeTested, Half.{HalfReady, scope_texture}, Named.Within, Checked.TakenUse}
 use Rattle.call_merge.specs.{declared.single.Use.Use, Met.told_of, Merged.Merged, Slot.{SlotMerged, scope_view}, Single.UseIs}
 use Rattle.call_merge.specs.Scope.{SlotsMerged}
-use Rattle.model.specs.declared.Outcome.TheVariants as outcome
-use Rattle.model.specs.declared.Verdict.TheVariants as verdict
 
 -- ---- The test of the sets comes first
 abbrev pub ScopeResult : Type 0
@@ -23,7 +22,7 @@ ScopeResult = CallResult InvalidUse (List Entry) (Set Held)
 
 -- turned away: nothing was written
 unwritten : {named : ℕ → Type 0} {fits : Bool} {m : ScopeResult} {t r : List ℕ} (x : Refusal)
-    → merging fits (scope_of t r) m ≡ turned_away x (scope_of t r) → Merged named fits m t r (outcome.Refused x) t r
+    → merging fits (scope_of t r) m ≡ turned_away x (scope_of t r) → Merged named fits m t r (Err (Refused x)) t r
 unwritten {named} {fits} {m} {t} {r} x e = record {
   answer = ap (λ (c : ScopeResult). outcome_of c.answer) (sym e);
   view = ap (λ (c : ScopeResult). c.after) (sym e);
@@ -32,12 +31,12 @@ unwritten {named} {fits} {m} {t} {r} x e = record {
 }
 
 pub not_fitting : {named : ℕ → Type 0} {fits : Bool} {m : ScopeResult} {t r : List ℕ} → fits ≡ false
-    → Merged named fits m t r (outcome.Refused NotWellFormed) t r
+    → Merged named fits m t r (Err (Refused NotWellFormed)) t r
 unfolding merging first_failing
 not_fitting e = unwritten NotWellFormed (rw e)
 
 pub away : {named : ℕ → Type 0} {fits : Bool} {m : ScopeResult} {t r : List ℕ} (x : Refusal) → fits ≡ true
-    → m ≡ turned_away x (scope_of t r) → Merged named fits m t r (outcome.Refused x) t r
+    → m ≡ turned_away x (scope_of t r) → Merged named fits m t r (Err (Refused x)) t r
 unfolding merging first_failing
 away x e z = unwritten x (rw e z)
 
@@ -47,8 +46,8 @@ walked t r w = record { answer = answer w.conflict; log = mathlib.Core.List.[]; 
 
 -- its answer is no refusal
 walk_on : (o : Option (Indexed InvalidUse)) → is_refused (outcome_of (answer o)) ≡ true → ⊥
-walk_on none e = false≢true e
-walk_on (some c) e = false≢true e
+walk_on None e = false≢true e
+walk_on (Some c) e = false≢true e
 
 pub went : {named : ℕ → Type 0} {fits : Bool} {m : ScopeResult} {t r : List ℕ} {x : Outcome} {t' r' : List ℕ}
     (w : Stop (Indexed InvalidUse) (List (Slot Held))) → fits ≡ true → m ≡ walked t r w
@@ -64,37 +63,37 @@ went {named} {fits} {m} {t} {r} w e z q =
     }
 
 -- ---- `merge_single`
-module _ (t r : List ℕ) (i : ℕ) (sh : Extent) (s : Selection) (st : ℕ) where
+module _ (t r : List ℕ) (i : ℕ) (sh : Extent) (s : Option Selector) (st : ℕ) where
   -- the walk over texture i alone, by the flags p and from the slot y
   abbrev one_merged : UsageFlags → Slot Held → Stop (Indexed InvalidUse) (List (Slot Held))
   one_merged p y =
-      let v = merge_slot ranged p sh (from_use sh (selector_of s) st) i y in
+      let v = merge_slot ranged p sh (from_use sh s st) i y in
       record { value = set (scope_of t r).slots i v.value; conflict = v.conflict }
 
   call_is : (o : Option Refusal) → use_refusal t i sh s st ≡ o
-      → merge_single ranged (scope_of t r) i sh (selector_of s) st
+      → merge_single ranged (scope_of t r) i sh s st
       ≡ unless o (scope_of t r) (walked t r (one_merged (scope_of t r).flags (slot_at (single 0) (scope_of t r) i)))
   unfolding use_refusal
   call_is o e =
       let done = walked t r (one_merged (scope_of t r).flags (slot_at (single 0) (scope_of t r) i)) in
-      ap (λ (h : Head). unless (single_refusal h i sh (selector_of s) st) (scope_of t r) done) (scope_head t r)
+      ap (λ (h : Head). unless (single_refusal h i sh s st) (scope_of t r) done) (scope_head t r)
       ∙ ap (λ (q : Option Refusal). unless q (scope_of t r) done) e
 
-  merged_is : i < get_or t textures_at 0 → UseTold t i sh s st verdict.Accepted
-      → merge_single ranged (scope_of t r) i sh (selector_of s) st ≡ walked t r (one_merged (flags_of t) (scope_slot t r i))
+  merged_is : i < get_or t textures_at 0 → UseTold t i sh s st (Ok tt)
+      → merge_single ranged (scope_of t r) i sh s st ≡ walked t r (one_merged (flags_of t) (scope_slot t r i))
   unfolding scope_of
   merged_is h z =
       let e = list_at (scope_slot t r) (get_or t textures_at 0) i (empty_slot (single 0)) h in
-      call_is none z.is ∙ ap (λ (y : Slot Held). walked t r (one_merged (flags_of t) y)) e
+      call_is None z.is ∙ ap (λ (y : Slot Held). walked t r (one_merged (flags_of t) y)) e
 
-module _ {t r : List ℕ} {i : ℕ} {sh : Extent} {s : Selection} {st : ℕ} {fits : Bool} (e : fits ≡ true) where
-  pub single_away : {x : Refusal} → UseTold t i sh s st (verdict.Refused x)
-      → Merged (Only i) fits (merge_single ranged (scope_of t r) i sh (selector_of s) st) t r (outcome.Refused x) t r
-  single_away {x} z = away x e (call_is t r i sh s st (some x) z.is)
+module _ {t r : List ℕ} {i : ℕ} {sh : Extent} {s : Option Selector} {st : ℕ} {fits : Bool} (e : fits ≡ true) where
+  pub single_away : {x : Refusal} → UseTold t i sh s st (Err x)
+      → Merged (Only i) fits (merge_single ranged (scope_of t r) i sh s st) t r (Err (Refused x)) t r
+  single_away {x} z = away x e (call_is t r i sh s st (Some x) z.is)
 
-  pub single_done : {x : Stopped} {t' r' : List ℕ} → ScopeTested t r → UseTold t i sh s st verdict.Accepted
-      → SlotMerged (Only i) t r i (merge_slot ranged (flags_of t) sh (from_use sh (selector_of s) st) i (scope_slot t r i)) x t' r'
-      → Merged (Only i) fits (merge_single ranged (scope_of t r) i sh (selector_of s) st) t r (told_of i x) t' r'
+  pub single_done : {x : Stopped} {t' r' : List ℕ} → ScopeTested t r → UseTold t i sh s st (Ok tt)
+      → SlotMerged (Only i) t r i (merge_slot ranged (flags_of t) sh (from_use sh s st) i (scope_slot t r i)) x t' r'
+      → Merged (Only i) fits (merge_single ranged (scope_of t r) i sh s st) t r (told_of i x) t' r'
   single_done {x} {t'} {r'} k z q =
       let h : i < get_or t textures_at 0 = (texture_passed t i sh (use_passed t i sh s st z.is).0).texture in
       went (one_merged t r i sh s st (flags_of t) (scope_slot t r i)) e (merged_is t r i sh s st h z) (record {
@@ -104,7 +103,7 @@ module _ {t r : List ℕ} {i : ℕ} {sh : Extent} {s : Selection} {st : ℕ} {fi
       })
 
 -- ---- What the walk over one texture asks for
-module _ {t : List ℕ} {i : ℕ} {sh : Extent} {s : Selection} {st : ℕ} (z : UseTold t i sh s st verdict.Accepted) where
+module _ {t : List ℕ} {i : ℕ} {sh : Extent} {s : Option Selector} {st : ℕ} (z : UseTold t i sh s st (Ok tt)) where
   pub single_ready : {r : List ℕ} → ScopeTested t r → HalfReady start_half t r i sh
   single_ready k = scope_texture k (texture_passed t i sh (use_passed t i sh s st z.is).0)
 

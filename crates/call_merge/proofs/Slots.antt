@@ -1,17 +1,17 @@
 -- The walk of `merge_slots` over the textures of a given scope: the scope on the way, what a lap asks for, and what it leaves.
-use Rattle.model.specs.Prelude.{ℕ, arith, refl, sym, ap, subst, ◌∙◌, Bool, true, false, Option, none, some, List, get_or}
+use Rattle.model.specs.Prelude.{ℕ, arith, refl, sym, ap, subst, ◌∙◌, Bool, true, false, Option, None, Some, List, get_or, Err, Ok}
 use Rattle.model.specs.{declared.{UsageFlags.UsageFlags, InvalidUse.InvalidUse}, Base.{Stop, fine}, Refusals.tracker_index}
+use Rattle.model.specs.declared.CallError.TheVariants.{Conflict}
 use Rattle.model.specs.{Sets.{Numbers, Slot}, Calls.{Indexed, answer, merge_given}, Log.outcome_of, Texture.{Held, ranged}}
 use Rattle.std.specs.Prelude.{◌+◌, ◌≤◌, ◌<◌, ◌≡◌}
 use Rattle.set_storage.specs.Storage.{numbers_of, flags_of, extent_of, owned_of, start_half, held_of, slot_with, scope_of, list_from}
 use Rattle.set_storage.specs.{Storage.{textures_at, scope_slot}, Stays.{OnlyOwned, OwnedBy, keeps_refl, keeps_then, keeps_more, ScopeFrame}}
-use Rattle.texture_merge.specs.{declared.Stopped.Stopped, declared.Stopped.TheVariants.{Nowhere, At}}
+use Rattle.texture_merge.specs.{Walks.Stopped}
 use Rattle.set_ready.specs.Given.{HalfGiven, owned_given}
 use Rattle.set_ready.specs.Half.{HalfReady, HeadStays, scope_keeps, numbers_stay, flags_stay, measured_stays, scope_still}
 use Rattle.set_ready.specs.{Walked.{Walked, walked_start, walked_next, walk_end, walk_stop}, SetWalk.set_view}
 use Rattle.call_merge.specs.{Met.{indexed, met_at}, Slot.{OwnedReady, SlotMerged, scope_named, scope_rest}}
 use Rattle.call_merge.specs.Scope.{merged_slots, SlotsReady, SlotsMerged}
-use Rattle.model.specs.declared.Outcome.TheVariants as outcome
 
 -- what the given scope makes of texture j, where it met no conflict
 abbrev Became : UsageFlags → List ℕ → List ℕ → ℕ → Slot Held → Slot Held → Type 0
@@ -38,7 +38,7 @@ walk_gives {named} {o = o} {t₀} {r₀} {t} {r} e f =
 
 module _ {p : UsageFlags} {t₀ r₀ g l : List ℕ} {k : ℕ} {t r : List ℕ} (m : Merging p t₀ r₀ g l k t r) where
   -- all were walked over
-  pub finish : get_or g textures_at 0 ≤ k → SlotsMerged (OwnedBy g) (merged_slots p t₀ r₀ g l) t₀ r₀ outcome.Done t r
+  pub finish : get_or g textures_at 0 ≤ k → SlotsMerged (OwnedBy g) (merged_slots p t₀ r₀ g l) t₀ r₀ (Ok tt) t r
   unfolding scope_of
   finish h =
       let n = get_or t₀ textures_at 0 in let z : k ≡ get_or g textures_at 0 = omega (arith, m.within) in
@@ -87,19 +87,19 @@ module _ {p : UsageFlags} {t₀ r₀ g l : List ℕ} {k : ℕ} {t r : List ℕ} 
           sym (λ i. record { value = s i; conflict = y.conflict i })
 
       -- it met no conflict
-      pub turn : x ≡ Nowhere → Merging p t₀ r₀ g l (k + 1) t' r'
+      pub turn : x ≡ (Ok tt) → Merging p t₀ r₀ g l (k + 1) t' r'
       turn e = record { within = omega arith; slots = walked_next m.slots others (λ b. rw e at this); frame = frame_now }
 
       -- it met one: the given scope owns the texture
-      is_owned : (b : Bool) → owned_of g k ≡ b → {c : InvalidUse} → x ≡ At c → owned_of g k ≡ true
+      is_owned : (b : Bool) → owned_of g k ≡ b → {c : InvalidUse} → x ≡ Err c → owned_of g k ≡ true
       is_owned true e z = e
       is_owned false e {c} z =
-          let n : met_at k x ≡ none = y.conflict ∙ rw e in let s : met_at k x ≡ some (indexed k c) = ap (met_at k) z in
+          let n : met_at k x ≡ None = y.conflict ∙ rw e in let s : met_at k x ≡ Some (indexed k c) = ap (met_at k) z in
           absurd (let w : ◌≡◌ {A = ℕ} 0 1 = cc in omega arith)
 
-      pub stop : {c : InvalidUse} → x ≡ At c
-          → SlotsMerged (OwnedBy g) (merged_slots p t₀ r₀ g l) t₀ r₀ (outcome.Conflict
-          (record { index = tracker_index k; found = c })) t' r'
+      pub stop : {c : InvalidUse} → x ≡ Err c
+          → SlotsMerged (OwnedBy g) (merged_slots p t₀ r₀ g l) t₀ r₀ (Err (Conflict
+          (record { index = tracker_index k; found = c }))) t' r'
       unfolding scope_of
       stop {c} e =
           let b = (q.passed.each k h (is_owned (owned_of g k) refl e)).texture in

@@ -1,10 +1,11 @@
 -- THE CONTRACT of a merge into a scope: the answer, and the content of what was lent.
 use Rattle.model.specs.Prelude.{ℕ, Bool, true, List}
-use Rattle.model.specs.{declared.{InvalidUse.InvalidUse, Outcome.Outcome}, Sets.Set, Calls.CallResult}
+use Rattle.model.specs.{declared.{InvalidUse.InvalidUse}, Sets.Set, Calls.CallResult}
 use Rattle.model.specs.{Log.{is_refused, outcome_of, merging}, Texture.{Held, Entry}}
 use Rattle.std.specs.Prelude.{◌≡◌}
 use Rattle.set_storage.specs.{Storage.{numbers_of, scope_of}, Stays.ScopeFrame}
 use Rattle.set_ready.specs.Named.{Within}
+use Rattle.model.specs.Log.{Outcome}
 
 -- `fits` says whether every set that was handed in is well formed, `m` is the model's call, and `named` are the indices that the call
 -- names. All that is lent stays but the words and the ranges of those: "More room is ignored". Free, and in no view, is only what is

@@ -1,7 +1,8 @@
 -- What a merge answers, by what its walk over textures met.
-use Rattle.model.specs.Prelude.{ℕ, Option, Option_map}
-use Rattle.model.specs.{declared.{InvalidUse.InvalidUse, Outcome.Outcome}, Calls.{Indexed, answer}, Log.outcome_of}
-use Rattle.texture_merge.specs.{declared.Stopped.Stopped, Walks.stopped_of}
+use Rattle.model.specs.Prelude.{ℕ, Option, option_map, result_err}
+use Rattle.model.specs.{declared.{InvalidUse.InvalidUse}, Calls.{Indexed, answer}, Log.outcome_of}
+use Rattle.texture_merge.specs.{Walks.Stopped}
+use Rattle.model.specs.Log.{Outcome}
 
 -- a conflict at index i
 abbrev pub indexed : ℕ → InvalidUse → Indexed InvalidUse
@@ -9,7 +10,7 @@ indexed i c = record { index = i; what = c }
 
 -- what a walk over texture i met, as the model tells it
 abbrev pub met_at : ℕ → Stopped → Option (Indexed InvalidUse)
-met_at i x = Option_map (indexed i) (stopped_of x)
+met_at i x = option_map (indexed i) (result_err x)
 
 -- the answer of a call that did no more
 abbrev pub told_of : ℕ → Stopped → Outcome

@@ -1,11 +1,12 @@
 -- Every texture of a given scope, merged into a scope: what is asked for, and the contract of the walk.
 use Rattle.std.specs.Prelude.{◌≡◌}
 use Rattle.model.specs.Prelude.{ℕ, List}
-use Rattle.model.specs.{declared.{UsageFlags.UsageFlags, InvalidUse.InvalidUse, Outcome.Outcome}, Base.{Stop, walk₂}}
+use Rattle.model.specs.{declared.{UsageFlags.UsageFlags, InvalidUse.InvalidUse}, Base.{Stop, walk₂}}
 use Rattle.model.specs.{Sets.{Slot, with_slots}, Calls.{Indexed, answer, merge_given}, Log.outcome_of, Texture.{Held, ranged}}
 use Rattle.set_storage.specs.{Storage.{numbers_of, flags_of, scope_of}, Stays.ScopeFrame}
 use Rattle.set_checks.specs.Passed.{SetPassed}
 use Rattle.set_ready.specs.Tested.{ScopeTested}
+use Rattle.model.specs.Log.{Outcome}
 
 -- the model's walk over the textures of both
 abbrev pub merged_slots : UsageFlags → List ℕ → List ℕ → List ℕ → List ℕ → Stop (Indexed InvalidUse) (List (Slot Held))

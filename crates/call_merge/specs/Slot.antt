@@ -1,12 +1,12 @@
 -- One texture of a scope: what is asked for, and the contract of a merge into it.
 use Rattle.std.specs.Prelude.{◌<◌, ◌≡◌}
-use Rattle.model.specs.Prelude.{ℕ, refl, ap, subst, Option_map, List, get_or, set, ne_eqb, eq-eqb}
+use Rattle.model.specs.Prelude.{ℕ, refl, ap, subst, option_map, List, get_or, set, ne_eqb, eq-eqb, Ok}
 use Rattle.model.specs.{declared.{UsageFlags.UsageFlags, Extent.Extent, InvalidUse.InvalidUse}, Base.{Stop, fine}}
 use Rattle.model.specs.{Sets.{Numbers, Slot, with_slots}, Calls.{Indexed, merge_slot}, Texture.{Held, Given, insert, merge, ranged}}
 use Rattle.set_storage.specs.Storage.{numbers_of, extent_of, start_half, held_of, slot_with, scope_of, owned_at, textures_at, scope_slot}
 use Rattle.set_storage.specs.{Frames.Measured, Stays.{Only, keeps_refl, keeps_then, keeps_more, ScopeFrame}}
 use Rattle.set_storage.specs.Slots.{SlotFrame, HalfBecomes, own_words, scope_slots, scope_half, scope_own, half_low}
-use Rattle.texture_merge.specs.{declared.Stopped.Stopped, declared.Stopped.TheVariants.Nowhere, Uses.HalfMerged}
+use Rattle.texture_merge.specs.{Walks.Stopped, Uses.HalfMerged}
 use Rattle.set_ready.specs.{Half.{HalfReady, half_held}, Given.{HalfGiven, WhereOwned}}
 use Rattle.set_ready.specs.Owned.{own_numbers, own_textured, now_owned, owned_reads, slot_becomes, slot_other}
 use Rattle.call_merge.specs.Met.{indexed, met_at}
@@ -26,7 +26,7 @@ module _ {t r : List ℕ} {i : ℕ} {sh : Extent} (q : HalfReady start_half t r 
   -- an unowned texture is owned, and then `insert`
   pub scope_new : {t' r' : List ℕ} → get_or t (owned_at i) 0 ≡ 0
       → HalfBecomes (numbers_of (own_words t i sh)) start_half i (insert p sh g) (own_words t i sh) r t' r'
-      → SlotMerged (Only i) t r i (merge_slot ranged p sh g i (scope_slot t r i)) Nowhere t' r'
+      → SlotMerged (Only i) t r i (merge_slot ranged p sh g i (scope_slot t r i)) (Ok tt) t' r'
   scope_new {t'} {r'} free b =
       let m = q.measured in let x = own_textured q in
       let b₁ = subst (λ (n : Numbers). HalfBecomes n start_half i (insert p sh g) (own_words t i sh) r t' r') (own_numbers q) b in
@@ -44,14 +44,14 @@ module _ {t r : List ℕ} {i : ℕ} {sh : Extent} (q : HalfReady start_half t r 
   scope_old {x} {t'} {r'} own b =
       let f = b.into.frame in let held = held_of (numbers_of t) start_half in
       rw (ne_eqb (get_or t (owned_at i) 0) 0 own) (record {
-        conflict = ap (Option_map (indexed i)) b.conflict;
+        conflict = ap (option_map (indexed i)) b.conflict;
         slot = owned_reads (held t' r') t' (merge p sh (held t r i) g).value (half_held q own).ready own
             (half_low q.measured q.texture.texture f) b.into.held;
         frame = scope_half f;
       })
 
 -- a texture that stays as it is
-pub scope_kept : {named : ℕ → Type 0} (t r : List ℕ) (i : ℕ) → SlotMerged named t r i (fine (scope_slot t r i)) Nowhere t r
+pub scope_kept : {named : ℕ → Type 0} (t r : List ℕ) (i : ℕ) → SlotMerged named t r i (fine (scope_slot t r i)) (Ok tt) t r
 scope_kept t r i = record { conflict = refl; slot = refl; frame = keeps_refl t r }
 
 -- more may be named

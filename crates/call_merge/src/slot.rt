@@ -10,11 +10,10 @@ ghost use Rattle.set_ready.specs.Half.{HalfReady};
 ghost use Rattle.set_ready.specs.Given.{given_at, HalfGiven};
 ghost use Rattle.call_merge.specs.Slot.{OwnedReady, SlotMerged};
 
-use model::{Extent, Selector, UsageFlags};
-use set_storage::{LAYERS, MIPS, OWNED, START, Table};
-use texture_merge::Stopped;
+use model::{Extent, InvalidUse, Selector, UsageFlags};
+use set_storage::{OWNED, START, Table, extent_of};
 use texture_merge::from_set::{insert_given, merge_given};
-use texture_merge::using::{insert_use, merge_single_use, merge_use, own};
+use texture_merge::using::{insert_use, merge_use, own};
 
 // A use of the texture.
 pub fn merge_use_at(
@@ -26,7 +25,7 @@ pub fn merge_use_at(
     q: Selector,
     p: UsageFlags,
     new: u32,
-) -> Stopped
+) -> Result<(), InvalidUse>
     requires half_ready { HalfReady start_half table.old ranges.old i extent }
     requires taken_use { TakenUse table.old extent all q p new }
     ensures { let t = table.old in let r = ranges.old in
@@ -36,14 +35,7 @@ pub fn merge_use_at(
     if table[OWNED + i] == 0 {
         own(table, i, extent);
         insert_use(table, ranges, START, i, extent, all, q, p, new);
-        return Stopped::Nowhere;
-    }
-    let cur = table[START + i];
-    if cur == p.complex {
-        return merge_use(table, ranges, START, i, extent, all, q, p, new);
-    }
-    if all {
-        return merge_single_use(table, ranges, START, i, extent, true, q, p, cur, new);
+        return Ok(());
     }
     merge_use(table, ranges, START, i, extent, all, q, p, new)
 }
@@ -57,7 +49,7 @@ pub fn merge_given_at(
     given: &Table,
     lent: &[u32],
     p: UsageFlags,
-) -> Stopped
+) -> Result<(), InvalidUse>
     requires half_ready { HalfReady start_half table.old ranges.old i extent }
     requires half_given { HalfGiven table.old i extent start_half given.now lent.now }
     requires p_value { p ≡ flags_of table.old }
@@ -68,7 +60,7 @@ pub fn merge_given_at(
     if table[OWNED + i] == 0 {
         own(table, i, extent);
         insert_given(table, ranges, START, i, extent, given, lent, START, p);
-        return Stopped::Nowhere;
+        return Ok(());
     }
     merge_given(table, ranges, START, i, extent, given, lent, START, p)
 }
@@ -81,7 +73,7 @@ pub fn merge_owned_at(
     given: &Table,
     lent: &[u32],
     p: UsageFlags,
-) -> Stopped
+) -> Result<(), InvalidUse>
     requires owned_ready { OwnedReady table.old ranges.old i given.now lent.now }
     requires p_value { p ≡ flags_of table.old }
     ensures { let t = table.old in let r = ranges.old in let g = given.now in let l = lent.now in
@@ -89,11 +81,7 @@ pub fn merge_owned_at(
         ranges.new }
 {
     if given[OWNED + i] == 0 {
-        return Stopped::Nowhere;
+        return Ok(());
     }
-    let extent = Extent {
-        mips: given[MIPS + i],
-        layers: given[LAYERS + i],
-    };
-    merge_given_at(table, ranges, i, extent, given, lent, p)
+    merge_given_at(table, ranges, i, extent_of(given, i), given, lent, p)
 }

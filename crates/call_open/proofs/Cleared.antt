@@ -1,11 +1,12 @@
 -- The view of a table that was written by opening: no index is owned, and each state is UNINITIALIZED.
-use Rattle.model.specs.Prelude.{ℕ, zero, suc, arith, refl, sym, ap, ◌∙◌, Bool, true, not, false≢true, Option, none, List, [], eqb, ltb}
-use Rattle.model.specs.Prelude.{length, get_or, set, replicate, drop, length-set, length-drop, length-replicate, get_or-replicate}
-use Rattle.model.specs.Prelude.{get_or-set_same, get_or-set_other, ext_get_or, sets-eq, eq-eqb}
-use Rattle.model.specs.{declared.{UsageFlags.UsageFlags, Refusal.Refusal, Outcome.Outcome}, Flags.{is_bit, meets, apart, flags_fit}}
+use Rattle.model.specs.Prelude.{ℕ, zero, suc, arith, refl, sym, ap, ◌∙◌, Bool, true, not, false≢true, Option, None, List, [], eqb, ltb}
+use Rattle.model.specs.Prelude.{length, get_or, replicate, drop, length-set, length-drop, length-replicate, get_or-replicate}
+use Rattle.model.specs.Prelude.{get_or-set_other, ext_get_or, sets-eq, eq-eqb}
+use Rattle.model.specs.{declared.{UsageFlags.UsageFlags, Refusal.Refusal}, Flags.{is_bit, meets, apart, flags_fit}}
 use Rattle.model.specs.Sets.{Numbers, Opening, empty_slot, open_set, open_tracker}
-use Rattle.model.specs.{Refusals.{first_failing, opening_refusal, accepted, opens}, Log.verdict, Texture.single}
+use Rattle.model.specs.{Refusals.{first_failing, opening_refusal, accepted, opens}, Log.{Outcome, verdict}, Texture.single}
 use Rattle.model.specs.BoolLaws.{and_left, and_right, by_eq, by_lt}
+use Rattle.std.proofs.lemmas.Grind.{get_or-set_at}
 use Rattle.std.specs.Prelude.{◌≤◌, ◌<◌, ◌≡◌, ◌&&◌, ◌∷◌, if◌then◌else◌}
 use Rattle.set_storage.specs.Storage.{numbers_of, flags_of, start_half, end_half, held_of, ends_of, slot_with, scope_of, tracker_of}
 use Rattle.set_storage.specs.Storage.{list_from, textures_at, mip_limit_at, layer_limit_at, exclusive_at, uninitialized_at, complex_at}
@@ -15,73 +16,20 @@ use Rattle.call_open.specs.Open.{asked, headed, cleared_at, cleared, TableOpened
 use Rattle.agreement.proofs.OpeningLaws.{opened_numbers, opened_fits}
 use Rattle.set_wellformed.proofs.Numbers.{numbers_in_lem}
 
--- ---- one index
-module _ (l : List ℕ) (u k : ℕ) where
-  at_long : length (cleared_at l u k) ≡ length l
-  at_long = simp length-set
+-- what a number of a list is after one is written
+ruleset one_written = (get_or-set_at, get_or-set_other, length-set)
 
-  -- a word that is none of the five
-  at_other : (x : ℕ) → (x ≡ owned_at k → ⊥) → (x ≡ mips_at k → ⊥) → (x ≡ layers_at k → ⊥) → (x ≡ state_at start_half k → ⊥)
-      → (x ≡ state_at end_half k → ⊥) → get_or (cleared_at l u k) x 0 ≡ get_or l x 0
-  at_other x a b c d e =
-      get_or-set_other (set (set (set (set l (owned_at k) 0) (mips_at k) 0) (layers_at k) 0)
-      (state_at start_half k) u) (state_at end_half k) x u 0 e
-      ∙ get_or-set_other (set (set (set l (owned_at k) 0) (mips_at k) 0) (layers_at k) 0) (state_at start_half k) x u 0 d
-      ∙ get_or-set_other (set (set l (owned_at k) 0) (mips_at k) 0) (layers_at k) x 0 0 c
-      ∙ get_or-set_other (set l (owned_at k) 0) (mips_at k) x 0 0 b
-      ∙ get_or-set_other l (owned_at k) x 0 0 a
-
-  module _ (h : k < 64) (n : length l ≡ table_length) where
-    at_end : get_or (cleared_at l u k) (state_at end_half k) 0 ≡ u
-    at_end = get_or-set_same (set (set (set (set l (owned_at k) 0) (mips_at k) 0) (layers_at k) 0) (state_at start_half k) u)
-        (state_at end_half k) u
-        0 (simp length-set (omega arith))
-
-    at_start : get_or (cleared_at l u k) (state_at start_half k) 0 ≡ u
-    at_start =
-        get_or-set_other (set (set (set (set l (owned_at k) 0) (mips_at k) 0) (layers_at k) 0)
-        (state_at start_half k) u) (state_at end_half k)
-        (state_at start_half k) u 0 (λ z. omega arith)
-        ∙ get_or-set_same (set (set (set l (owned_at k) 0) (mips_at k) 0) (layers_at k) 0) (state_at start_half k) u 0
-        (simp length-set (omega arith))
-
-    -- the words of ownership and extent: the halves' words are written after them
-    low : (x : ℕ) → x < start_half
-        → get_or (cleared_at l u k) x 0 ≡ get_or (set (set (set l (owned_at k) 0) (mips_at k) 0) (layers_at k) 0) x 0
-    low x q =
-        get_or-set_other (set (set (set (set l (owned_at k) 0) (mips_at k) 0) (layers_at k) 0) (state_at start_half k) u)
-        (state_at end_half k) x u 0 (λ z. omega arith)
-        ∙ get_or-set_other (set (set (set l (owned_at k) 0) (mips_at k) 0) (layers_at k) 0) (state_at start_half k) x u 0 (λ z. omega arith)
-
-    at_layers : get_or (cleared_at l u k) (layers_at k) 0 ≡ 0
-    at_layers = low (layers_at k) (omega arith)
-        ∙ get_or-set_same (set (set l (owned_at k) 0) (mips_at k) 0) (layers_at k) 0 0 (simp length-set (omega arith))
-
-    at_mips : get_or (cleared_at l u k) (mips_at k) 0 ≡ 0
-    at_mips =
-        low (mips_at k) (omega arith)
-        ∙ get_or-set_other (set (set l (owned_at k) 0) (mips_at k) 0) (layers_at k) (mips_at k) 0 0 (λ z. omega arith)
-        ∙ get_or-set_same (set l (owned_at k) 0) (mips_at k) 0 0 (simp length-set (omega arith))
-
-    at_owned : get_or (cleared_at l u k) (owned_at k) 0 ≡ 0
-    at_owned =
-        low (owned_at k) (omega arith)
-        ∙ get_or-set_other (set (set l (owned_at k) 0) (mips_at k) 0) (layers_at k) (owned_at k) 0 0 (λ z. omega arith)
-        ∙ get_or-set_other (set l (owned_at k) 0) (mips_at k) (owned_at k) 0 0 (λ z. omega arith)
-        ∙ get_or-set_same l (owned_at k) 0 0 (omega arith)
-
--- ---- all of them
+-- ---- all that are cleared
 cleared_long : (t : List ℕ) (u n : ℕ) → length (cleared t u n) ≡ length t
 unfolding cleared
 cleared_long t u zero = refl
-cleared_long t u (suc k) = at_long (cleared t u k) u k ∙ cleared_long t u k
+cleared_long t u (suc k) = simp length-set (cleared_long t u k)
 
 -- a word of the head, before the first word of ownership
 cleared_head : (t : List ℕ) (u n x : ℕ) → x < owned_at 0 → get_or (cleared t u n) x 0 ≡ get_or t x 0
 unfolding cleared
 cleared_head t u zero x h = refl
-cleared_head t u (suc k) x h = at_other (cleared t u k) u k x (λ z. omega arith) (λ z. omega arith) (λ z. omega arith) (λ z.
-    omega arith) (λ z. omega arith) ∙ cleared_head t u k x h
+cleared_head t u (suc k) x h = let z = cleared_head t u k x h in grind (arith, one_written, z)
 
 -- one of an index's five words, which those of another index do not meet
 module _ (t : List ℕ) (u v : ℕ) (at : ℕ → ℕ) (long : length t ≡ table_length)
@@ -147,29 +95,24 @@ module _ (t : List ℕ) (n m w : ℕ) (p : UsageFlags) (mask : ℕ) (long : leng
 
   module _ (i : ℕ) (q : i < n) where
     owned_at_lem : get_or t' (owned_at i) 0 ≡ 0
-    owned_at_lem = cleared_word h p.uninitialized 0 owned_at head_long (λ l k a b. at_owned l p.uninitialized k a b)
-        (λ l k j a b ne. at_other l p.uninitialized k (owned_at j) (λ z. ne (omega arith)) (λ z. omega arith) (λ z. omega arith)
-        (λ z. omega arith) (λ z. omega arith)) n i few q
+    owned_at_lem = cleared_word h p.uninitialized 0 owned_at head_long (λ l k a b. grind (arith, one_written))
+        (λ l k j a b ne. grind (arith, one_written)) n i few q
 
     mips_at_lem : get_or t' (mips_at i) 0 ≡ 0
-    mips_at_lem = cleared_word h p.uninitialized 0 mips_at head_long (λ l k a b. at_mips l p.uninitialized k a b)
-        (λ l k j a b ne. at_other l p.uninitialized k (mips_at j) (λ z. omega arith) (λ z. ne (omega arith)) (λ z. omega arith)
-        (λ z. omega arith) (λ z. omega arith)) n i few q
+    mips_at_lem = cleared_word h p.uninitialized 0 mips_at head_long (λ l k a b. grind (arith, one_written))
+        (λ l k j a b ne. grind (arith, one_written)) n i few q
 
     layers_at_lem : get_or t' (layers_at i) 0 ≡ 0
-    layers_at_lem = cleared_word h p.uninitialized 0 layers_at head_long (λ l k a b. at_layers l p.uninitialized k a b)
-        (λ l k j a b ne. at_other l p.uninitialized k (layers_at j) (λ z. omega arith) (λ z. omega arith) (λ z. ne (omega arith))
-        (λ z. omega arith) (λ z. omega arith)) n i few q
+    layers_at_lem = cleared_word h p.uninitialized 0 layers_at head_long (λ l k a b. grind (arith, one_written))
+        (λ l k j a b ne. grind (arith, one_written)) n i few q
 
     start_at : get_or t' (state_at start_half i) 0 ≡ p.uninitialized
-    start_at = cleared_word h p.uninitialized _ (state_at start_half) head_long (λ l k a b. at_start l p.uninitialized k a b)
-        (λ l k j a b ne. at_other l p.uninitialized k (state_at start_half j) (λ z. omega arith) (λ z. omega arith) (λ z. omega arith)
-        (λ z. ne (omega arith)) (λ z. omega arith)) n i few q
+    start_at = cleared_word h p.uninitialized _ (state_at start_half) head_long (λ l k a b. grind (arith, one_written))
+        (λ l k j a b ne. grind (arith, one_written)) n i few q
 
     end_at : get_or t' (state_at end_half i) 0 ≡ p.uninitialized
-    end_at = cleared_word h p.uninitialized _ (state_at end_half) head_long (λ l k a b. at_end l p.uninitialized k a b)
-        (λ l k j a b ne. at_other l p.uninitialized k (state_at end_half j) (λ z. omega arith) (λ z. omega arith) (λ z. omega arith)
-        (λ z. omega arith) (λ z. ne (omega arith))) n i few q
+    end_at = cleared_word h p.uninitialized _ (state_at end_half) head_long (λ l k a b. grind (arith, one_written))
+        (λ l k j a b ne. grind (arith, one_written)) n i few q
 
     -- a half whose word is UNINITIALIZED
     held_at : (b : ℕ) (r : List ℕ) → get_or t' (state_at b i) 0 ≡ p.uninitialized → held_of d b t' r i ≡ single p.uninitialized
@@ -210,13 +153,14 @@ module _ (t : List ℕ) (n m w : ℕ) (p : UsageFlags) (mask : ℕ) (long : leng
 opened_few : (o : Opening) → opens o ≡ true → o.numbers.textures ≤ 64
 opened_few o e = (numbers_in_lem o.numbers.textures o.numbers.mips o.numbers.layers (opened_numbers o e)).textures.high
 
-pub few_of : (n m w : ℕ) (p : UsageFlags) (mask room : ℕ) → opening_refusal (asked n m w p mask room) ≡ none → n ≤ 64
+pub few_of : (n m w : ℕ) (p : UsageFlags) (mask room : ℕ) → opening_refusal (asked n m w p mask room) ≡ None → n ≤ 64
 few_of n m w p mask room e = opened_few (asked n m w p mask room) (ap accepted e)
 
--- ---- a table that is opened, or refused
+-- ---- a table that is opened, or refused: the mask is not looked at
 pub table_opened : (t : List ℕ) (n m w : ℕ) (p : UsageFlags) (mask room : ℕ) → length t ≡ table_length → (x : Option Refusal)
-    → opening_refusal (asked n m w p mask room) ≡ x
+    → opening_refusal (asked n m w p 0 room) ≡ x
     → TableOpened t n m w p mask room (verdict x) (if accepted x then cleared (headed t n m w p mask) p.uninitialized n else t)
+unfolding opening_refusal first_failing
 table_opened t n m w p mask room long x q =
     let o : opens (asked n m w p mask room) ≡ accepted x = ap accepted q in
     record { long = long; answer = sym (ap verdict q); content = rw o }
@@ -232,9 +176,3 @@ module _ {t t' : List ℕ} {n m w : ℕ} {p : UsageFlags} {mask room : ℕ} {x :
 
   pub opened_tracker : (s e : List ℕ) → tracker_of t' s e ≡ open_tracker single (asked n m w p mask room)
   opened_tracker s e = rw written (tracker_opened t n m w p mask b.long (opened_few _ o) (opened_fits _ o) s e room)
-
--- the mask is not looked at
-pub any_mask : (n m w : ℕ) (p : UsageFlags) (mask room : ℕ)
-    → opening_refusal (asked n m w p 0 room) ≡ opening_refusal (asked n m w p mask room)
-unfolding opening_refusal first_failing
-any_mask n m w p mask room = refl

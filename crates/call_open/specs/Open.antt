@@ -1,7 +1,7 @@
 -- What opening asks for, answers and writes.
 use Rattle.model.specs.Prelude.{ℕ, zero, suc, min, true, List, [], length, set, sets}
-use Rattle.model.specs.{declared.{UsageFlags.UsageFlags, Outcome.Outcome}, Sets.{Opening, open_set, open_tracker}}
-use Rattle.model.specs.{Refusals.{opening_refusal, opens}, Log.verdict, Texture.single}
+use Rattle.model.specs.{declared.UsageFlags.UsageFlags, Sets.{Opening, open_set, open_tracker}}
+use Rattle.model.specs.{Refusals.{opening_refusal, opens}, Log.{Outcome, verdict}, Texture.single}
 use Rattle.std.specs.Prelude.{◌/◌, ◌≡◌, ◌∷◌, if◌then◌else◌}
 use Rattle.set_storage.specs.Storage.{scope_of, tracker_of, end_half, layers_at, mips_at, owned_at, start_half, state_at, table_length}
 

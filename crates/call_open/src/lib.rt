@@ -8,32 +8,35 @@
 // is lent beyond it is ignored.
 #![tactic(auto)]
 
-ghost use Rattle.std.specs.Prelude.{◌≡◌, ◌≤◌, ◌/◌, min};
-ghost use Rattle.model.specs.Refusals.{opening_refusal, refused_for};
+ghost use Rattle.std.specs.Prelude.{◌≡◌, ◌≤◌};
+ghost use Rattle.std.specs.Result.{result_err};
+ghost use Rattle.model.specs.Refusals.{opening_refusal};
+ghost use Rattle.model.specs.Log.{unless_refused};
 ghost use Rattle.call_open.specs.Open.{asked, headed, cleared, TableOpened, OpenedScope, OpenedTracker};
 
-use model::{Outcome, Refusal, UsageFlags, Verdict};
+use model::{Refusal, UsageFlags};
 use set_storage::{
     COMPLEX, END, EXCLUSIVE, LAYER_LIMIT, LAYERS, MASK, MIP_LIMIT, MIPS, OWNED, START, TEXTURES,
-    Table, UNINITIALIZED, UNKNOWN, table_len, wide,
+    Table, UNINITIALIZED, UNKNOWN, wide,
 };
 use set_wellformed::numbers_fit;
 use usage::flags_fit;
 
 // The checks 1, 2 and 3, for room of so many ranges.
-pub fn check(n: u32, m: u32, w: u32, p: UsageFlags, room: usize) -> Verdict
-    ensures { opening_refusal (asked n m w p 0 room) ≡ refused_for result }
+#[tactic(auto, unfolding(model::specs::Refusals::opening_refusal, model::specs::Refusals::first_failing))]
+pub fn check(n: u32, m: u32, w: u32, p: UsageFlags, room: usize) -> Result<(), Refusal>
+    ensures { opening_refusal (asked n m w p 0 room) ≡ result_err result }
 {
     if !numbers_fit(n, m, w) {
-        return Verdict::Refused(Refusal::NumbersOutOfLimits);
+        return Err(Refusal::NumbersOutOfLimits);
     }
     if !flags_fit(p) {
-        return Verdict::Refused(Refusal::FlagsBreakRule);
+        return Err(Refusal::FlagsBreakRule);
     }
     if room < wide(n) * wide(m) * wide(w) {
-        return Verdict::Refused(Refusal::ShortRoom);
+        return Err(Refusal::ShortRoom);
     }
-    Verdict::Accepted
+    Ok(())
 }
 
 // The numbers, the flags and the mask.
@@ -51,22 +54,22 @@ pub fn write_head(table: &mut Table, n: u32, m: u32, w: u32, p: UsageFlags, mask
 }
 
 // The first n indices: not owned, and UNINITIALIZED in both halves.
+#[tactic(auto, unfolding(crate::specs::Open::cleared))]
 pub fn clear(table: &mut Table, n: usize, state: u32)
     requires { n ≤ 64 }
     ensures { table.new ≡ cleared table.old state n }
 {
-    let mut i = 0;
-    while i < n {
+    for i in 0..n {
         table[OWNED + i] = 0;
         table[MIPS + i] = 0;
         table[LAYERS + i] = 0;
         table[START + i] = state;
         table[END + i] = state;
-        i += 1;
     }
 }
 
 // Opens a table: it is written if the checks let it pass.
+// N, M and W come as three numbers, as the C interface hands them in.
 fn open_table(
     table: &mut Table,
     n: u32,
@@ -75,18 +78,13 @@ fn open_table(
     p: UsageFlags,
     mask: u32,
     room: usize,
-) -> Outcome
-    ensures { TableOpened table.old n m w p mask room result table.new }
+) -> Result<(), Refusal>
+    ensures { TableOpened table.old n m w p mask room (unless_refused result) table.new }
 {
-    table_len(table);
-    match check(n, m, w, p, room) {
-        Verdict::Accepted => {
-            write_head(table, n, m, w, p, mask);
-            clear(table, wide(n), p.uninitialized);
-            Outcome::Done
-        }
-        Verdict::Refused(r) => Outcome::Refused(r),
-    }
+    check(n, m, w, p, room)?;
+    write_head(table, n, m, w, p, mask);
+    clear(table, wide(n), p.uninitialized);
+    Ok(())
 }
 
 // Opens a scope for n textures of m mips and w layers.
@@ -97,8 +95,8 @@ pub fn open_scope(
     m: u32,
     w: u32,
     p: UsageFlags,
-) -> Outcome
-    ensures { OpenedScope table.old ranges.now n m w p result table.new }
+) -> Result<(), Refusal>
+    ensures { OpenedScope table.old ranges.now n m w p (unless_refused result) table.new }
 {
     open_table(table, n, m, w, p, 0, ranges.len() / 3)
 }
@@ -113,15 +111,9 @@ pub fn open_tracker(
     w: u32,
     p: UsageFlags,
     mask: u16,
-) -> Outcome
-    ensures { OpenedTracker table.old starts.now ends.now n m w p mask result table.new }
+) -> Result<(), Refusal>
+    ensures { OpenedTracker table.old starts.now ends.now n m w p mask (unless_refused result) table.new }
 {
-    let room = smaller(starts.len() / 3, ends.len() / 3);
+    let room = (starts.len() / 3).min(ends.len() / 3);
     open_table(table, n, m, w, p, mask as u32, room)
-}
-
-fn smaller(a: usize, b: usize) -> usize
-    ensures { result ≡ min a b }
-{
-    if a < b { a } else { b }
 }

@@ -1,8 +1,8 @@
 -- The sparse call: from what the code found and changed to the contract.
-use Rattle.model.specs.Prelude.{ℕ, mul-le-mul, arith, refl, sym, ap, subst, ◌∙◌, Bool, true, and-eq-true_iff, [], Option, none, some, List}
-use Rattle.model.specs.Prelude.{length}
+use Rattle.model.specs.Prelude.{ℕ, mul-le-mul, arith, refl, sym, ap, subst, ◌∙◌, Bool, true, and-eq-true_iff, [], Option, None, Some, List}
+use Rattle.model.specs.Prelude.{length, Err, Ok}
 use Rattle.model.specs.declared.Refusal.TheVariants.{NoFreeEntry}
-use Rattle.model.specs.declared.{InvalidUse.InvalidUse, LogHead.LogHead, Refusal.Refusal, Answered.Answered}
+use Rattle.model.specs.declared.{InvalidUse.InvalidUse, LogHead.LogHead, Refusal.Refusal}
 use Rattle.model.specs.{Sets.{capacity, Head, Set, Tracker, head_of}, Refusals.sparse_refusal}
 use Rattle.model.specs.{Calls.{CallResult, unless, sparse_all, set_and_remove_sparse}, Log.pending, Texture.{Held, Entry, ranged}}
 use Rattle.model.specs.WellFormed.{scope_fits, tracker_fits, well_formed_scope, well_formed_tracker}
@@ -16,7 +16,7 @@ use Rattle.log_head.specs.{Log.{head_within, refused_with, moved_on}, Called.{Wr
 use Rattle.call_remove.specs.Removed.{Both, sets_of, Removed, Removes, away_own, removes_removed}
 use Rattle.call_remove.specs.{Logs.{most_entries, removed_entries, entries_model}, Taken.{Listing, Takes, sets_after}}
 use Rattle.model.specs.Calls as calls
-use Rattle.model.specs.declared.Verdict.TheVariants as verdict
+use Rattle.model.specs.Log.{Answered}
 
 -- ---- `remove_checked`
 module _ {t s e g r is l : List ℕ} {h : LogHead} where
@@ -57,7 +57,7 @@ tracker_part a b t e = ((and-eq-true_iff _ _).0 ((and-eq-true_iff _ _).0 e).0).0
 pub scope_part : (a : ℕ) (s : Set Held) → well_formed_scope a s ≡ true → scope_fits s ≡ true
 scope_part a s e = ((and-eq-true_iff _ _).0 e).0
 
-module _ {t s e g r is : List ℕ} (tracker : TrackerTested t s e) (scope : ScopeTested g r) (told : SparseTold t g is verdict.Accepted) where
+module _ {t s e g r is : List ℕ} (tracker : TrackerTested t s e) (scope : ScopeTested g r) (told : SparseTold t g is (Ok tt)) where
   -- the test and the checks passed
   pub removes : Listing t s e g r is
   removes = record { tracker = tracker; scope = scope; passed = sparse_passed t g is told.is }
@@ -73,7 +73,7 @@ module _ {t s e g r is : List ℕ} (tracker : TrackerTested t s e) (scope : Scop
   few_entries a b =
       let z = sparse_room (tracker_of t s e) a (scope_of g r) b is in
       let y : entries (set_and_remove_sparse ranged (tracker_of t s e) (scope_of g r) is).log ≡ length (removed_entries t e g r is) =
-      ap (λ (x : BothResult). entries x.log) (call_is t s e g r is none told.is)
+      ap (λ (x : BothResult). entries x.log) (call_is t s e g r is None told.is)
       ∙ sym (entries_written (sparse_all ranged is (sets_of t s e g r)).log) ∙ ap length model_entries in
       omega arith
 
@@ -92,7 +92,7 @@ module _ {t s e g r is : List ℕ} (tracker : TrackerTested t s e) (scope : Scop
       → Removes is (removed_entries t e g r is) (sets_after t s e g r is) h t s e g r l x t' s' e' g' l'
       → Removed is fits (set_and_remove_sparse ranged (tracker_of t s e) (scope_of g r) is) h t s e g r l x t' s' e' g' l'
   call_done {fits} {h} {l} {x} {t'} {s'} {e'} {g'} {l'} f k c =
-      subst (λ (y : BothResult). Removed is fits y h t s e g r l x t' s' e' g' l') (sym (call_is t s e g r is none told.is))
+      subst (λ (y : BothResult). Removed is fits y h t s e g r l x t' s' e' g' l') (sym (call_is t s e g r is None told.is))
       (removes_removed f k (answers is) (rw model_entries c))
     where
       answers : (js : List ℕ) → (sparse_all ranged js (sets_of t s e g r)).answer ≡ calls.done
@@ -101,7 +101,7 @@ module _ {t s e g r is : List ℕ} (tracker : TrackerTested t s e) (scope : Scop
 
 -- 6 to 9
 pub call_away : {t s e g r is : List ℕ} {fits : Bool} {h : LogHead} {l : List ℕ} {y : Refusal} → fits ≡ true
-    → head_within (length l / 7) h ≡ true → SparseTold t g is (verdict.Refused y)
+    → head_within (length l / 7) h ≡ true → SparseTold t g is (Err y)
     → Removed is fits (set_and_remove_sparse ranged (tracker_of t s e) (scope_of g r) is) h t s e g r l (refused_with y h) t s e g l
 call_away {t} {s} {e} {g} {r} {is} {y = y} f k told =
-    away_own y f k (ap (λ (x : BothResult). x.answer) (call_is t s e g r is (some y) told.is))
+    away_own y f k (ap (λ (x : BothResult). x.answer) (call_is t s e g r is (Some y) told.is))

@@ -1,37 +1,37 @@
 -- `log_listed`: which indices were listed before, and the entries of one by that.
 use Rattle.std.specs.Prelude.{◌+◌, ◌<◌, ◌≡◌, if◌then◌else◌}
-use Rattle.model.specs.Prelude.{ℕ, add-one, ℕ_discrete, arith, refl, sym, ◌∙◌, true, not, List, eqb, length, get_or, set, take}
+use Rattle.model.specs.Prelude.{ℕ, add-one, ℕ_discrete, arith, refl, sym, ◌∙◌, Bool, true, false, List, eqb, length, get_or, set, take}
 use Rattle.model.specs.Prelude.{replicate, length-set, get_or-replicate, take-suc, get_or-set_same, get_or-set_other, eq-eqb, ne_eqb}
 use Rattle.model.specs.{declared.UsageFlags.UsageFlags}
 use Rattle.texture_barrier.specs.Adds.{entries_at}
 use Rattle.agreement.specs.LogBound.{listed}
 use Rattle.call_remove.specs.{Logs.{once_entries, listed_entries}, Once.listed_last}
 
--- ---- Which indices were listed so far: 1 at each
-pub record Seen (seen is : List ℕ) (k : ℕ) : Type 0 where
+-- ---- Which indices were listed so far: true at each
+pub record Seen (seen : List Bool) (is : List ℕ) (k : ℕ) : Type 0 where
   pub long : length seen ≡ 64
-  pub tells : (j : ℕ) → j < 64 → not (eqb (get_or seen j 0) 0) ≡ listed j (take k is)
+  pub tells : (j : ℕ) → j < 64 → get_or seen j false ≡ listed j (take k is)
 
 -- none yet
-pub seen_none : (is : List ℕ) → Seen (replicate 64 0) is 0
-seen_none is = record { long = refl; tells = λ j h. let e = get_or-replicate {A = ℕ} 64 j 0 0 h in rw e }
+pub seen_none : (is : List ℕ) → Seen (replicate 64 false) is 0
+seen_none is = record { long = refl; tells = λ j h. let e = get_or-replicate {A = Bool} 64 j false false h in rw e }
 
 -- one more
-pub seen_next : {seen is : List ℕ} {k i : ℕ} → Seen seen is k → k < length is → i ≡ get_or is k 0 → get_or is k 0 < 64
-    → Seen (set seen i 1) is (k + 1)
+pub seen_next : {seen : List Bool} {is : List ℕ} {k i : ℕ} → Seen seen is k → k < length is → i ≡ get_or is k 0 → get_or is k 0 < 64
+    → Seen (set seen i true) is (k + 1)
 seen_next {seen} {is} {k} {i} q h e l =
     record {
-      long = length-set seen i 1 ∙ q.long;
+      long = length-set seen i true ∙ q.long;
       tells = λ j b. rw (add-one, take-suc is k 0 h, listed_last j (get_or is k 0) (take k is), ← e) (go j b (ℕ_discrete i j));
     }
   where
-    go : (j : ℕ) → j < 64 → Dec (i ≡ j) → not (eqb (get_or (set seen i 1) j 0) 0) ≡ (if eqb i j then true else listed j (take k is))
-    go j b (yes z) = rw (← z, get_or-set_same seen i 1 0 (omega (arith, q.long)), eq-eqb i i refl)
-    go j b (no z) = rw (get_or-set_other seen i j 1 0 (λ y. z (sym y)), ne_eqb i j z) (q.tells j b)
+    go : (j : ℕ) → j < 64 → Dec (i ≡ j) → get_or (set seen i true) j false ≡ (if eqb i j then true else listed j (take k is))
+    go j b (yes z) = rw (← z, get_or-set_same seen i true false (omega (arith, q.long)), eq-eqb i i refl)
+    go j b (no z) = rw (get_or-set_other seen i j true false (λ y. z (sym y)), ne_eqb i j z) (q.tells j b)
 
 -- the entries of the index at position k, as `log_listed_at` adds them: by whether it was listed before
-pub once_is : {seen is : List ℕ} {k i : ℕ} → Seen seen is k → i ≡ get_or is k 0 → get_or is k 0 < 64
+pub once_is : {seen : List Bool} {is : List ℕ} {k i : ℕ} → Seen seen is k → i ≡ get_or is k 0 → get_or is k 0 < 64
     → (p : UsageFlags) (mask : ℕ) (t e g r : List ℕ)
-    → entries_at i (once_entries (not (eqb (get_or seen i 0) 0)) p mask t e g r i)
+    → entries_at i (once_entries (get_or seen i false) p mask t e g r i)
     ≡ entries_at (get_or is k 0) (listed_entries p mask t e g r is k)
 once_is {is = is} {k} q e h p mask t e' g r = rw (e, q.tells (get_or is k 0) h)

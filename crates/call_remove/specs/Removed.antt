@@ -1,9 +1,9 @@
 -- THE CONTRACT of the sparse call: the answer, and the content of what was lent; and what it is check by check.
 use Rattle.model.specs.Prelude.{ℕ, refl, sym, ap, ◌∙◌, Bool, true, false, false≢true, List, length}
 use Rattle.model.specs.declared.Refusal.TheVariants.{NotWellFormed, LogTooShort}
-use Rattle.model.specs.declared.{Answered.Answered, InvalidUse.InvalidUse, LogHead.LogHead, PendingTransition.PendingTransition}
+use Rattle.model.specs.declared.{InvalidUse.InvalidUse, LogHead.LogHead, PendingTransition.PendingTransition}
 use Rattle.model.specs.{declared.Refusal.Refusal, Sets.{Set, Tracker}, Calls.{CallResult, done, set_and_remove_sparse}}
-use Rattle.model.specs.{Log.{is_refused, pending}, Texture.{Held, Entry, ranged}, BoolLaws.by_lt}
+use Rattle.model.specs.{Log.{Answered, is_refused, pending}, Texture.{Held, Entry, ranged}, BoolLaws.by_lt}
 use Rattle.std.specs.Prelude.{◌/◌, ◌≤◌, ◌≡◌, ◌&&◌}
 use Rattle.set_storage.specs.Storage.{numbers_of, scope_of, tracker_of}
 use Rattle.set_storage.specs.Lent.{LentScope, LentTracker, scope_in, tracker_in, scope_test, tracker_test}

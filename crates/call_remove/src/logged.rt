@@ -7,11 +7,11 @@ ghost use Rattle.set_storage.specs.Storage.{start_half};
 ghost use Rattle.texture_track.specs.GivenSlot.{LogsAt};
 
 use model::UsageFlags;
-use set_storage::{OWNED, START, Table, wide};
-use texture_track::given::{both_single, log_owned_at, log_single};
+use set_storage::{START, Table, wide};
+use texture_track::given::log_at;
 
 // Those of index i, counted, or written after the first `at` entries of the log: none if the scope does not own it, or if it was listed
-// before. As `texture_track`'s `log_at`, with no call where both are Single.
+// before.
 pub fn log_listed_at(
     table: &Table,
     ends: &[u32],
@@ -34,19 +34,10 @@ pub fn log_listed_at(
     if again {
         return 0;
     }
-    if given[OWNED + i] == 0 {
-        return 0;
-    }
-    if table[OWNED + i] == 0 {
-        return 0;
-    }
-    if both_single(table, given, START, i) {
-        return log_single(table, given, START, i, p, mask, log, at, write);
-    }
-    log_owned_at(table, ends, i, p, mask, given, lent, START, log, at, write)
+    log_at(table, ends, i, p, mask, given, lent, START, log, at, write)
 }
 
-// Those of all, in list order. `seen` is 1 at each index that was listed so far.
+// Those of all, in list order. `seen` is true at each index that was listed so far.
 pub fn log_listed(
     table: &Table,
     ends: &[u32],
@@ -60,22 +51,21 @@ pub fn log_listed(
     write: bool,
 ) -> usize
     requires logs_listed { LogsListed table.now ends.now given.now lent.now indices.now }
-    requires is_bound { let is = indices.now in
+    requires few { let is = indices.now in
         length (entries_to p mask table.now ends.now given.now lent.now is (length is)) ≤ most_entries }
     requires most_entries_bound { at + most_entries ≤ log_top }
-    requires fact { let is = indices.now in
+    requires room_for { let is = indices.now in
         RoomFor write log.old at (entries_to p mask table.now ends.now given.now lent.now is (length is)) }
     ensures { let t = table.now in let e = ends.now in let g = given.now in let is = indices.now in
         let r = lent.now in
         Adds most_entries write log.old at (entries_to p mask t e g r is (length is)) result log.new }
 {
-    let mut seen = [0u8; 64];
+    let mut seen = [false; 64];
     let mut x = 0;
-    let mut k = 0;
-    while k < indices.len() {
-        let i = wide(indices[k]);
-        let again = seen[i] != 0;
-        let y = log_listed_at(
+    for &index in indices {
+        let i = wide(index);
+        let again = seen[i];
+        x += log_listed_at(
             table,
             ends,
             i,
@@ -88,9 +78,7 @@ pub fn log_listed(
             at + x,
             write,
         );
-        seen[i] = 1;
-        x += y;
-        k += 1;
+        seen[i] = true;
     }
     x
 }

@@ -1,6 +1,6 @@
 // `TextureTracker::set_and_remove_from_usage_scope_sparse`: the listed textures of a scope.
 ghost use Rattle.std.specs.Prelude.{◌≡◌, true, ◌/◌, ◌≤◌, ◌<◌, length};
-ghost use Rattle.model.specs.Sets.{capacity};
+ghost use Rattle.model.specs.{Log.{answered}, Sets.{capacity}};
 ghost use Rattle.set_storage.specs.Storage.{numbers_of};
 ghost use Rattle.set_storage.specs.Lent.{LentScope, LentTracker};
 ghost use Rattle.log_head.specs.Log.{head_within};
@@ -10,8 +10,8 @@ ghost use Rattle.call_remove.specs.Removed.{Removes, SetAndRemoveSparse};
 
 use crate::logged::log_listed;
 use crate::taken::set_listed;
-use log_head::{head_fits, lent_entries, moved_on, refused, subresources};
-use model::{Answered, LogHead, Refusal, Verdict};
+use log_head::{check_head, moved_on, subresources};
+use model::{LogHead, Refusal};
 use set_checks::check_sparse;
 use set_storage::{MASK, Table, flags_of};
 use set_wellformed::{scope_fits, tracker_fits};
@@ -27,7 +27,7 @@ pub fn remove_checked(
     indices: &[u32],
     log: &mut [u32],
     head: LogHead,
-) -> Answered
+) -> Result<LogHead, Refusal>
     requires listing { Listing table.old starts.old ends.old given.old lent.now indices.now }
     requires indices_len_bound { length (removed_entries table.old ends.old given.old lent.now indices.now)
         ≤ capacity (numbers_of table.old) }
@@ -37,21 +37,20 @@ pub fn remove_checked(
     ensures { let t = table.old in let s = starts.old in let e = ends.old in
         let g = given.old in let r = lent.now in let is = indices.now in
         Removes is (removed_entries t e g r is) (sets_after t s e g r is) head t s e g r log.old
-        result table.new starts.new ends.new given.new log.new }
+        (answered head result) table.new starts.new ends.new given.new log.new }
 {
     let p = flags_of(table);
     let mask = table[MASK];
-    let free = head.free;
-    if free < subresources(table) {
+    if head.free < subresources(table) {
         let n = log_listed(table, ends, p, mask, given, lent, indices, log, 0, false);
-        if free < n {
-            return refused(Refusal::NoFreeEntry, head);
+        if head.free < n {
+            return Err(Refusal::NoFreeEntry);
         }
     }
     let at = head.written;
     let n = log_listed(table, ends, p, mask, given, lent, indices, log, at, true);
     set_listed(table, starts, ends, given, lent, indices, p);
-    moved_on(head, n)
+    Ok(moved_on(head, n))
 }
 
 // Sets the listed textures of a scope in a tracker, logs the transitions, and removes them from the scope.
@@ -64,23 +63,19 @@ pub fn set_and_remove_from_usage_scope_sparse(
     indices: &[u32],
     log: &mut [u32],
     head: LogHead,
-) -> Answered
+) -> Result<LogHead, Refusal>
     ensures { let t : LentTracker = record { table = table.old; starts = starts.old; ends = ends.old } in
         let g : LentScope = record { table = given.old; ranges = lent.now } in
         let t' : LentTracker = record { table = table.new; starts = starts.new; ends = ends.new } in
-        SetAndRemoveSparse t g indices.now head log.old result t' given.new log.new }
+        SetAndRemoveSparse t g indices.now head log.old (answered head result) t' given.new log.new }
 {
     if !tracker_fits(table, starts, ends) {
-        return refused(Refusal::NotWellFormed, head);
+        return Err(Refusal::NotWellFormed);
     }
     if !scope_fits(given, lent) {
-        return refused(Refusal::NotWellFormed, head);
+        return Err(Refusal::NotWellFormed);
     }
-    if !head_fits(lent_entries(log), head) {
-        return refused(Refusal::LogTooShort, head);
-    }
-    match check_sparse(table, given, indices) {
-        Verdict::Accepted => remove_checked(table, starts, ends, given, lent, indices, log, head),
-        Verdict::Refused(r) => refused(r, head),
-    }
+    check_head(log, head)?;
+    check_sparse(table, given, indices)?;
+    remove_checked(table, starts, ends, given, lent, indices, log, head)
 }

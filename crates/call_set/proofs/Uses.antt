@@ -1,8 +1,7 @@
 -- `set_checked` and `set_single_lem`: from what the code found, wrote and changed to the contract.
-use Rattle.model.specs.Prelude.{ℕ, refl, sym, ap, subst, ◌∙◌, Bool, true, Option, none, some, List, length, get_or, set}
-use Rattle.model.specs.declared.Selection.TheVariants.{Part}
+use Rattle.model.specs.Prelude.{ℕ, refl, sym, ap, subst, ◌∙◌, Bool, true, Option, None, Some, List, length, get_or, set, Ok, Err}
 use Rattle.model.specs.declared.{Extent.Extent, InvalidUse.InvalidUse, LogHead.LogHead, Selector.Selector, UsageFlags.UsageFlags}
-use Rattle.model.specs.{declared.{Refusal.Refusal, Answered.Answered}, Representation.{Ends, is_full}}
+use Rattle.model.specs.{declared.{Refusal.Refusal}, Representation.{Ends, is_full}}
 use Rattle.model.specs.WellFormed.{tracker_fits, well_formed_tracker}
 use Rattle.model.specs.{Sets.{capacity, Head, Slot, Tracker, slot_at, empty_slot, with_tracker}, Refusals.single_refusal}
 use Rattle.model.specs.{Calls.{CallResult, done, unless, set_slot, log_slot, set_single, no_ends}, Log.pending}
@@ -17,7 +16,7 @@ use Rattle.set_ready.specs.{Tested.TrackerTested, Half.{BothReady, tracker_textu
 use Rattle.texture_track.specs.{Tracked.{Same, Tracked, Changes, away_own, changes_tracked}, Slot.{SlotSet, tracker_view, slot_pending}}
 use Rattle.call_set.specs.Used.{used_entries, used_tracker}
 use Rattle.log_head.specs.{Log.{head_within, refused_with}, Called.Changed}
-use Rattle.model.specs.declared.Verdict.TheVariants as verdict
+use Rattle.model.specs.Log.{Answered}
 
 -- ---- `set_checked`
 module _ (t s e : List ℕ) (i : ℕ) (sh : Extent) (g : Given) where
@@ -42,18 +41,18 @@ module _ (t s e : List ℕ) (i : ℕ) (sh : Extent) (q : Selector) (st : ℕ) wh
   abbrev passing : UsageFlags → ℕ → Slot (Ends Held) → TrackerResult
   passing p mask x = record {
     answer = done;
-    log = log_slot ranged p mask sh (from_use sh (some q) st) i x;
+    log = log_slot ranged p mask sh (from_use sh (Some q) st) i x;
     after = with_tracker (tracker_of t s e)
-        (set (tracker_of t s e).set.slots i (set_slot ranged p sh (from_use sh (some q) st) (from_use sh (some q) st) x));
+        (set (tracker_of t s e).set.slots i (set_slot ranged p sh (from_use sh (Some q) st) (from_use sh (Some q) st) x));
   }
 
-  call_is : (o : Option Refusal) → use_refusal t i sh (Part q) st ≡ o
+  call_is : (o : Option Refusal) → use_refusal t i sh (Some q) st ≡ o
       → set_single ranged (tracker_of t s e) i sh q st
       ≡ unless o (tracker_of t s e) (passing (tracker_of t s e).set.flags (tracker_of t s e).mask
       (slot_at (no_ends ranged) (tracker_of t s e).set i))
   unfolding use_refusal
   call_is o z =
-      ap (λ (h : Head). unless (single_refusal h i sh (some q) st) (tracker_of t s e)
+      ap (λ (h : Head). unless (single_refusal h i sh (Some q) st) (tracker_of t s e)
       (passing (tracker_of t s e).set.flags (tracker_of t s e).mask (slot_at (no_ends ranged) (tracker_of t s e).set i)))
       (tracker_head t s e)
       ∙ ap (λ (y : Option Refusal). unless y (tracker_of t s e) (passing (tracker_of t s e).set.flags (tracker_of t s e).mask
@@ -68,49 +67,49 @@ module _ (t s e : List ℕ) (i : ℕ) (sh : Extent) (q : Selector) (st : ℕ) wh
 
 module _ {t s e : List ℕ} {i : ℕ} {sh : Extent} {q : Selector} {st : ℕ} {fits : Bool} {h : LogHead} {l : List ℕ} (f : fits ≡ true)
     (k : head_within (length l / 7) h ≡ true) where
-  pub single_away : {r : Refusal} → UseTold t i sh (Part q) st (verdict.Refused r)
+  pub single_away : {r : Refusal} → UseTold t i sh (Some q) st (Err r)
       → Tracked (Only i) fits (set_single ranged (tracker_of t s e) i sh q st) h t s e l (refused_with r h) t s e l
   single_away {r} z = away_own r f k (ap (λ (y : CallResult InvalidUse (List Entry) (Tracker Held)). y.answer)
-      (call_is t s e i sh q st (some r) z.is))
+      (call_is t s e i sh q st (Some r) z.is))
 
-  pub single_done : {x : Answered} {t' s' e' l' : List ℕ} (g : Given) → UseTold t i sh (Part q) st verdict.Accepted
-      → from_use sh (some q) st ≡ g → Changes (Only i) (used_entries t s e i sh g) (used_tracker t s e i sh g) h t s e l x t' s' e' l'
+  pub single_done : {x : Answered} {t' s' e' l' : List ℕ} (g : Given) → UseTold t i sh (Some q) st (Ok tt)
+      → from_use sh (Some q) st ≡ g → Changes (Only i) (used_entries t s e i sh g) (used_tracker t s e i sh g) h t s e l x t' s' e' l'
       → Tracked (Only i) fits (set_single ranged (tracker_of t s e) i sh q st) h t s e l x t' s' e' l'
   single_done {x} {t'} {s'} {e'} {l'} g z w c =
       let n = z.is in
       let m : set_single ranged (tracker_of t s e) i sh q st
       ≡ passing t s e i sh q st (flags_of t) (get_or t mask_at 0) (tracker_slot t s e i) =
-      call_is t s e i sh q st none n ∙ read_here t s e i sh q st (texture_passed t i sh (use_passed t i sh (Part q) st n).0).texture in
-      let d : Changes (Only i) (used_entries t s e i sh (from_use sh (some q) st)) (used_tracker t s e i sh (from_use sh (some q) st)) h t
+      call_is t s e i sh q st None n ∙ read_here t s e i sh q st (texture_passed t i sh (use_passed t i sh (Some q) st n).0).texture in
+      let d : Changes (Only i) (used_entries t s e i sh (from_use sh (Some q) st)) (used_tracker t s e i sh (from_use sh (Some q) st)) h t
       s e l x t' s' e' l' = rw w c in
       subst (λ (y : CallResult InvalidUse (List Entry) (Tracker Held)). Tracked (Only i) fits y h t s e l x t' s' e' l') (sym m)
       (changes_tracked f k refl
-      (rw (slot_pending (flags_of t) (get_or t mask_at 0) sh (from_use sh (some q) st) i (tracker_slot t s e i)) d))
+      (rw (slot_pending (flags_of t) (get_or t mask_at 0) sh (from_use sh (Some q) st) i (tracker_slot t s e i)) d))
 
 -- no more entries than the tracker has subresources
 pub single_few : (t s e : List ℕ) {i : ℕ} {sh : Extent} {q : Selector} {st : ℕ} (room : ℕ) (room₂ : ℕ)
-    → well_formed_tracker room room₂ (tracker_of t s e) ≡ true → st < 65536 → UseTold t i sh (Part q) st verdict.Accepted
-    → (g : Given) → from_use sh (some q) st ≡ g
+    → well_formed_tracker room room₂ (tracker_of t s e) ≡ true → st < 65536 → UseTold t i sh (Some q) st (Ok tt)
+    → (g : Given) → from_use sh (Some q) st ≡ g
     → length (used_entries t s e i sh g) ≤ capacity (numbers_of t)
 unfolding tracker_of
 single_few t s e {i} {sh} {q} {st} room room₂ f b z g w =
     let n = z.is in
     let m : set_single ranged (tracker_of t s e) i sh q st
     ≡ passing t s e i sh q st (flags_of t) (get_or t mask_at 0) (tracker_slot t s e i) =
-    call_is t s e i sh q st none n ∙ read_here t s e i sh q st (texture_passed t i sh (use_passed t i sh (Part q) st n).0).texture in
+    call_is t s e i sh q st None n ∙ read_here t s e i sh q st (texture_passed t i sh (use_passed t i sh (Some q) st n).0).texture in
     let d = set_single_room (tracker_of t s e) (and_left (tracker_fits (tracker_of t s e)) _ (and_left _ _ f)) i sh q st b in
     let k : length (pending (set_single ranged (tracker_of t s e) i sh q st).log) ≤ capacity (numbers_of t) =
     rw (entries_written (set_single ranged (tracker_of t s e) i sh q st).log) d in
-    rw (m, slot_pending (flags_of t) (get_or t mask_at 0) sh (from_use sh (some q) st) i (tracker_slot t s e i), w) at k
+    rw (m, slot_pending (flags_of t) (get_or t mask_at 0) sh (from_use sh (Some q) st) i (tracker_slot t s e i), w) at k
 
 -- ---- What one texture asks for
-module _ {t : List ℕ} {i : ℕ} {sh : Extent} {q : Selector} {st : ℕ} (z : UseTold t i sh (Part q) st verdict.Accepted) where
+module _ {t : List ℕ} {i : ℕ} {sh : Extent} {q : Selector} {st : ℕ} (z : UseTold t i sh (Some q) st (Ok tt)) where
   pub single_ready : {s e : List ℕ} → TrackerTested t s e → BothReady t s e i sh
-  single_ready k = tracker_texture k (texture_passed t i sh (use_passed t i sh (Part q) st z.is).0)
+  single_ready k = tracker_texture k (texture_passed t i sh (use_passed t i sh (Some q) st z.is).0)
 
   pub single_use : {all : Bool} → all ≡ is_full sh q → TakenUse t sh all q (flags_of t) st
   single_use {all} e =
-      let a = use_passed t i sh (Part q) st z.is in
+      let a = use_passed t i sh (Some q) st z.is in
       record {
         flags = refl;
         selector = selector_passed sh q a.1.0;
@@ -118,5 +117,5 @@ module _ {t : List ℕ} {i : ℕ} {sh : Extent} {q : Selector} {st : ℕ} (z : U
         state = state_passed (flags_of t) st a.1.1;
       }
 
-pub as_use_lem : (sh : Extent) (q : Selector) (st : ℕ) (all : Bool) → all ≡ is_full sh q → from_use sh (some q) st ≡ use_of all q st
+pub as_use_lem : (sh : Extent) (q : Selector) (st : ℕ) (all : Bool) → all ≡ is_full sh q → from_use sh (Some q) st ≡ use_of all q st
 as_use_lem sh q st all e = rw e refl

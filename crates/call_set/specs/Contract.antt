@@ -1,7 +1,7 @@
 -- THE CONTRACT of `set_single_lem`.
 use Rattle.model.specs.Prelude.{ℕ, List}
-use Rattle.model.specs.declared.{Answered.Answered, Extent.Extent, LogHead.LogHead, Selector.Selector, TrackerIndex.TrackerIndex}
-use Rattle.model.specs.{Calls.set_single, Texture.ranged}
+use Rattle.model.specs.declared.{Extent.Extent, LogHead.LogHead, Selector.Selector, TrackerIndex.TrackerIndex}
+use Rattle.model.specs.{Calls.set_single, Log.Answered, Texture.ranged}
 use Rattle.set_storage.specs.{Lent.{LentTracker, tracker_in, tracker_test}, Stays.Only}
 use Rattle.texture_track.specs.Tracked.{TrackerCall}
 

@@ -1,6 +1,6 @@
 // `TextureTracker::set_single`: one use of one texture.
 ghost use Rattle.std.specs.Prelude.{◌≡◌, true, ◌/◌, ◌≤◌, ◌<◌, length};
-ghost use Rattle.model.specs.Sets.{capacity};
+ghost use Rattle.model.specs.{Log.{answered}, Sets.{capacity}};
 ghost use Rattle.set_storage.specs.Storage.{numbers_of, flags_of};
 ghost use Rattle.set_storage.specs.Lent.{LentTracker};
 ghost use Rattle.set_storage.specs.Stays.{Only};
@@ -12,8 +12,8 @@ ghost use Rattle.texture_track.specs.Tracked.{Changes};
 ghost use Rattle.call_set.specs.Used.{used_entries, used_tracker};
 ghost use Rattle.call_set.specs.Contract.{SetSingle};
 
-use log_head::{head_fits, lent_entries, moved_on, refused, subresources};
-use model::{Answered, Extent, LogHead, Refusal, Selection, Selector, TrackerIndex, Verdict};
+use log_head::{check_head, moved_on, subresources};
+use model::{Extent, LogHead, Refusal, Selector, TrackerIndex};
 use set_checks::check_single;
 use set_ready::is_full;
 use set_storage::{MASK, Table, flags_of, wide};
@@ -40,7 +40,7 @@ pub fn set_checked(
     new: u32,
     log: &mut [u32],
     head: LogHead,
-) -> Answered
+) -> Result<LogHead, Refusal>
     requires both_ready { BothReady table.old starts.old ends.old i extent }
     requires taken_use { TakenUse table.old extent all q (flags_of table.old) new }
     requires len_bound { length (used_entries table.old starts.old ends.old i extent (use_of all q new)) ≤ capacity (numbers_of table.old) }
@@ -48,17 +48,16 @@ pub fn set_checked(
     requires log_len_bound { length log.old < 18446744073709551616 }
     ensures { let t = table.old in let s = starts.old in let e = ends.old in
         Changes (Only i) (used_entries t s e i extent (use_of all q new)) (used_tracker t s e i extent (use_of all q new)) head
-        t s e log.old result table.new starts.new ends.new log.new }
+        t s e log.old (answered head result) table.new starts.new ends.new log.new }
 {
     let p = flags_of(table);
     let mask = table[MASK];
-    let free = head.free;
-    if free < subresources(table) {
+    if head.free < subresources(table) {
         let n = log_use_at(
             table, starts, ends, i, extent, all, q, p, mask, new, log, 0, false,
         );
-        if free < n {
-            return refused(Refusal::NoFreeEntry, head);
+        if head.free < n {
+            return Err(Refusal::NoFreeEntry);
         }
     }
     let at = head.written;
@@ -66,7 +65,7 @@ pub fn set_checked(
         table, starts, ends, i, extent, all, q, p, mask, new, log, at, true,
     );
     set_use_at(table, starts, ends, i, extent, all, q, p, new);
-    moved_on(head, n)
+    Ok(moved_on(head, n))
 }
 
 // Sets one use of one texture in a tracker, and logs its transitions.
@@ -80,26 +79,20 @@ pub fn set_single(
     state: u16,
     log: &mut [u32],
     head: LogHead,
-) -> Answered
+) -> Result<LogHead, Refusal>
     ensures { let t : LentTracker = record { table = table.old; starts = starts.old; ends = ends.old } in
         let t' : LentTracker = record { table = table.new; starts = starts.new; ends = ends.new } in
-        SetSingle t index extent selector state head log.old result t' log.new }
+        SetSingle t index extent selector state head log.old (answered head result) t' log.new }
 {
     if !tracker_fits(table, starts, ends) {
-        return refused(Refusal::NotWellFormed, head);
+        return Err(Refusal::NotWellFormed);
     }
-    if !head_fits(lent_entries(log), head) {
-        return refused(Refusal::LogTooShort, head);
-    }
+    check_head(log, head)?;
     let new = state_of(state);
-    match check_single(table, index, extent, Selection::Part(selector), new) {
-        Verdict::Accepted => {
-            let all = is_full(extent, selector);
-            let i = wide(index.0);
-            set_checked(
-                table, starts, ends, i, extent, all, selector, new, log, head,
-            )
-        }
-        Verdict::Refused(r) => refused(r, head),
-    }
+    check_single(table, index, extent, Some(selector), new)?;
+    let all = is_full(extent, selector);
+    let i = wide(index.0);
+    set_checked(
+        table, starts, ends, i, extent, all, selector, new, log, head,
+    )
 }

@@ -1,16 +1,17 @@
 // The calls that write a log, with its head lent by `&mut` (01: "the head of the log, entries written and entries free, is lent and moved
-// on by the call itself"). Each hands the head to `track`, or to `log_merge`, by value and stores the head of the answer; that of a refusal
-// is the one that was lent. `merge_logs` does so through `merge_at`.
-ghost use Rattle.model.specs.declared.Answered.{Answered};
+// on by the call itself"). Each hands the head to `track`, or to `log_merge`, by value and stores the head of the answer; a refusal leaves
+// it. `log_merge::merge_logs` has this form of its own.
+ghost use Rattle.std.specs.Result.{result_unwrap_or};
+ghost use Rattle.model.specs.Log.{Answered, unless_refused};
 ghost use Rattle.set_storage.specs.Lent.{LentScope, LentTracker};
 ghost use Rattle.call_set.specs.Contract.{SetSingle};
 ghost use Rattle.call_join.specs.Contract.{SetFromUsageScope, SetFromTracker};
 ghost use Rattle.call_remove.specs.Removed.{SetAndRemoveSparse};
 ghost use Rattle.log_head.specs.Log.{Emptying};
-ghost use Rattle.log_merge.specs.Calls.{MergesLogs, HandsOver};
+ghost use Rattle.log_merge.specs.Calls.{MergesLogs, end_of};
 
-use log_merge::Merged;
-use model::{Extent, LogHead, Outcome, Selector, TrackerIndex};
+use log_merge::Rest;
+use model::{Extent, LogHead, Refusal, Selector, TrackerIndex};
 use set_storage::Table;
 
 // Sets one use of one texture in a tracker, and logs its transitions: `TextureTracker::set_single`, without its drain.
@@ -24,17 +25,16 @@ pub fn set_single(
     state: u16,
     log: &mut [u32],
     head: &mut LogHead,
-) -> Outcome
+) -> Result<(), Refusal>
     ensures { let t : LentTracker = record { table = table.old; starts = starts.old; ends = ends.old } in
         let t' : LentTracker = record { table = table.new; starts = starts.new; ends = ends.new } in
-        let a : Answered = record { outcome = result; head = head.new } in
+        let a : Answered = record { outcome = unless_refused result; head = head.new } in
         SetSingle t index extent selector state head.old log.old a t' log.new }
 {
-    let a = track::set_single(
+    *head = track::set_single(
         table, starts, ends, index, extent, selector, state, log, *head,
-    );
-    *head = a.head;
-    a.outcome
+    )?;
+    Ok(())
 }
 
 // Sets every texture that a scope owns in a tracker, and logs their transitions: `TextureTracker::set_from_usage_scope`.
@@ -46,16 +46,15 @@ pub fn set_from_usage_scope(
     lent: &[u32],
     log: &mut [u32],
     head: &mut LogHead,
-) -> Outcome
+) -> Result<(), Refusal>
     ensures { let t : LentTracker = record { table = table.old; starts = starts.old; ends = ends.old } in
         let g : LentScope = record { table = given.now; ranges = lent.now } in
         let t' : LentTracker = record { table = table.new; starts = starts.new; ends = ends.new } in
-        let a : Answered = record { outcome = result; head = head.new } in
+        let a : Answered = record { outcome = unless_refused result; head = head.new } in
         SetFromUsageScope t g head.old log.old a t' log.new }
 {
-    let a = track::set_from_usage_scope(table, starts, ends, given, lent, log, *head);
-    *head = a.head;
-    a.outcome
+    *head = track::set_from_usage_scope(table, starts, ends, given, lent, log, *head)?;
+    Ok(())
 }
 
 // Joins a tracker with another, `TextureTracker::set_from_tracker`: transitions go to the other's start, and its end is what they leave.
@@ -68,16 +67,15 @@ pub fn set_from_tracker(
     last: &[u32],
     log: &mut [u32],
     head: &mut LogHead,
-) -> Outcome
+) -> Result<(), Refusal>
     ensures { let t : LentTracker = record { table = table.old; starts = starts.old; ends = ends.old } in
         let g : LentTracker = record { table = given.now; starts = first.now; ends = last.now } in
         let t' : LentTracker = record { table = table.new; starts = starts.new; ends = ends.new } in
-        let a : Answered = record { outcome = result; head = head.new } in
+        let a : Answered = record { outcome = unless_refused result; head = head.new } in
         SetFromTracker t g head.old log.old a t' log.new }
 {
-    let a = track::set_from_tracker(table, starts, ends, given, first, last, log, *head);
-    *head = a.head;
-    a.outcome
+    *head = track::set_from_tracker(table, starts, ends, given, first, last, log, *head)?;
+    Ok(())
 }
 
 // Moves the listed textures of a scope into a tracker, and logs their transitions:
@@ -91,52 +89,39 @@ pub fn set_and_remove_from_usage_scope_sparse(
     indices: &[u32],
     log: &mut [u32],
     head: &mut LogHead,
-) -> Outcome
+) -> Result<(), Refusal>
     ensures { let t : LentTracker = record { table = table.old; starts = starts.old; ends = ends.old } in
         let g : LentScope = record { table = given.old; ranges = lent.now } in
         let t' : LentTracker = record { table = table.new; starts = starts.new; ends = ends.new } in
-        let a : Answered = record { outcome = result; head = head.new } in
+        let a : Answered = record { outcome = unless_refused result; head = head.new } in
         SetAndRemoveSparse t g indices.now head.old log.old
         a t' given.new log.new }
 {
-    let a = track::set_and_remove_from_usage_scope_sparse(
+    *head = track::set_and_remove_from_usage_scope_sparse(
         table, starts, ends, given, lent, indices, log, *head,
-    );
-    *head = a.head;
-    a.outcome
+    )?;
+    Ok(())
 }
 
 // Empties the log, which is only measured: free gains what was written, written becomes 0, and the entries stay.
-pub fn empty_log(log: &[u32], head: &mut LogHead) -> Outcome
-    ensures { Emptying head.old log.now (record { outcome = result; head = head.new }) }
+pub fn empty_log(log: &[u32], head: &mut LogHead) -> Result<(), Refusal>
+    ensures { Emptying head.old log.now (record { outcome = unless_refused result; head = head.new }) }
 {
-    let a = track::empty_log(log, *head);
-    *head = a.head;
-    a.outcome
+    *head = track::empty_log(log, *head)?;
+    Ok(())
 }
 
 // Merges two logs, their written numbers alone, into a third until one is used up, and tells the rest of the other by its place.
-pub fn merge_at(first: &[u32], second: &[u32], third: &mut [u32], head: &mut LogHead) -> Merged
-    ensures { let a : Answered = record { outcome = result.outcome; head = head.new } in
-        MergesLogs first.now second.now head.old third.old a result.rest third.new }
-{
-    let a = log_merge::merge_at(first, second, third, *head);
-    *head = a.head;
-    a.merged
-}
-
-// Merges as `merge_at` does, and returns the rest, a part of its own log and not copied. The number is 0, or that of the refusal, whose
-// place is 0.
-pub fn merge_logs<'a>(
-    first: &'a [u32],
-    second: &'a [u32],
+pub fn merge_at(
+    first: &[u32],
+    second: &[u32],
     third: &mut [u32],
-    number: &mut u32,
     head: &mut LogHead,
-) -> &'a [u32]
-    ensures { HandsOver first.entry second.entry head.old third.old
-        head.new.written head.new.free number.new result third.new }
+) -> Result<Rest, Refusal>
+    ensures { let a : Answered = record { outcome = unless_refused result; head = head.new } in
+        MergesLogs first.now second.now head.old third.old a (result_unwrap_or result (end_of second.now)) third.new }
 {
-    let merged = merge_at(first, second, third, head);
-    log_merge::hand_over(first, second, merged, number)
+    let merged = log_merge::merge_at(first, second, third, *head)?;
+    *head = merged.head;
+    Ok(merged.rest)
 }

@@ -1,3 +1,3 @@
-pub mod Verdicts
-pub mod Turns
+pub mod Splits
+pub mod Firsts
 pub mod Passing

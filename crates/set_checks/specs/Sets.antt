@@ -1,10 +1,10 @@
 -- The checks over a set and over a list: the first refusal of many, and the contracts.
-use Rattle.model.specs.Prelude.{ℕ, zero, suc, arith, refl, ap, ◌∙◌, Bool, true, false, not, Option, none, some, List, [], eqb, length}
-use Rattle.model.specs.Prelude.{get_or, lt-ltb, le-ltb}
-use Rattle.model.specs.{declared.Refusal.TheVariants.{FlagsDiffer, NoSuchIndex}, declared.{Refusal.Refusal, Verdict.Verdict}}
+use Rattle.model.specs.Prelude.{ℕ, zero, suc, arith, refl, ap, ◌∙◌, Bool, true, false, not, Option, None, Some, List, [], eqb, length}
+use Rattle.model.specs.Prelude.{get_or, result_err, lt-ltb, le-ltb}
+use Rattle.model.specs.{declared.Refusal.TheVariants.{FlagsDiffer, NoSuchIndex}, declared.Refusal.Refusal}
 use Rattle.model.specs.{Base.{each, each_at}, Flags.same_flags}
 use Rattle.model.specs.Refusals.{Check, first_failing, extent_outside, other_extent, flags_check, owned_checks, set_refusal, sparse_checks}
-use Rattle.model.specs.{Refusals.{sparse_refusal, tracker_index, refused_for}, Log.or_next, BoolLaws.by_lt}
+use Rattle.model.specs.{Refusals.{sparse_refusal, tracker_index, Verdict}, Log.or_next, BoolLaws.by_lt}
 use Rattle.model.specs.CheckLaws.{checks_append, none_both}
 use Rattle.std.specs.Prelude.{◌+◌, ◌≤◌, ◌<◌, ◌≡◌, ◌||◌, ◌∷◌, if◌then◌else◌}
 use Rattle.set_storage.specs.Storage.{numbers_of, flags_of, extent_of, list_from, owned_at, textures_at}
@@ -12,7 +12,7 @@ use Rattle.set_checks.specs.Head.{owned_extent, head_in, extent_at}
 
 -- ---- The first refusal of f k, f (k + 1) and so on, n of them
 unfoldable pub first_of : (ℕ → Option Refusal) → ℕ → ℕ → Option Refusal
-first_of f k zero = none
+first_of f k zero = None
 first_of f k (suc n) = or_next (f k) (first_of f (suc k) n)
 
 -- 7, 8, 9 at index i, if the given set g owns it
@@ -37,16 +37,16 @@ pub record AllPass (t g : List ℕ) (n : ℕ) : Type 0 where
 
 -- THE CONTRACTS: what each tells
 pub record OwnedTold (t g : List ℕ) (i : ℕ) (x : Verdict) : Type 0 where
-  pub is : owned_refusal t g i ≡ refused_for x
+  pub is : owned_refusal t g i ≡ result_err x
 
 pub record ListedTold (t g : List ℕ) (i : ℕ) (x : Verdict) : Type 0 where
-  pub is : listed_refusal t g i ≡ refused_for x
+  pub is : listed_refusal t g i ≡ result_err x
 
 pub record SetTold (t g : List ℕ) (x : Verdict) : Type 0 where
-  pub is : set_refusal (head_in t) (head_in g) ≡ refused_for x
+  pub is : set_refusal (head_in t) (head_in g) ≡ result_err x
 
 pub record SparseTold (t g list : List ℕ) (x : Verdict) : Type 0 where
-  pub is : sparse_refusal (head_in t) (head_in g) list ≡ refused_for x
+  pub is : sparse_refusal (head_in t) (head_in g) list ≡ result_err x
 
 -- ---- laws of the first refusal
 module _ (f : ℕ → Option Refusal) where
@@ -57,7 +57,7 @@ module _ (f : ℕ → Option Refusal) where
   first_shift k (suc n) = ap (or_next (f (suc k))) (first_shift (suc k) n)
 
   -- where there is no first, there is none at any
-  pub first_none : (k n : ℕ) → first_of f k n ≡ none → (i : ℕ) → k ≤ i → i < k + n → f i ≡ none
+  pub first_none : (k n : ℕ) → first_of f k n ≡ None → (i : ℕ) → k ≤ i → i < k + n → f i ≡ None
   unfolding first_of
   first_none k zero e i a b = absurd (omega arith)
   first_none k (suc n) e i a b =
@@ -72,7 +72,7 @@ module _ (t g : List ℕ) (i : ℕ) where
   listed_in h = rw (lt-ltb i (get_or g textures_at 0) h, extent_at g i h)
 
   -- not below it
-  pub listed_past : get_or g textures_at 0 ≤ i → listed_refusal t g i ≡ some (NoSuchIndex (tracker_index i))
+  pub listed_past : get_or g textures_at 0 ≤ i → listed_refusal t g i ≡ Some (NoSuchIndex (tracker_index i))
   unfolding listed_refusal first_failing
   listed_past h = rw (le-ltb i (get_or g textures_at 0) h)
 
@@ -81,11 +81,11 @@ module _ (t g : List ℕ) where
   -- 6 stands first
   flags_first : (cs : List Check)
       → first_failing (flags_check (head_in t) (head_in g) ∷ cs)
-      ≡ (if same_flags (flags_of t) (flags_of g) then first_failing cs else some FlagsDiffer)
+      ≡ (if same_flags (flags_of t) (flags_of g) then first_failing cs else Some FlagsDiffer)
   unfolding first_failing
   flags_first cs = go (same_flags (flags_of t) (flags_of g))
     where
-      go : (b : Bool) → (if not b then some FlagsDiffer else first_failing cs) ≡ (if b then first_failing cs else some FlagsDiffer)
+      go : (b : Bool) → (if not b then Some FlagsDiffer else first_failing cs) ≡ (if b then first_failing cs else Some FlagsDiffer)
       go true = refl
       go false = refl
 
@@ -110,11 +110,11 @@ module _ (t g : List ℕ) where
 
   -- 6, then the owned indices, ascending
   pub set_splits : set_refusal (head_in t) (head_in g)
-      ≡ (if same_flags (flags_of t) (flags_of g) then first_of (owned_refusal t g) 0 (get_or g textures_at 0) else some FlagsDiffer)
+      ≡ (if same_flags (flags_of t) (flags_of g) then first_of (owned_refusal t g) 0 (get_or g textures_at 0) else Some FlagsDiffer)
   set_splits = flags_first (each_at (owned_checks (head_in t)) 0 (head_in g).extents) ∙ rw (owned_first 0 (get_or g textures_at 0))
 
   -- 6, then the listed indices, in list order
   pub sparse_splits : (list : List ℕ)
       → sparse_refusal (head_in t) (head_in g) list
-      ≡ (if same_flags (flags_of t) (flags_of g) then first_of (listed_at t g list) 0 (length list) else some FlagsDiffer)
+      ≡ (if same_flags (flags_of t) (flags_of g) then first_of (listed_at t g list) 0 (length list) else Some FlagsDiffer)
   sparse_splits list = flags_first (each (sparse_checks (head_in t) (head_in g)) list) ∙ rw (listed_first list)

@@ -23,14 +23,5 @@ use model::{Extent, Selector};
 pub fn is_full(extent: Extent, q: Selector) -> bool
     ensures { result ≡ is_full extent q }
 {
-    if q.mips.start.0 != 0 {
-        return false;
-    }
-    if q.mips.end.0 != extent.mips {
-        return false;
-    }
-    if q.layers.start.0 != 0 {
-        return false;
-    }
-    q.layers.end.0 == extent.layers
+    q == extent.full()
 }

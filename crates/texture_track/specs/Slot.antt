@@ -1,7 +1,8 @@
 -- One texture of a tracker: the contracts of its change and of its transitions.
 use Rattle.std.specs.Prelude.{◌≡◌, ◌∷◌, if◌then◌else◌}
-use Rattle.model.specs.Prelude.{ℕ, arith, refl, subst, Bool, true, false, List, [], append-nil, get_or, set, ne_eqb, eq-eqb}
-use Rattle.model.specs.{declared.{UsageFlags.UsageFlags, Extent.Extent}, Representation.Ends}
+use Rattle.model.specs.Prelude.{ℕ, arith, refl, subst, Bool, true, false, Option, None, Some, List, [], append-nil, get_or, set, ne_eqb}
+use Rattle.model.specs.Prelude.{eq-eqb}
+use Rattle.model.specs.{declared.{UsageFlags.UsageFlags, Extent.Extent, Selector.Selector}, Representation.Ends}
 use Rattle.model.specs.{Sets.{Numbers, Slot, with_tracker}, Calls.{set_slot, log_slot}, Log.pending}
 use Rattle.model.specs.Texture.{Held, Given, Entry, insert, update, barrier, ranged}
 use Rattle.set_storage.specs.Storage.{numbers_of, start_half, end_half, ends_of, slot_with, tracker_of, mask_at, owned_at, tracker_slot}
@@ -64,6 +65,10 @@ tracker_view {t} {s} {e} {t'} {s'} {e'} m q =
     rw (f.head mask_at (omega arith), slot_becomes (λ n. ends_of n t s e) (λ n. ends_of n t' s' e') f q.slot)
 
 -- ---- Its transitions: none where it is not owned
+-- the selector of a part, or none for all of the texture
+abbrev pub part_of : Bool → Selector → Option Selector
+part_of all q = if all then None else Some q
+
 abbrev pub slot_entries : UsageFlags → ℕ → Extent → Given → Slot (Ends Held) → List Entry
 slot_entries p mask sh from x = if x.owned then barrier p mask sh x.held.end from else []
 

@@ -2,13 +2,14 @@
 use Rattle.std.specs.Prelude.{◌/◌, ◌≡◌}
 use Rattle.model.specs.Prelude.{ℕ, refl, Bool, true, false, List, length}
 use Rattle.model.specs.declared.Refusal.TheVariants.{NotWellFormed, LogTooShort}
-use Rattle.model.specs.declared.{Answered.Answered, InvalidUse.InvalidUse, LogHead.LogHead, PendingTransition.PendingTransition}
+use Rattle.model.specs.declared.{InvalidUse.InvalidUse, LogHead.LogHead, PendingTransition.PendingTransition}
 use Rattle.model.specs.{declared.Refusal.Refusal, Sets.Tracker, Calls.{CallResult, done}, Log.pending, Texture.{Held, Entry}}
 use Rattle.set_storage.specs.{Storage.{numbers_of, tracker_of}, Lent.LentTracker, Stays.{TrackerFrame, both_refl}}
 use Rattle.set_ready.specs.Named.{Within}
 use Rattle.log_head.specs.{Log.{head_within, refused_with}, Called.{Called, Changed, changed}}
 use Rattle.model.specs.Calls as calls
 use Rattle.log_head.specs.Called as called
+use Rattle.model.specs.Log.{Answered}
 
 -- every number of a tracker stays
 abbrev pub Same : (t s e t' s' e' : List ℕ) → Type 0

@@ -13,7 +13,7 @@ ghost use Rattle.set_storage.specs.Storage.{end_half, tracker_slot};
 ghost use Rattle.set_ready.specs.Half.{HalfReady, BothReady};
 
 use model::{Extent, UsageFlags};
-use set_storage::{COMPLEX, END, LAYERS, MIPS, OWNED, START, Table};
+use set_storage::{COMPLEX, END, OWNED, START, Table, extent_of};
 use texture_barrier::{barrier_single, barrier_texture};
 use texture_merge::from_set::insert_given;
 use texture_merge::using::{own, set_state};
@@ -67,7 +67,7 @@ pub fn log_given_at(
     requires half_ready { HalfReady end_half table.now ends.now i extent }
     requires half_given { HalfGiven table.now i extent from given.now first.now }
     requires at_le_log_top { at ≤ log_top }
-    requires fact { let es = end_entries p mask extent (given_at from given.now first.now i) table.now ends.now i in
+    requires room_for { let es = end_entries p mask extent (given_at from given.now first.now i) table.now ends.now i in
         RoomFor write log.old at (entries_at i es) }
     ensures { let t = table.now in let e = ends.now in let g = given.now in let a = first.now in
         let es = end_entries p mask extent (given_at from g a i) t e i in
@@ -103,9 +103,7 @@ pub fn set_owned_at(
     if given[OWNED + i] == 0 {
         return;
     }
-    let mips = given[MIPS + i];
-    let layers = given[LAYERS + i];
-    let extent = Extent { mips, layers };
+    let extent = extent_of(given, i);
     set_given_at(
         table, starts, ends, i, extent, given, first, from, last, to, p,
     );
@@ -134,9 +132,7 @@ pub fn log_owned_at(
     if given[OWNED + i] == 0 {
         return 0;
     }
-    let mips = given[MIPS + i];
-    let layers = given[LAYERS + i];
-    let extent = Extent { mips, layers };
+    let extent = extent_of(given, i);
     log_given_at(
         table, ends, i, extent, p, mask, given, first, from, log, at, write,
     )
@@ -167,9 +163,7 @@ pub fn log_single(
     ensures { let t = table.now in let g = given.now in
         Adds 1 write log.old at (entries_at i (single_entry p mask t from g i)) result log.new }
 {
-    let mips = given[MIPS + i];
-    let layers = given[LAYERS + i];
-    let extent = Extent { mips, layers };
+    let extent = extent_of(given, i);
     let cur = table[END + i];
     let new = given[from + i];
     barrier_single(i, extent, p, mask, cur, new, log, at, write)

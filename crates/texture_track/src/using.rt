@@ -1,12 +1,12 @@
 // A texture of a tracker, for one use of it.
-ghost use Rattle.std.specs.Prelude.{◌≤◌};
+ghost use Rattle.std.specs.Prelude.{◌≡◌, ◌≤◌};
 ghost use Rattle.model.specs.Calls.{set_slot};
 ghost use Rattle.model.specs.Texture.{ranged};
 ghost use Rattle.set_storage.specs.Stays.{Only};
 ghost use Rattle.texture_merge.specs.Uses.{use_of};
 ghost use Rattle.texture_barrier.specs.Steps.{log_top};
 ghost use Rattle.texture_barrier.specs.Adds.{RoomFor, Adds, entries_at};
-ghost use Rattle.texture_track.specs.Slot.{slot_entries, SlotSet};
+ghost use Rattle.texture_track.specs.Slot.{part_of, slot_entries, SlotSet};
 ghost use Rattle.set_ready.specs.Half.{BothReady};
 ghost use Rattle.set_storage.specs.Storage.{tracker_slot};
 ghost use Rattle.set_ready.specs.Checked.{TakenUse};
@@ -16,6 +16,13 @@ use set_storage::{END, OWNED, START, Table};
 use texture_barrier::barrier_use;
 use texture_merge::using::{insert_use, own};
 use texture_update::using::{update_state, update_use};
+
+// The selector of a part of a texture, or none for all of it.
+fn part_of(all: bool, q: Selector) -> Option<Selector>
+    ensures { result ≡ part_of all q }
+{
+    if all { None } else { Some(q) }
+}
 
 // What the texture becomes.
 pub fn set_use_at(
@@ -67,7 +74,7 @@ pub fn log_use_at(
     requires both_ready { BothReady table.now starts.now ends.now i extent }
     requires taken_use { TakenUse table.now extent all q p new }
     requires at_le_log_top { at ≤ log_top }
-    requires fact { let es = slot_entries p mask extent (use_of all q new) (tracker_slot table.now starts.now ends.now i) in
+    requires room_for { let es = slot_entries p mask extent (use_of all q new) (tracker_slot table.now starts.now ends.now i) in
         RoomFor write log.old at (entries_at i es) }
     ensures { let t = table.now in let s = starts.now in let e = ends.now in
         let es = slot_entries p mask extent (use_of all q new) (tracker_slot t s e i) in
@@ -76,5 +83,6 @@ pub fn log_use_at(
     if table[OWNED + i] == 0 {
         return 0;
     }
-    barrier_use(table, ends, i, extent, all, q, p, mask, new, log, at, write)
+    let part = part_of(all, q);
+    barrier_use(table, ends, i, extent, part, p, mask, new, log, at, write)
 }

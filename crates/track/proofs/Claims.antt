@@ -1,7 +1,7 @@
 -- What else is proved of every trace of the public calls' contracts (Demand3 has demand 3): each claim is a statement with the name of its
 -- proof.
 use Rattle.std.specs.Prelude.{◌≡◌, ◌↔◌, ◌∷◌, ◌++◌}
-use Rattle.model.specs.Prelude.{ℕ, false, Option, some, List, [], map, get_elem?}
+use Rattle.model.specs.Prelude.{ℕ, false, Option, Some, List, [], map, slice_get}
 use Rattle.model.specs.{declared.{Extent.Extent, Selector.Selector, TrackerIndex.TrackerIndex}, Sets.Set, Calls.{call_merge_single, newly}}
 use Rattle.model.specs.{Texture.ranged, Log.is_refused, Base.All}
 use Rattle.agreement.specs.{Shared.after_calls, WebGpu.{Usage, Renders, Histories, histories, InConflict, GivenUsage, NotCompatible}}
@@ -31,9 +31,9 @@ runs_from = model_runs
 pub webgpu : (bit : Usage → ℕ) (scopes : List ScopeOpening) (trackers : List TrackerOpening) (steps : List Step) (s : Step)
     → Trace (opened_sets scopes trackers) (steps ++ (s ∷ [])) → All (GivenUsage bit) (calls_of steps)
     → (n : ℕ) (i : TrackerIndex) (sh : Extent) (sel : Option Selector) (u : Usage) → s.call ≡ call_merge_single n i sh sel (bit u)
-    → (a : LentScope) → get_elem? (sets_after (opened_sets scopes trackers) steps).scopes n ≡ some a → Renders (scope_in a).flags bit
+    → (a : LentScope) → slice_get (sets_after (opened_sets scopes trackers) steps).scopes n ≡ Some a → Renders (scope_in a).flags bit
     → is_refused s.answered.outcome ≡ false
-    → (h : Set Histories) × (get_elem? (after_calls histories (calls_of steps)
-    (newly histories (map scope_asked scopes) (map tracker_asked trackers))).scopes n ≡ some h)
+    → (h : Set Histories) × (slice_get (after_calls histories (calls_of steps)
+    (newly histories (map scope_asked scopes) (map tracker_asked trackers))).scopes n ≡ Some h)
     × (InConflict (seen_outcome s.answered.outcome) ↔ NotCompatible bit h i.0 sh sel u)
 webgpu = trace_judged

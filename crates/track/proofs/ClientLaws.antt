@@ -1,13 +1,13 @@
 -- The client's calls are a trace: newly opened, the log emptied before each of two calls, with a free entry for every subresource.
-use Rattle.model.specs.Prelude.{ℕ, min, le_trans, le-min, arith, refl, sym, ap, subst, ◌∙◌, Bool, true, false, Option, none, some, List, []}
+use Rattle.model.specs.Prelude.{ℕ, min, le_trans, le-min, arith, refl, sym, ap, subst, ◌∙◌, Bool, true, false, Option, None, Some, List, []}
 use Rattle.model.specs.Prelude.{ltb, length, le-ltb, ltb-false}
 use Rattle.model.specs.declared.Refusal.TheVariants.{NoFreeEntry}
-use Rattle.model.specs.declared.{Extent.Extent, InvalidUse.InvalidUse, LogHead.LogHead, Outcome.Outcome, Refusal.Refusal, Selector.Selector}
-use Rattle.model.specs.{declared.{TrackerIndex.TrackerIndex, Answered.Answered}, Flags.flags_fit, Sets.{Numbers, Tracker, capacity}}
+use Rattle.model.specs.declared.{Extent.Extent, InvalidUse.InvalidUse, LogHead.LogHead, Refusal.Refusal, Selector.Selector}
+use Rattle.model.specs.{declared.{TrackerIndex.TrackerIndex}, Flags.flags_fit, Sets.{Numbers, Tracker, capacity}}
 use Rattle.model.specs.Refusals.{first_failing, opening_refusal, opens}
 use Rattle.model.specs.Calls.{Answer, done, refused, in_conflict, CallResult, Call, call_set_single, set_single}
 use Rattle.model.specs.Texture.{Held, Entry, ranged}
-use Rattle.model.specs.Log.{Log, Logged, pending, logging, unless_logged, refusal_of, or_next, sets_check, head_check, free_check}
+use Rattle.model.specs.Log.{Log, Logged, pending, logging, unless_logged, refusal_of, or_next, sets_check, head_check, free_check, Outcome}
 use Rattle.std.specs.Prelude.{◌+◌, ◌/◌, ◌≤◌, ◌≡◌, ◌∷◌, if◌then◌else◌}
 use Rattle.set_storage.specs.{Storage.{numbers_of, tracker_of, textures_at, mip_limit_at, layer_limit_at}, Slots.tracker_head}
 use Rattle.set_storage.specs.Lent.{LentTracker, tracker_in, tracker_test}
@@ -21,31 +21,32 @@ use Rattle.track.proofs.{LogLaws.emptied_head, OpenedLaws.{tracker_done, opened_
 use Rattle.track.proofs.Demand3.{demand3}
 use Rattle.log_head.specs.Log.{log_of, Emptying}
 use Rattle.call_set.specs.Contract.{SetSingle}
+use Rattle.model.specs.Log.{Answered}
 
 -- ---- A call that logs moves the head on: written and free stay the same together
 module _ {X : Type 0} (log : Log) (was : X) (r : CallResult InvalidUse (List Entry) X) where
   abbrev sum : LogHead → ℕ
   sum h = h.written + h.free
 
-  later : (a b : Option Refusal) → or_next a b ≡ none → b ≡ none
-  later none b e = e
-  later (some x) b e = absurd (let z : ◌≡◌ {A = ℕ} 0 1 = cc in omega arith)
+  later : (a b : Option Refusal) → or_next a b ≡ None → b ≡ None
+  later None b e = e
+  later (Some x) b e = absurd (let z : ◌≡◌ {A = ℕ} 0 1 = cc in omega arith)
 
   -- 15 is not given, so the entries fit
-  fits_in : (n : ℕ) (b : Bool) → ltb log.head.free n ≡ b → (if b then some NoFreeEntry else none) ≡ none → n ≤ log.head.free
+  fits_in : (n : ℕ) (b : Bool) → ltb log.head.free n ≡ b → (if b then Some NoFreeEntry else None) ≡ None → n ≤ log.head.free
   fits_in n true e z = absurd (let y : ◌≡◌ {A = ℕ} 0 1 = cc in omega arith)
   fits_in n false e z = ltb-false log.head.free n e
 
-  enough : (a : Answer InvalidUse) (n : ℕ) → refusal_of a (free_check n log ∷ []) ≡ none → n ≤ log.head.free
+  enough : (a : Answer InvalidUse) (n : ℕ) → refusal_of a (free_check n log ∷ []) ≡ None → n ≤ log.head.free
   unfolding first_failing
   enough done n e = fits_in n (ltb log.head.free n) refl e
   enough (refused x) n e = absurd (let z : ◌≡◌ {A = ℕ} 0 1 = cc in omega arith)
   enough (in_conflict c) n e = fits_in n (ltb log.head.free n) refl e
 
-  moved : (o : Option Refusal) (out : Logged X) → (o ≡ none → sum out.log.head ≡ sum log.head)
+  moved : (o : Option Refusal) (out : Logged X) → (o ≡ None → sum out.log.head ≡ sum log.head)
       → sum (unless_logged o log was out).log.head ≡ sum log.head
-  moved none out h = h refl
-  moved (some x) out h = refl
+  moved None out h = h refl
+  moved (Some x) out h = refl
 
   pub head_sum : (fits : Bool) → sum (logging fits log was r).log.head ≡ sum log.head
   unfolding logging

@@ -1,13 +1,12 @@
 -- The log of a step: emptied, it fits and is empty; a call of the model then runs as if there were no log; and its entries tell the model's
 -- transitions.
 use Rattle.std.specs.Prelude.{◌+◌, ◌≤◌, ◌≡◌, ◌&&◌, ◌∷◌, ◌++◌, if◌then◌else◌}
-use Rattle.model.specs.Prelude.{ℕ, zero-add, arith, refl, ap, ◌∙◌, Bool, true, false, Option, none, some, List, []}
-use Rattle.model.specs.Prelude.{append_assoc, eqb, length, take, le-ltb}
-use Rattle.model.specs.declared.Outcome.TheVariants.{Done}
+use Rattle.model.specs.Prelude.{ℕ, zero-add, arith, refl, ap, ◌∙◌, Bool, true, false, Option, None, Some, List, []}
+use Rattle.model.specs.Prelude.{append_assoc, eqb, length, take, le-ltb, Ok}
 use Rattle.model.specs.declared.{InvalidUse.InvalidUse, LogHead.LogHead, PendingTransition.PendingTransition, Refusal.Refusal}
-use Rattle.model.specs.{declared.Answered.Answered, Representation.holds, Refusals.first_failing}
+use Rattle.model.specs.{Representation.holds, Refusals.first_failing}
 use Rattle.model.specs.{Calls.{Indexed, done, CallResult, unless}, StateRules.Move, Texture.Entry}
-use Rattle.model.specs.Log.{Log, Logged, pending_of, pending, head_check, emptied, emptying, logging, outcome_of}
+use Rattle.model.specs.Log.{Answered, Log, Logged, pending_of, pending, head_check, emptied, emptying, logging, outcome_of}
 use Rattle.texture_barrier.specs.Entries.{entries_of}
 use Rattle.log_head.specs.Log.{log_of, Logs}
 use Rattle.agreement.specs.{Shared.{entries_at, logged_at}, LogBound.entries}
@@ -32,7 +31,7 @@ emptied_head l h x room c =
     (le-ltb (length (entries_of l)) (h.written + h.free) room))
 
 pub empty_log : (l : List ℕ) (h : LogHead) (x : Answered) → h.written + h.free ≤ length (entries_of l) → Logs (emptying (log_of l h)) l x l
-    → (x.outcome ≡ Done) × Empty (log_of l x.head)
+    → (x.outcome ≡ Ok tt) × Empty (log_of l x.head)
 empty_log l h x room c =
     let e = emptied_is (log_of l h) (le-ltb (length (entries_of l)) (h.written + h.free) room) in
     let d = emptied_head l h x room c in (
@@ -58,8 +57,8 @@ module _ {X : Type 0} (log : Log) (was : X) where
   pub as_own : (o : Option Refusal) (out : CallResult InvalidUse (List Entry) X) → out.answer ≡ done → Empty log
       → entries (unless o was out).log ≤ log.head.free → AsOwn (unless o was out)
   unfolding logging first_failing
-  as_own (some r) out d e room = record { answer = rw e.fits; after = rw e.fits; entries = rw (e.fits, e.none) }
-  as_own none out d e room =
+  as_own (Some r) out d e room = record { answer = rw e.fits; after = rw e.fits; entries = rw (e.fits, e.none) }
+  as_own None out d e room =
       let f = le-ltb log.head.free (length (pending out.log)) (rw (entries_written out.log) room) in
       record {
         answer = rw (e.fits, d, f);

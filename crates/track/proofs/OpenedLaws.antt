@@ -1,7 +1,7 @@
 -- Newly opened storage: its view is the model's newly opened sets, and every set in it is well formed with the room that is lent for it.
 use Rattle.std.specs.Prelude.{◌/◌, ◌≤◌, ◌≡◌, ◌∷◌, ◌++◌, if◌then◌else◌}
 use Rattle.model.specs.Prelude.{le_trans, min-le_left, min-le_right, refl, sym, ap, ◌∙◌, Bool, true, false, not, false≢true}
-use Rattle.model.specs.Prelude.{Option, none, some, List, [], map, length, ltb-false, le-leb}
+use Rattle.model.specs.Prelude.{Option, None, Some, List, [], map, length, ltb-false, le-leb}
 use Rattle.model.specs.{declared.Refusal.Refusal, declared.Refusal.TheVariants.{NumbersOutOfLimits, FlagsBreakRule, ShortRoom}}
 use Rattle.model.specs.{Base.{each, All}, Flags.flags_fit, Sets.{Opening, open_set, open_tracker, numbers_fit, capacity}}
 use Rattle.model.specs.{Refusals.{first_failing, opening_refusal, accepted, opens}, Calls.newly, Texture.{single, ranged}}
@@ -12,12 +12,12 @@ use Rattle.track.specs.Trace.{view_of, Ready, ScopeOpening, TrackerOpening, scop
 
 -- an opening is done if and only if it is not refused
 done_opens : (o : Option Refusal) → is_done (verdict o) ≡ accepted o
-done_opens none = refl
-done_opens (some r) = refl
+done_opens None = refl
+done_opens (Some r) = refl
 
 -- and then its room is enough
 third : (a b c : Bool)
-    → accepted (if not a then some NumbersOutOfLimits else if not b then some FlagsBreakRule else if c then some ShortRoom else none) ≡ true
+    → accepted (if not a then Some NumbersOutOfLimits else if not b then Some FlagsBreakRule else if c then Some ShortRoom else None) ≡ true
     → c ≡ false
 third true true true e = absurd (false≢true e)
 third true true false e = refl

@@ -1,9 +1,9 @@
 -- A step that meets its call's contract, from well-formed sets, is the model's step on their view: its answer, its sets and its entries;
 -- and they stay well formed.
-use Rattle.model.specs.Prelude.{ℕ, le_trans, refl, sym, ap, subst, ◌∙◌, Bool, true, false, Option, none, some, Option_map, List, [], map}
-use Rattle.model.specs.Prelude.{eqb, leb, length, set, get_elem?}
+use Rattle.model.specs.Prelude.{ℕ, le_trans, refl, sym, ap, subst, ◌∙◌, Bool, true, false, Option, None, Some, option_map, List, [], map}
+use Rattle.model.specs.Prelude.{eqb, leb, length, set, slice_get}
 use Rattle.model.specs.declared.{Extent.Extent, InvalidUse.InvalidUse, LogHead.LogHead, Refusal.Refusal, Selector.Selector}
-use Rattle.model.specs.{declared.{TrackerIndex.TrackerIndex, Answered.Answered}, Base.{All, AllO}}
+use Rattle.model.specs.{declared.{TrackerIndex.TrackerIndex}, Base.{All, AllO}}
 use Rattle.model.specs.Sets.{Numbers, Set, Tracker, slot_at, head_of, capacity}
 use Rattle.model.specs.Refusals.{first_failing, single_refusal, set_refusal, sparse_refusal}
 use Rattle.model.specs.Calls.{done, CallResult, unless, Call, call_merge_single, call_merge_usage_scope, call_set_single}
@@ -14,10 +14,9 @@ use Rattle.model.specs.{WellFormed.{scope_fits, tracker_fits}, Log.{pending, out
 use Rattle.model.specs.{ListLaws.{all_set, all_elem, elem_map, set_map}, BoolLaws.{by_test, both, and_left, and_right}}
 use Rattle.std.specs.Prelude.{◌/◌, ◌≤◌, ◌≡◌, ◌&&◌, ◌∷◌, if◌then◌else◌}
 use Rattle.std.specs.Bool.{MatchBool}
-use Rattle.set_checks.specs.Head.{selector_of}
 use Rattle.call_merge.specs.{Merged.Merged, Contract.{MergeSingle, MergeUsageScope}}
 use Rattle.log_head.specs.Log.{log_of, Logs}
-use Rattle.set_storage.specs.{Stays.Only, Lent.{LentScope, LentTracker, scope_in, tracker_in, scope_test, tracker_test}}
+use Rattle.set_storage.specs.{Lent.{LentScope, LentTracker, scope_in, tracker_in, scope_test, tracker_test}}
 use Rattle.call_remove.specs.Removed.{Removed, SetAndRemoveSparse}
 use Rattle.agreement.specs.{WellFormedSets.{Word, GivenWord}, LogBound.{entries, owned_states, of_tracker, owned_of}}
 use Rattle.agreement.proofs.EachCall.{merge_single_fits, merge_usage_scope_fits, set_single_fits, set_from_usage_scope_fits}
@@ -26,9 +25,10 @@ use Rattle.agreement.proofs.EachCall.{set_from_tracker_owned, sparse_owned}
 use Rattle.texture_track.specs.Tracked.{TrackerCall}
 use Rattle.call_set.specs.Contract.{SetSingle}
 use Rattle.call_join.specs.Contract.{SetFromUsageScope, SetFromTracker}
-use Rattle.track.specs.Trace.{Lent, view_of, Ready, Step, selection_of, LogStays, NoCall, MergedAt, TrackedAt, RemovedAt, At₁, At₂, Ran}
+use Rattle.track.specs.Trace.{Lent, view_of, Ready, Step, LogStays, NoCall, MergedAt, TrackedAt, RemovedAt, At₁, At₂, Ran}
 use Rattle.track.specs.Trace.{written}
 use Rattle.track.proofs.LogLaws.{Empty, AsOwn, as_own}
+use Rattle.model.specs.Log.{Answered}
 
 -- ---- A set that passes its test is well formed
 pub scope_well : (a : LentScope) → scope_test a ≡ true → scope_fits (scope_in a) ≡ true
@@ -60,15 +60,15 @@ module _ {C L X : Type 0} (o : Option Refusal) (was : X) (out : CallResult C L X
   kept f e = go o
     where
       go : (o : Option Refusal) → f (unless o was out).after ≡ f was
-      go none = e
-      go (some r) = refl
+      go None = e
+      go (Some r) = refl
 
   quiet : out.log ≡ [] → (unless o was out).log ≡ []
   quiet e = go o
     where
       go : (o : Option Refusal) → (unless o was out).log ≡ []
-      go none = e
-      go (some r) = refl
+      go None = e
+      go (Some r) = refl
 
 -- ---- The sparse call keeps the numbers of both its sets
 abbrev Pair : Type 0
@@ -220,36 +220,32 @@ module _ (k : Lent) (ready : Ready k) (s : Step) (empty : Empty (log_of s.log s.
       }
 
   -- ---- The six calls
-  selector_back : (sel : Option Selector) → selector_of (selection_of sel) ≡ sel
-  selector_back none = refl
-  selector_back (some q) = refl
-
   -- at one set of a list, and at two: they are there and ready, or it is no call; R is what is known of the first
   module _ {A B : Type 0} (l : List A) (view : A → B) (P : A → Type 0) (given : All P l) (R : Option B → Type 0) (n : ℕ) where
     at_one : (call : A → Type 0) (r : B → CallResult InvalidUse (List Entry) (Sets ranged))
-        → ((a : A) → P a → R (some (view a)) → call a → Follows (r (view a)) s)
-        → R (get_elem? (map view l) n) → At₁ (get_elem? l n) (NoCall k s) call
-        → Follows (with₁ ranged (view_of k) (get_elem? (map view l) n) r) s
-    at_one call r h = rw (elem_map view l n) (go (get_elem? l n) (all_elem P l n given))
+        → ((a : A) → P a → R (Some (view a)) → call a → Follows (r (view a)) s)
+        → R (slice_get (map view l) n) → At₁ (slice_get l n) (NoCall k s) call
+        → Follows (with₁ ranged (view_of k) (slice_get (map view l) n) r) s
+    at_one call r h = rw (elem_map view l n) (go (slice_get l n) (all_elem P l n given))
       where
-        go : (o : Option A) → AllO P o → R (Option_map view o) → At₁ o (NoCall k s) call
-            → Follows (with₁ ranged (view_of k) (Option_map view o) r) s
-        go none p q c = no_call c
-        go (some a) p q c = h a p q c
+        go : (o : Option A) → AllO P o → R (option_map view o) → At₁ o (NoCall k s) call
+            → Follows (with₁ ranged (view_of k) (option_map view o) r) s
+        go None p q c = no_call c
+        go (Some a) p q c = h a p q c
 
     at_two : {C D : Type 0} (l' : List C) (view' : C → D) (P' : C → Type 0) → All P' l'
         → (m : ℕ) (call : A → C → Type 0) (r : B → D → CallResult InvalidUse (List Entry) (Sets ranged))
-        → ((a : A) (g : C) → P a → P' g → R (some (view a)) → call a g → Follows (r (view a) (view' g)) s)
-        → R (get_elem? (map view l) n) → At₂ (get_elem? l n) (get_elem? l' m) (NoCall k s) call
-        → Follows (with₂ ranged (view_of k) (get_elem? (map view l) n) (get_elem? (map view' l') m) r) s
+        → ((a : A) (g : C) → P a → P' g → R (Some (view a)) → call a g → Follows (r (view a) (view' g)) s)
+        → R (slice_get (map view l) n) → At₂ (slice_get l n) (slice_get l' m) (NoCall k s) call
+        → Follows (with₂ ranged (view_of k) (slice_get (map view l) n) (slice_get (map view' l') m) r) s
     at_two {C} l' view' P' given' m call r h =
-        rw (elem_map view l n, elem_map view' l' m) (go (get_elem? l n) (get_elem? l' m) (all_elem P l n given) (all_elem P' l' m given'))
+        rw (elem_map view l n, elem_map view' l' m) (go (slice_get l n) (slice_get l' m) (all_elem P l n given) (all_elem P' l' m given'))
       where
-        go : (o : Option A) (u : Option C) → AllO P o → AllO P' u → R (Option_map view o) → At₂ o u (NoCall k s) call
-            → Follows (with₂ ranged (view_of k) (Option_map view o) (Option_map view' u) r) s
-        go none u p p' q c = no_call c
-        go (some a) none p p' q c = no_call c
-        go (some a) (some g) p p' q c = h a g p p' q c
+        go : (o : Option A) (u : Option C) → AllO P o → AllO P' u → R (option_map view o) → At₂ o u (NoCall k s) call
+            → Follows (with₂ ranged (view_of k) (option_map view o) (option_map view' u) r) s
+        go None u p p' q c = no_call c
+        go (Some a) None p p' q c = no_call c
+        go (Some a) (Some g) p p' q c = h a g p p' q c
 
   abbrev Nothing : Option (Set Held) → Type 0
   Nothing o = Unit {0}
@@ -264,14 +260,13 @@ module _ (k : Lent) (ready : Ready k) (s : Step) (empty : Empty (log_of s.log s.
   put_tracker n r = into ranged r (λ x. with_trackers ranged (view_of k) (set (map tracker_in k.trackers) n x))
 
   merge_single_lem : (n : ℕ) (i : TrackerIndex) (sh : Extent) (sel : Option Selector) (st : ℕ) → Word st → (a : LentScope) → ScopeReady a
-      → MergedAt n (MergeSingle a i sh (selection_of sel) st) k s → Follows (put_scope n (merge_single ranged (scope_in a) i.0 sh sel st)) s
+      → MergedAt n (MergeSingle a i sh sel st) k s → Follows (put_scope n (merge_single ranged (scope_in a) i.0 sh sel st)) s
   merge_single_lem n i sh sel st w a p c =
       let x = scope_in a in let o = single_refusal (head_of x) i.0 sh sel st in
       merged n a (scope_test a) (merge_single ranged x i.0 sh sel st) p p (quiet o x _ refl)
       (kept o x _ (λ (y : Set Held). y.numbers) refl)
       (merge_single_fits x (scope_well a p) i.0 sh sel st w)
-      (subst (λ (q : Option Selector). MergedAt n (λ y b. Merged (Only i.0) (scope_test a) (merge_single ranged x i.0 sh q st)
-      a.table a.ranges y b.table b.ranges) k s) (selector_back sel) c)
+      c
 
   merge_scope : (n : ℕ) (a g : LentScope) → ScopeReady a → ScopeReady g → MergedAt n (MergeUsageScope a g) k s
       → Follows (put_scope n (merge_usage_scope ranged (scope_in a) (scope_in g))) s
@@ -286,7 +281,7 @@ module _ (k : Lent) (ready : Ready k) (s : Step) (empty : Empty (log_of s.log s.
       → Follows (put_tracker n (set_single ranged (tracker_in a) i.0 sh sel st)) s
   set_single_lem n i sh sel st w a p free =
       let x = tracker_in a in
-      tracked n a (tracker_test a) (single_refusal (head_of x.set) i.0 sh (some sel) st) _ p p refl refl
+      tracked n a (tracker_test a) (single_refusal (head_of x.set) i.0 sh (Some sel) st) _ p p refl refl
       (set_single_fits x (tracker_well a p) i.0 sh sel st w) (set_single_owned x (tracker_well a p) i.0 sh sel st w) free
 
   set_from_scope : (n : ℕ) (a : LentTracker) (g : LentScope) → TrackerReady a → ScopeReady g

@@ -1,7 +1,8 @@
 -- Every trace from well-formed storage is, step by step, the ranged model's run, and so shares with the grid's what demand 3 lists.
-use Rattle.model.specs.Prelude.{ℕ, arith, refl, sym, ap, subst, ◌∙◌, true, false, Bool, true≢false, Option, List, [], map, eqb}
-use Rattle.model.specs.{declared.Outcome.TheVariants.{Done, Refused}, declared.{InvalidUse.InvalidUse, Refusal.Refusal}}
+use Rattle.model.specs.Prelude.{ℕ, arith, refl, sym, ap, subst, ◌∙◌, true, false, Bool, true≢false, Option, List, [], map, eqb, Ok, Err}
+use Rattle.model.specs.{declared.{InvalidUse.InvalidUse, Refusal.Refusal}}
 use Rattle.model.specs.{Sets.{Set, Tracker}, Refusals.number_of, Calls.{Answer, done, refused, in_conflict, CallResult, Sets, step, newly}}
+use Rattle.model.specs.declared.CallError.TheVariants.{Refused}
 use Rattle.model.specs.{StateRules.Move, Texture.{Held, ranged}, WellFormed.{scope_fits, tracker_fits}, Log.outcome_of, BoolLaws.both}
 use Rattle.model.specs.ListLaws.{all_every, all_map}
 use Rattle.std.specs.Prelude.{◌≡◌, ◌∷◌, if◌then◌else◌}
@@ -21,13 +22,13 @@ told_seen done = refl
 told_seen (refused r) = refl
 told_seen (in_conflict c) = refl
 
-told_refused : (a : Answer InvalidUse) (x : Refusal) → outcome_of a ≡ Refused x → a ≡ refused x
+told_refused : (a : Answer InvalidUse) (x : Refusal) → outcome_of a ≡ Err (Refused x) → a ≡ refused x
 told_refused done x e = absurd (let z : ◌≡◌ {A = ℕ} 0 1 = cc in omega arith)
 told_refused (refused r) x e = let y : r ≡ x = cc in rw y
 told_refused (in_conflict c) x e = absurd (let z : ◌≡◌ {A = ℕ} 0 1 = cc in omega arith)
 
 -- ---- One step: it is the model's
-pub steps_on : (k : Lent) → Ready k → (s : Step) → Meets k s → (s.emptied.outcome ≡ Done) × Follows (step ranged s.call (view_of k)) s
+pub steps_on : (k : Lent) → Ready k → (s : Step) → Meets k s → (s.emptied.outcome ≡ Ok tt) × Follows (step ranged s.call (view_of k)) s
 steps_on k ready s m =
     let e = empty_log s.log s.told s.emptied m.lent m.emptied in
     (e.0, follows k ready s e.1 s.call m.word m.free m.ran)
@@ -52,7 +53,7 @@ not_own n h =
     (rw (d.0, e.0) f.1, rw (a.0, b.0, c.0, f.0))
 
 -- and what it shares with the grid's
-share_step : (k : Lent) (s : Step) (g : CallResult SubresourceConflict (List (List (Option Move))) (Sets grid)) → s.emptied.outcome ≡ Done
+share_step : (k : Lent) (s : Step) (g : CallResult SubresourceConflict (List (List (Option Move))) (Sets grid)) → s.emptied.outcome ≡ Ok tt
     → Follows (step ranged s.call (view_of k)) s → Shares (step ranged s.call (view_of k)) g → SharedAt s g
 share_step k s g e f a =
     let r = step ranged s.call (view_of k) in
@@ -67,7 +68,7 @@ share_step k s g e f a =
       emptied = e;
     }
   where
-    own : (x : Refusal) → s.answered.outcome ≡ Refused x → listed (number_of x) (1 ∷ 2 ∷ 3 ∷ 4 ∷ 5 ∷ 14 ∷ 15 ∷ []) ≡ false
+    own : (x : Refusal) → s.answered.outcome ≡ Err (Refused x) → listed (number_of x) (1 ∷ 2 ∷ 3 ∷ 4 ∷ 5 ∷ 14 ∷ 15 ∷ []) ≡ false
     own x h = own_refusals ranged s.call (view_of k) x (told_refused (step ranged s.call (view_of k)).answer x (sym f.answer ∙ h))
 
 -- ---- Every step, from well-formed sets

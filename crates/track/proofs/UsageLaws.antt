@@ -1,6 +1,6 @@
 -- The last step of a trace, where it is a single merge of a usage: the WebGPU rule of crate `agreement`, carried over to the lent numbers.
-use Rattle.model.specs.Prelude.{ℕ, refl, sym, ap, subst, ◌∙◌, false, false≢true, Option, none, some, Option_map, List, [], map, get_elem?}
-use Rattle.model.specs.declared.{Extent.Extent, InvalidUse.InvalidUse, Outcome.Outcome, Refusal.Refusal, Selector.Selector}
+use Rattle.model.specs.Prelude.{ℕ, refl, sym, ap, subst, ◌∙◌, false, false≢true, Option, None, Some, option_map, List, [], map, slice_get}
+use Rattle.model.specs.declared.{Extent.Extent, InvalidUse.InvalidUse, Refusal.Refusal, Selector.Selector}
 use Rattle.model.specs.{declared.TrackerIndex.TrackerIndex, Sets.{Set, head_of}, Refusals.single_refusal}
 use Rattle.model.specs.{Calls.{Answer, done, refused, in_conflict, Call, call_merge_single, Sets, step, newly}, Texture.{Held, ranged}}
 use Rattle.model.specs.{Log.{is_refused, outcome_of}, ListLaws.elem_map, Base.All}
@@ -12,6 +12,7 @@ use Rattle.set_storage.specs.Lent.{LentScope, scope_in}
 use Rattle.track.specs.Trace.{Lent, view_of, ScopeOpening, TrackerOpening, scope_asked, tracker_asked, opened_sets, Step, Meets, Trace}
 use Rattle.track.specs.Trace.{calls_of, sets_after, seen_outcome}
 use Rattle.track.proofs.{OpenedLaws.opened_ready, TraceLaws.{told_seen, steps_on, ready_after, trace_runs}}
+use Rattle.model.specs.Log.{Outcome}
 
 -- ---- A trace and its last step
 front : (steps : List Step) (s : Step) (k : Lent) → Trace k (steps ++ (s ∷ [])) → Trace k steps
@@ -49,31 +50,31 @@ module _ (x : Outcome) (a : Answer InvalidUse) (e : x ≡ outcome_of a) where
 
 -- a single merge that its checks refuse is turned away
 merge_refused : (k : Sets ranged) (n : ℕ) (i : TrackerIndex) (sh : Extent) (sel : Option Selector) (st : ℕ) (r : Set Held)
-    → get_elem? k.scopes n ≡ some r
-    → (x : Refusal) → single_refusal (head_of r) i.0 sh sel st ≡ some x
+    → slice_get k.scopes n ≡ Some r
+    → (x : Refusal) → single_refusal (head_of r) i.0 sh sel st ≡ Some x
     → (step ranged (call_merge_single n i sh sel st) k).answer ≡ refused x
 unfolding step
 merge_refused k n i sh sel st r e x h = rw (e, h)
 
 -- so one that is not turned away passed them
 merge_passed : (k : Sets ranged) (n : ℕ) (i : TrackerIndex) (sh : Extent) (sel : Option Selector) (st : ℕ) (r : Set Held)
-    → get_elem? k.scopes n ≡ some r
+    → slice_get k.scopes n ≡ Some r
     → is_refused (outcome_of (step ranged (call_merge_single n i sh sel st) k).answer) ≡ false
-    → single_refusal (head_of r) i.0 sh sel st ≡ none
+    → single_refusal (head_of r) i.0 sh sel st ≡ None
 merge_passed k n i sh sel st r e q = go (single_refusal (head_of r) i.0 sh sel st) refl
   where
-    go : (o : Option Refusal) → single_refusal (head_of r) i.0 sh sel st ≡ o → o ≡ none
-    go none h = refl
-    go (some x) h = absurd (false≢true (sym q
+    go : (o : Option Refusal) → single_refusal (head_of r) i.0 sh sel st ≡ o → o ≡ None
+    go None h = refl
+    go (Some x) h = absurd (false≢true (sym q
         ∙ ap (λ (a : Answer InvalidUse). is_refused (outcome_of a)) (merge_refused k n i sh sel st r e x h)))
 
 pub trace_judged : (bit : Usage → ℕ) (scopes : List ScopeOpening) (trackers : List TrackerOpening) (steps : List Step) (s : Step)
     → Trace (opened_sets scopes trackers) (steps ++ (s ∷ [])) → All (GivenUsage bit) (calls_of steps)
     → (n : ℕ) (i : TrackerIndex) (sh : Extent) (sel : Option Selector) (u : Usage) → s.call ≡ call_merge_single n i sh sel (bit u)
-    → (a : LentScope) → get_elem? (sets_after (opened_sets scopes trackers) steps).scopes n ≡ some a → Renders (scope_in a).flags bit
+    → (a : LentScope) → slice_get (sets_after (opened_sets scopes trackers) steps).scopes n ≡ Some a → Renders (scope_in a).flags bit
     → is_refused s.answered.outcome ≡ false
-    → (h : Set Histories) × (get_elem? (after_calls histories (calls_of steps)
-    (newly histories (map scope_asked scopes) (map tracker_asked trackers))).scopes n ≡ some h)
+    → (h : Set Histories) × (slice_get (after_calls histories (calls_of steps)
+    (newly histories (map scope_asked scopes) (map tracker_asked trackers))).scopes n ≡ Some h)
     × (InConflict (seen_outcome s.answered.outcome) ↔ NotCompatible bit h i.0 sh sel u)
 trace_judged bit ss ts steps s t g n i sh sel u call a at r passed =
     let k = opened_sets ss ts in let m = last steps s k t in let c = call_merge_single n i sh sel (bit u) in
@@ -83,8 +84,8 @@ trace_judged bit ss ts steps s t g n i sh sel u call a at r passed =
     let told : s.answered.outcome ≡ outcome_of (step ranged c KR).answer = f.answer
     ∙ ap (λ (x : Call). outcome_of (step ranged x (view_of (sets_after k steps))).answer) call
     ∙ ap (λ (x : Sets ranged). outcome_of (step ranged c x).answer) run in
-    let there : get_elem? KR.scopes n ≡ some (scope_in a) = ap (λ (x : Sets ranged). get_elem? x.scopes n) (sym run)
-    ∙ elem_map scope_in (sets_after k steps).scopes n ∙ ap (Option_map scope_in) at in
+    let there : slice_get KR.scopes n ≡ Some (scope_in a) = ap (λ (x : Sets ranged). slice_get x.scopes n) (sym run)
+    ∙ elem_map scope_in (sets_after k steps).scopes n ∙ ap (option_map scope_in) at in
     let fine = merge_passed KR n i sh sel (bit u) (scope_in a) there (ap is_refused (sym told) ∙ passed) in
     let j = usages_judged bit (map scope_asked ss) (map tracker_asked ts) (calls_of steps) (given_words steps k (front steps s k t)) g n
     i.0 sh sel u (subst GivenWord call m.word) (scope_in a) there r fine in (

@@ -1,7 +1,8 @@
 -- What the client in code (src/client.rt) shows: its second call, as a step of a trace, shares with the grid's run what demand 3 lists.
 use Rattle.model.specs.Prelude.{ℕ, Option, List, []}
-use Rattle.model.specs.declared.{Extent.Extent, Selector.Selector, TrackerIndex.TrackerIndex, UsageFlags.UsageFlags, Answered.Answered}
-use Rattle.model.specs.{Calls.{CallResult, Call, call_set_single, Sets, step, newly}, Sets.Opening, StateRules.Move}
+use Rattle.model.specs.declared.{Extent.Extent, Selector.Selector, TrackerIndex.TrackerIndex, UsageFlags.UsageFlags}
+use Rattle.model.specs.{Calls.{CallResult, Call, call_set_single, Sets, step, newly}, Log.Answered, Sets.Opening}
+use Rattle.model.specs.StateRules.{Move}
 use Rattle.std.specs.Prelude.{◌∷◌}
 use Rattle.agreement.specs.Grid.{SubresourceConflict, grid}
 use Rattle.call_open.specs.Open.{asked}

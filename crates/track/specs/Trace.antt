@@ -1,13 +1,14 @@
 -- Demand 3, over the numbers that callers lend and the public calls' own contracts: what a trace of calls is, and what is shared at each of
 -- its steps. Definitions only; Demand3 and Claims state the theorems.
-use Rattle.model.specs.Prelude.{ℕ, min, Bool, true, false, Option, none, some, List, [], map, eqb, length, set, get_elem?, take}
-use Rattle.model.specs.{declared.Outcome.TheVariants.{Done, Refused, Conflict}, declared.Selection.TheVariants.{Full, Part}}
-use Rattle.model.specs.declared.{InvalidUse.InvalidUse, LogHead.LogHead, Outcome.Outcome, PendingTransition.PendingTransition}
-use Rattle.model.specs.declared.{Refusal.Refusal, Selection.Selection, Selector.Selector, UsageFlags.UsageFlags, Answered.Answered}
+use Rattle.model.specs.Prelude.{ℕ, min, Bool, true, false, Option, None, Some, Ok, Err, List, [], map, eqb, length, set, slice_get}
+use Rattle.model.specs.Prelude.{take}
+use Rattle.model.specs.declared.CallError.TheVariants.{Refused, Conflict}
+use Rattle.model.specs.declared.{InvalidUse.InvalidUse, LogHead.LogHead, PendingTransition.PendingTransition}
+use Rattle.model.specs.declared.{Refusal.Refusal, UsageFlags.UsageFlags}
 use Rattle.model.specs.{Base.{each, All}, Representation.holds, Refusals.number_of, Sets.{Tracker, Opening}}
 use Rattle.model.specs.Calls.{Answer, done, refused, in_conflict, CallResult, Call, call_merge_single, call_merge_usage_scope}
 use Rattle.model.specs.Calls.{call_set_single, call_set_from_usage_scope, call_set_from_tracker, call_set_and_remove_sparse, Sets, step}
-use Rattle.model.specs.{StateRules.Move, Texture.{Held, Entry, ranged}, Log.{outcome_of, pending}}
+use Rattle.model.specs.{StateRules.Move, Texture.{Held, Entry, ranged}, Log.{Answered, Outcome, outcome_of, pending}}
 use Rattle.std.specs.Prelude.{◌+◌, ◌/◌, ◌≤◌, ◌≡◌, ◌&&◌, ◌∷◌, if◌then◌else◌}
 use Rattle.std.specs.Bool.{MatchBool}
 use Rattle.set_storage.specs.Lent.{LentScope, LentTracker, scope_in, tracker_in, scope_test, tracker_test}
@@ -73,9 +74,8 @@ tracker_asked o = asked o.textures o.mips o.layers o.flags o.mask (min (length o
 
 -- whether an opening was done
 abbrev pub is_done : Outcome → Bool
-is_done Done = true
-is_done (Refused r) = false
-is_done (Conflict c) = false
+is_done (Ok u) = true
+is_done (Err e) = false
 
 -- what was opened; an opening that is refused makes no set
 abbrev pub opened_sets : List ScopeOpening → List TrackerOpening → Lent
@@ -105,7 +105,7 @@ pub record LogStays (s : Step) : Type 0 where
 
 -- a call on sets that are not there is none, and so is one on a set twice: "no call is handed the same set twice"
 pub record NoCall (k : Lent) (s : Step) : Type 0 where
-  pub answer : s.answered.outcome ≡ Done
+  pub answer : s.answered.outcome ≡ Ok tt
   pub sets : s.sets ≡ k
   pub log : LogStays s
 
@@ -133,35 +133,30 @@ pub record RemovedAt (n m : ℕ) (g : LentScope) (meets : LogHead → List ℕ �
 
 -- at one set, if it is there
 abbrev pub At₁ : {A : Type 0} → Option A → Type 0 → (A → Type 0) → Type 0
-At₁ none missing call = missing
-At₁ (some a) missing call = call a
+At₁ None missing call = missing
+At₁ (Some a) missing call = call a
 
 -- at two, if both are
 abbrev pub At₂ : {A B : Type 0} → Option A → Option B → Type 0 → (A → B → Type 0) → Type 0
-At₂ none b missing call = missing
-At₂ (some a) none missing call = missing
-At₂ (some a) (some b) missing call = call a b
-
--- a selector, or none, as `merge_single` takes it
-abbrev pub selection_of : Option Selector → Selection
-selection_of none = Full
-selection_of (some q) = Part q
+At₂ None b missing call = missing
+At₂ (Some a) None missing call = missing
+At₂ (Some a) (Some b) missing call = call a b
 
 -- "single merges, scope merges, single sets, sets from a scope, tracker joins and sparse calls", from the sets k
 abbrev pub Ran : Call → Lent → Step → Type 0
-Ran (call_merge_single n i sh sel st) k s = At₁ (get_elem? k.scopes n) (NoCall k s)
-    (λ a. MergedAt n (MergeSingle a i sh (selection_of sel) st) k s)
+Ran (call_merge_single n i sh sel st) k s = At₁ (slice_get k.scopes n) (NoCall k s)
+    (λ a. MergedAt n (MergeSingle a i sh sel st) k s)
 Ran (call_merge_usage_scope n m) k s =
-    MatchBool (eqb n m) (NoCall k s) (At₂ (get_elem? k.scopes n) (get_elem? k.scopes m) (NoCall k s) (λ a g.
+    MatchBool (eqb n m) (NoCall k s) (At₂ (slice_get k.scopes n) (slice_get k.scopes m) (NoCall k s) (λ a g.
     MergedAt n (MergeUsageScope a g) k s))
-Ran (call_set_single n i sh sel st) k s = At₁ (get_elem? k.trackers n) (NoCall k s) (λ t. TrackedAt n (SetSingle t i sh sel st) k s)
+Ran (call_set_single n i sh sel st) k s = At₁ (slice_get k.trackers n) (NoCall k s) (λ t. TrackedAt n (SetSingle t i sh sel st) k s)
 Ran (call_set_from_usage_scope n m) k s =
-    At₂ (get_elem? k.trackers n) (get_elem? k.scopes m) (NoCall k s) (λ t g. TrackedAt n (SetFromUsageScope t g) k s)
+    At₂ (slice_get k.trackers n) (slice_get k.scopes m) (NoCall k s) (λ t g. TrackedAt n (SetFromUsageScope t g) k s)
 Ran (call_set_from_tracker n m) k s =
-    MatchBool (eqb n m) (NoCall k s) (At₂ (get_elem? k.trackers n) (get_elem? k.trackers m) (NoCall k s) (λ t g.
+    MatchBool (eqb n m) (NoCall k s) (At₂ (slice_get k.trackers n) (slice_get k.trackers m) (NoCall k s) (λ t g.
     TrackedAt n (SetFromTracker t g) k s))
 Ran (call_set_and_remove_sparse n m is) k s =
-    At₂ (get_elem? k.trackers n) (get_elem? k.scopes m) (NoCall k s) (λ t g. RemovedAt n m g (SetAndRemoveSparse t g is) k s)
+    At₂ (slice_get k.trackers n) (slice_get k.scopes m) (NoCall k s) (λ t g. RemovedAt n m g (SetAndRemoveSparse t g is) k s)
 
 -- ---- The steps of a trace
 pub record Meets (k : Lent) (s : Step) : Type 0 where
@@ -191,9 +186,9 @@ sets_after k (s ∷ steps) = sets_after s.sets steps
 -- ---- What is shared
 -- "the refusal, or the clash with its texture, first cell and two states"
 abbrev pub seen_outcome : Outcome → Answer SubresourceConflict
-seen_outcome Done = done
-seen_outcome (Refused r) = refused r
-seen_outcome (Conflict c) = in_conflict (record { index = c.index.0; what = first_of c.found })
+seen_outcome (Ok u) = done
+seen_outcome (Err (Refused r)) = refused r
+seen_outcome (Err (Conflict c)) = in_conflict (record { index = c.index.0; what = first_of c.found })
 
 -- the entries that a step left in the log, which was empty before it
 abbrev pub written : Step → List PendingTransition
@@ -215,9 +210,9 @@ pub record SharedAt (s : Step) (r : CallResult SubresourceConflict (List (List (
   pub transitions : (i m l : ℕ) → transitions_at i m l (written s) ≡ moved_at i m l r.log
   pub once : (i m l : ℕ) → length (transitions_at i m l (written s)) ≤ 1
   -- "4, 5 and 15 cannot arise in these calls"; nor do 1, 2 and 3, of opening, and 14, of strips; and emptying is not refused
-  pub refusals : (x : Refusal) → s.answered.outcome ≡ Refused x → listed (number_of x) (4 ∷ 5 ∷ 15 ∷ []) ≡ false
-  pub others : (x : Refusal) → s.answered.outcome ≡ Refused x → listed (number_of x) (1 ∷ 2 ∷ 3 ∷ 14 ∷ []) ≡ false
-  pub emptied : s.emptied.outcome ≡ Done
+  pub refusals : (x : Refusal) → s.answered.outcome ≡ Err (Refused x) → listed (number_of x) (4 ∷ 5 ∷ 15 ∷ []) ≡ false
+  pub others : (x : Refusal) → s.answered.outcome ≡ Err (Refused x) → listed (number_of x) (1 ∷ 2 ∷ 3 ∷ 14 ∷ []) ≡ false
+  pub emptied : s.emptied.outcome ≡ Ok tt
 
 -- at every step, with the grid's own sets g in place of the lent ones
 abbrev pub SharedAlong : List Step → Sets grid → Type 0

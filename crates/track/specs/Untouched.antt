@@ -1,8 +1,8 @@
 -- "More room is ignored", of the public calls' own contracts: what no call changes, whatever it answers.
 use Rattle.std.specs.Prelude.{◌≤◌, ◌<◌, ◌≡◌}
-use Rattle.model.specs.Prelude.{ℕ, false, List, get_or}
-use Rattle.model.specs.declared.{Extent.Extent, LogHead.LogHead, Outcome.Outcome, Selection.Selection, Selector.Selector}
-use Rattle.model.specs.{declared.{TrackerIndex.TrackerIndex, Answered.Answered}, Log.is_refused}
+use Rattle.model.specs.Prelude.{ℕ, false, List, get_or, Option}
+use Rattle.model.specs.declared.{Extent.Extent, LogHead.LogHead, Selector.Selector}
+use Rattle.model.specs.{declared.{TrackerIndex.TrackerIndex}, Log.is_refused}
 use Rattle.set_storage.specs.{Storage.{numbers_of, table_indices, ranges_at, textures_at}, Stays.{Only, OwnedBy, ScopeFrame, TrackerFrame}}
 use Rattle.set_storage.specs.Lent.{LentScope, LentTracker}
 use Rattle.set_ready.specs.Named.{Within, WordsStay, scope_room, scope_past, scope_unnamed, tracker_room, tracker_past, tracker_unnamed}
@@ -10,6 +10,7 @@ use Rattle.call_remove.specs.{Gone.{Listed, disowned}, Removed.SetAndRemoveSpars
 use Rattle.call_merge.specs.Contract.{MergeSingle, MergeUsageScope}
 use Rattle.call_set.specs.Contract.{SetSingle}
 use Rattle.call_join.specs.Contract.{SetFromUsageScope, SetFromTracker}
+use Rattle.model.specs.Log.{Answered, Outcome}
 
 -- ---- Of a scope: every number from 3 × N × M × W on, every word of an index from N on, every word of a texture that is not named
 pub record ScopeUntouched (named : ℕ → Type 0) (s s' : LentScope) : Type 0 where
@@ -22,7 +23,7 @@ untouched : {named : ℕ → Type 0} (s s' : LentScope)
     → ScopeUntouched named s s'
 untouched s s' f = record { room = scope_room f; past = scope_past f; others = scope_unnamed f }
 
-pub merge_single_leaves : (s s' : LentScope) (i : TrackerIndex) (sh : Extent) (q : Selection) (st : ℕ) (x : Outcome)
+pub merge_single_leaves : (s s' : LentScope) (i : TrackerIndex) (sh : Extent) (q : Option Selector) (st : ℕ) (x : Outcome)
     → MergeSingle s i sh q st x s' → ScopeUntouched (Only i.0) s s'
 merge_single_leaves s s' i sh q st x c = untouched s s' c.stays
 

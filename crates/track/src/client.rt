@@ -3,19 +3,20 @@
 // What it is for: a trace of calls (specs/Trace) asks a number of facts of each step, and a theorem about traces would say nothing if no
 // program could meet them. This one does: its second call is proved to share with the grid's run what demand 3 lists.
 ghost use Rattle.std.specs.Prelude.{◌≡◌, ◌/◌, ◌≤◌, ◌<◌, min, length};
-ghost use Rattle.model.specs.Calls.{call_set_single};
+ghost use Rattle.model.specs.{Calls.{call_set_single}, Log.{answered}};
 ghost use Rattle.track.specs.Trace.{SharedAt};
 ghost use Rattle.track.specs.Client.{client_run, client_step};
 
 use crate::{empty_log, open_tracker, set_single};
-use model::{Answered, Extent, LogHead, Selector, TrackerIndex, UsageFlags};
+use model::{Extent, LogHead, Refusal, Selector, TrackerIndex, UsageFlags};
 use set_storage::{TABLE_LENGTH, Table};
 
-// What the second emptying and the second call answered.
+// What the second emptying was told, and what it and the second call answered.
 #[derive(Clone, Copy)]
 pub struct Shown {
-    pub emptied: Answered,
-    pub answered: Answered,
+    pub told: LogHead,
+    pub emptied: Result<LogHead, Refusal>,
+    pub answered: Result<LogHead, Refusal>,
 }
 
 // Tells a proof that a state has sixteen bits.
@@ -40,7 +41,8 @@ fn set_twice(
     requires in_bounds { (8 ≤ length starts.old / 3) × (8 ≤ length ends.old / 3) }
     requires in_bounds_2 { 8 ≤ length log.old / 7 }
     ensures { let room = min (length starts.old / 3) (length ends.old / 3) in
-        let step = client_step (call_set_single 0 index extent selector second) result.emptied result.answered
+        let emptied = answered result.told result.emptied in
+        let step = client_step (call_set_single 0 index extent selector second) emptied (answered emptied.head result.answered)
         table.new starts.new ends.new log.new in
         SharedAt step (client_run room index extent selector first second) }
 {
@@ -52,30 +54,26 @@ fn set_twice(
     };
     word(first);
     word(second);
-    open_tracker(table, starts, ends, 1, 2, 4, flags, 10);
-    let all = empty_log(
-        log,
-        LogHead {
-            written: 0,
-            free: 8,
-        },
-    );
+    let _ = open_tracker(table, starts, ends, 1, 2, 4, flags, 10);
+    let all = LogHead {
+        written: 0,
+        free: 8,
+    };
+    let head = empty_log(log, all).unwrap_or(all);
     let one = set_single(
-        table, starts, ends, index, extent, selector, first, log, all.head,
+        table, starts, ends, index, extent, selector, first, log, head,
     );
-    let emptied = empty_log(log, one.head);
+    let told = one.unwrap_or(head);
+    let emptied = empty_log(log, told);
+    let head = emptied.unwrap_or(told);
     let answered = set_single(
-        table,
-        starts,
-        ends,
-        index,
-        extent,
-        selector,
-        second,
-        log,
-        emptied.head,
+        table, starts, ends, index, extent, selector, second, log, head,
     );
-    Shown { emptied, answered }
+    Shown {
+        told,
+        emptied,
+        answered,
+    }
 }
 
 // The same over arrays of its own, so that what it requires is met.

@@ -19,6 +19,7 @@
 
 pub mod client;
 
+ghost use Rattle.model.specs.Log.{answered, unless_refused};
 ghost use Rattle.set_storage.specs.Lent.{LentScope, LentTracker};
 ghost use Rattle.call_open.specs.Open.{OpenedScope, OpenedTracker};
 ghost use Rattle.call_merge.specs.Contract.{MergeSingle, MergeUsageScope};
@@ -27,7 +28,7 @@ ghost use Rattle.call_join.specs.Contract.{SetFromUsageScope, SetFromTracker};
 ghost use Rattle.call_remove.specs.Removed.{SetAndRemoveSparse};
 ghost use Rattle.log_head.specs.Log.{Emptying};
 
-use model::{Answered, Extent, LogHead, Outcome, Selection, Selector, TrackerIndex, UsageFlags};
+use model::{CallError, Extent, LogHead, Refusal, Selector, TrackerIndex, UsageFlags};
 use set_storage::Table;
 
 // Opens a scope for n textures of m mips and w layers.
@@ -38,8 +39,8 @@ pub fn open_scope(
     m: u32,
     w: u32,
     p: UsageFlags,
-) -> Outcome
-    ensures { OpenedScope table.old ranges.now n m w p result table.new }
+) -> Result<(), Refusal>
+    ensures { OpenedScope table.old ranges.now n m w p (unless_refused result) table.new }
 {
     call_open::open_scope(table, ranges, n, m, w, p)
 }
@@ -54,8 +55,8 @@ pub fn open_tracker(
     w: u32,
     p: UsageFlags,
     mask: u16,
-) -> Outcome
-    ensures { OpenedTracker table.old starts.now ends.now n m w p mask result table.new }
+) -> Result<(), Refusal>
+    ensures { OpenedTracker table.old starts.now ends.now n m w p mask (unless_refused result) table.new }
 {
     call_open::open_tracker(table, starts, ends, n, m, w, p, mask)
 }
@@ -66,9 +67,9 @@ pub fn merge_single(
     ranges: &mut [u32],
     index: TrackerIndex,
     extent: Extent,
-    selection: Selection,
+    selection: Option<Selector>,
     state: u16,
-) -> Outcome
+) -> Result<(), CallError>
     ensures { let s : LentScope = record { table = table.old; ranges = ranges.old } in
         let s' : LentScope = record { table = table.new; ranges = ranges.new } in
         MergeSingle s index extent selection state result s' }
@@ -82,7 +83,7 @@ pub fn merge_usage_scope(
     ranges: &mut [u32],
     given: &Table,
     lent: &[u32],
-) -> Outcome
+) -> Result<(), CallError>
     ensures { let s : LentScope = record { table = table.old; ranges = ranges.old } in
         let g : LentScope = record { table = given.now; ranges = lent.now } in
         let s' : LentScope = record { table = table.new; ranges = ranges.new } in
@@ -102,10 +103,10 @@ pub fn set_single(
     state: u16,
     log: &mut [u32],
     head: LogHead,
-) -> Answered
+) -> Result<LogHead, Refusal>
     ensures { let t : LentTracker = record { table = table.old; starts = starts.old; ends = ends.old } in
         let t' : LentTracker = record { table = table.new; starts = starts.new; ends = ends.new } in
-        SetSingle t index extent selector state head log.old result t' log.new }
+        SetSingle t index extent selector state head log.old (answered head result) t' log.new }
 {
     call_set::set_single(
         table, starts, ends, index, extent, selector, state, log, head,
@@ -121,11 +122,11 @@ pub fn set_from_usage_scope(
     lent: &[u32],
     log: &mut [u32],
     head: LogHead,
-) -> Answered
+) -> Result<LogHead, Refusal>
     ensures { let t : LentTracker = record { table = table.old; starts = starts.old; ends = ends.old } in
         let g : LentScope = record { table = given.now; ranges = lent.now } in
         let t' : LentTracker = record { table = table.new; starts = starts.new; ends = ends.new } in
-        SetFromUsageScope t g head log.old result t' log.new }
+        SetFromUsageScope t g head log.old (answered head result) t' log.new }
 {
     call_join::set_from_usage_scope(table, starts, ends, given, lent, log, head)
 }
@@ -140,11 +141,11 @@ pub fn set_from_tracker(
     last: &[u32],
     log: &mut [u32],
     head: LogHead,
-) -> Answered
+) -> Result<LogHead, Refusal>
     ensures { let t : LentTracker = record { table = table.old; starts = starts.old; ends = ends.old } in
         let g : LentTracker = record { table = given.now; starts = first.now; ends = last.now } in
         let t' : LentTracker = record { table = table.new; starts = starts.new; ends = ends.new } in
-        SetFromTracker t g head log.old result t' log.new }
+        SetFromTracker t g head log.old (answered head result) t' log.new }
 {
     call_join::set_from_tracker(table, starts, ends, given, first, last, log, head)
 }
@@ -159,11 +160,11 @@ pub fn set_and_remove_from_usage_scope_sparse(
     indices: &[u32],
     log: &mut [u32],
     head: LogHead,
-) -> Answered
+) -> Result<LogHead, Refusal>
     ensures { let t : LentTracker = record { table = table.old; starts = starts.old; ends = ends.old } in
         let g : LentScope = record { table = given.old; ranges = lent.now } in
         let t' : LentTracker = record { table = table.new; starts = starts.new; ends = ends.new } in
-        SetAndRemoveSparse t g indices.now head log.old result t' given.new log.new }
+        SetAndRemoveSparse t g indices.now head log.old (answered head result) t' given.new log.new }
 {
     call_remove::set_and_remove_from_usage_scope_sparse(
         table, starts, ends, given, lent, indices, log, head,
@@ -171,8 +172,8 @@ pub fn set_and_remove_from_usage_scope_sparse(
 }
 
 // Empties the log: free gains what was written, written becomes 0, and the entries stay.
-pub fn empty_log(log: &[u32], head: LogHead) -> Answered
-    ensures { Emptying head log.now result }
+pub fn empty_log(log: &[u32], head: LogHead) -> Result<LogHead, Refusal>
+    ensures { Emptying head log.now (answered head result) }
 {
     log_head::empty_log(log, head)
 }

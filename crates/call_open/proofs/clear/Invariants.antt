@@ -1,10 +1,7 @@
 -- `clear`: each lap writes the five words of one index.
-use Rattle.std.specs.Prelude.{◌-◌, ◌≤◌, ◌≡◌}
+use Rattle.std.specs.Prelude.{◌≡◌}
 use Rattle.call_open.specs.Open.{cleared}
 use Rattle.call_open.proofs.clear.Given as goal
 
 abbrev pub invariant-loop-i : goal.invariant-loop-i
-invariant-loop-i l = (l.i ≤ l.n) × (l.table ≡ cleared l.initial.table l.state l.i)
-
-abbrev pub decreases-loop-i : goal.decreases-loop-i
-decreases-loop-i l = l.n - l.i
+invariant-loop-i l = l.table ≡ cleared l.initial.table l.state l.i

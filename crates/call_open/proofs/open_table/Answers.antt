@@ -1,23 +1,18 @@
 -- `open_table`: what `check` answers is told, and only an opening that is not refused writes.
-use Rattle.model.specs.Prelude.{none, some}
-use Rattle.call_open.proofs.{Cleared.{few_of, table_opened, any_mask}}
+use Rattle.std.proofs.Common.{rules}
+use Rattle.std.specs.Prelude.{◌≡◌}
+use Rattle.model.specs.Prelude.{None, Some, Err}
+use Rattle.call_open.proofs.{Cleared.{few_of, table_opened}}
 use Rattle.call_open.proofs.open_table.Goals as goal
 
+pub returns-in_err-check : goal.returns-in_err-check
+returns-in_err-check c =
+    let e : c.from_residual.result ≡ Err c.in_err-check.field-0.0 = search rules in
+    rw e (table_opened _ _ _ _ _ _ _ (search rules) (Some _) c.in_err-check.ensures)
+
 pub clear-requires : goal.clear-requires
-clear-requires c =
-    let a = c.args in
-    rw c.wide.ensures.0
-    (few_of a.n a.m a.w a.p _ _ (rw c.in-Accepted.is at c.check.ensures))
+clear-requires c = rw c.wide.ensures.0 (few_of _ _ _ _ _ _ c.in_ok-check.ensures)
 
-pub returns-in-Accepted : goal.returns-in-Accepted
-returns-in-Accepted c =
-    let mask = c.args.mask in
-    rw (c.clear.ensures, c.write_head.ensures, c.wide.ensures.0)
-    (table_opened _ _ _ _ _ _ _ c.table_len.ensures.1 none
-    (rw (c.in-Accepted.is, any_mask _ _ _ _ mask _) at c.check.ensures))
-
-pub returns-in-Refused : goal.returns-in-Refused
-returns-in-Refused c =
-    let mask = c.args.mask in
-    table_opened _ _ _ _ _ _ _ c.table_len.ensures.1 (some _)
-    (rw (c.in-Refused.is, any_mask _ _ _ _ mask _) at c.check.ensures)
+pub returns : goal.returns
+returns c = rw (c.clear.ensures, c.write_head.ensures, c.wide.ensures.0)
+    (table_opened _ _ _ _ _ _ _ (search rules) None c.in_ok-check.ensures)

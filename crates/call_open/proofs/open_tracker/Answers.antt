@@ -4,5 +4,5 @@ use Rattle.call_open.proofs.open_tracker.Goals as goal
 
 pub returns : goal.returns
 returns c =
-    let b = rw c.smaller-room.ensures at c.open_table.ensures in
+    let b = rw c.min-room.ensures at c.open_table.ensures in
     record { answer = b.answer; content = b.content; view = λ o. opened_tracker b o _ _ }

@@ -7,7 +7,7 @@ use Rattle.log_head.specs.{Log.head_le, Called.{Fitting, counted_fits, all_fit, 
 use Rattle.call_join.specs.Join.{joined_entries}
 use Rattle.call_join.proofs.{Logs.logs_set}
 use Rattle.call_join.proofs.calls.set_checked.Goals as goal
-use Rattle.call_join.proofs.calls.set_checked.Goals.{then-free-subresources+else-free-x, else-free-subresources}
+use Rattle.call_join.proofs.calls.set_checked.Goals.{then-head-subresources+else-head-x, else-head-subresources}
 
 pub subresources-requires : goal.subresources-requires
 subresources-requires c = let m = c.requires.joins.tracker.starts in (m.textures, (m.mips, m.layers))
@@ -19,20 +19,20 @@ log_set-x-requires c = rw (c.flags_of-p.ensures, c.wide-n.ensures.0) (record {
   room_for = λ w. absurd (false≢true w);
 })
 
-pub returns-then-free-x : goal.returns-then-free-x
-returns-then-free-x c =
+pub returns-then-head-x : goal.returns-then-head-x
+returns-then-head-x c =
     let w = (rw (c.flags_of-p.ensures, c.wide-n.ensures.0) at c.log_set-x.ensures) in
-    rw (c.refused.ensures, w.content)
+    rw w.content
     (record { change = not_enough refl (refl, (refl, refl)) (omega (arith, w.count)); frame = both_refl _ _ _ })
 
 pub log_set-x-requires-2 : goal.log_set-x-requires-2
 log_set-x-requires-2 c =
     let a = c.args in
     let new : List PendingTransition = joined_entries a.table.now a.ends.now a.from a.given.now a.first.now in
-    let f : Fitting new a.head.free a.log.now c.if-free-subresources.log = elim c.if-free-subresources.branch [
-      | then-free-subresources+else-free-x w ↦
-          counted_fits (rw (c.flags_of-p.ensures, c.wide-n.ensures.0) at w.log_set-x.ensures) w.if-free-x.false w.log-is
-      | else-free-subresources w ↦ all_fit c.requires.first_len_bound c.subresources.ensures w.if-free-subresources.false w.log-is
+    let f : Fitting new a.head.free a.log.now c.if-head-subresources.log = elim c.if-head-subresources.branch [
+      | then-head-subresources+else-head-x w ↦
+          counted_fits (rw (c.flags_of-p.ensures, c.wide-n.ensures.0) at w.log_set-x.ensures) w.if-head-x.false w.log-is
+      | else-head-subresources w ↦ all_fit c.requires.first_len_bound c.subresources.ensures w.if-head-subresources.false w.log-is
     ] in
     let h = head_le (length a.log.now / 7) a.head c.requires.head_value in
     rw (c.flags_of-p.ensures, c.wide-n.ensures.0, f.same) (record {
@@ -48,10 +48,10 @@ pub moved_on-requires : goal.moved_on-requires
 moved_on-requires c =
     let a = c.args in
     let new : List PendingTransition = joined_entries a.table.now a.ends.now a.from a.given.now a.first.now in
-    let f : Fitting new a.head.free a.log.now c.if-free-subresources.log = elim c.if-free-subresources.branch [
-      | then-free-subresources+else-free-x w ↦
-          counted_fits (rw (c.flags_of-p.ensures, c.wide-n.ensures.0) at w.log_set-x.ensures) w.if-free-x.false w.log-is
-      | else-free-subresources w ↦ all_fit c.requires.first_len_bound c.subresources.ensures w.if-free-subresources.false w.log-is
+    let f : Fitting new a.head.free a.log.now c.if-head-subresources.log = elim c.if-head-subresources.branch [
+      | then-head-subresources+else-head-x w ↦
+          counted_fits (rw (c.flags_of-p.ensures, c.wide-n.ensures.0) at w.log_set-x.ensures) w.if-head-x.false w.log-is
+      | else-head-subresources w ↦ all_fit c.requires.first_len_bound c.subresources.ensures w.if-head-subresources.false w.log-is
     ] in
     let logged = wrote (c.requires.head_value, c.requires.log_len_bound) f.fits
     (rw (c.flags_of-p.ensures, c.wide-n.ensures.0, f.same) at c.log_set-x-2.ensures) in
@@ -61,10 +61,10 @@ pub returns : goal.returns
 returns c =
     let a = c.args in
     let new : List PendingTransition = joined_entries a.table.now a.ends.now a.from a.given.now a.first.now in
-    let f : Fitting new a.head.free a.log.now c.if-free-subresources.log = elim c.if-free-subresources.branch [
-      | then-free-subresources+else-free-x w ↦
-          counted_fits (rw (c.flags_of-p.ensures, c.wide-n.ensures.0) at w.log_set-x.ensures) w.if-free-x.false w.log-is
-      | else-free-subresources w ↦ all_fit c.requires.first_len_bound c.subresources.ensures w.if-free-subresources.false w.log-is
+    let f : Fitting new a.head.free a.log.now c.if-head-subresources.log = elim c.if-head-subresources.branch [
+      | then-head-subresources+else-head-x w ↦
+          counted_fits (rw (c.flags_of-p.ensures, c.wide-n.ensures.0) at w.log_set-x.ensures) w.if-head-x.false w.log-is
+      | else-head-subresources w ↦ all_fit c.requires.first_len_bound c.subresources.ensures w.if-head-subresources.false w.log-is
     ] in
     let logged = wrote (c.requires.head_value, c.requires.log_len_bound) f.fits
     (rw (c.flags_of-p.ensures, c.wide-n.ensures.0, f.same) at c.log_set-x-2.ensures) in

@@ -1,41 +1,30 @@
 -- `set_from`: 5, then 6 to 9 in the table's order, and then the change.
-use Rattle.model.specs.Prelude.{refl, sym, ◌∙◌}
+use Rattle.model.specs.{Errors.passed_on, Prelude.{refl}}
 use Rattle.texture_track.specs.Tracked.{away_short}
 use Rattle.call_join.proofs.Joined.{joins, joined_few, from_done, from_away}
 use Rattle.call_join.proofs.calls.set_from.Goals as goal
 
-pub returns-then-not-head_fits : goal.returns-then-not-head_fits
-returns-then-not-head_fits c =
-    let k = (rw c.lent_entries-lent.ensures.0 at (sym c.head_fits.ensures
-    ∙ (c.if-not-head_fits.true))) in
-    rw c.refused.ensures (away_short refl k)
+pub returns-in_err-check_head : goal.returns-in_err-check_head
+returns-in_err-check_head c =
+    let short = c.in_err-check_head.ensures.fits in rw (passed_on c.from_residual.ensures.1, short.0) (away_short refl short.1)
 
 pub set_checked-requires : goal.set_checked-requires
 set_checked-requires c =
-    let p = c.requires in
-    let z = (rw c.in-Accepted.is at c.check_set.ensures) in
-    let k = (rw c.lent_entries-lent.ensures.0 at (sym c.head_fits.ensures
-    ∙ (c.if-not-head_fits.false))) in
+    let p = c.requires in let z = c.in_ok-check_set.ensures in
     record {
       joins = joins p.tracker_tested p.given_tested z;
-      first_len_bound =
-          joined_few p.tracker_tested p.given_tested z p.last_len_bound;
-      head_value = k;
-      log_len_bound = c.lent_entries-lent.ensures.1;
+      first_len_bound = joined_few p.tracker_tested p.given_tested z p.last_len_bound;
+      head_value = c.in_ok-check_head.ensures.fits;
+      log_len_bound = c.check_head.ensures.countable;
     }
 
-pub returns-in-Accepted : goal.returns-in-Accepted
-returns-in-Accepted c =
+pub returns : goal.returns
+returns c =
     let p = c.requires in
-    let z = (rw c.in-Accepted.is at c.check_set.ensures) in
-    let k = (rw c.lent_entries-lent.ensures.0 at (sym c.head_fits.ensures
-    ∙ (c.if-not-head_fits.false))) in
-    from_done p.tracker_tested p.given_tested k z c.set_checked.ensures
+    from_done p.tracker_tested p.given_tested c.in_ok-check_head.ensures.fits c.in_ok-check_set.ensures c.set_checked.ensures
 
-pub returns-in-Refused : goal.returns-in-Refused
-returns-in-Refused c =
+pub returns-in_err-check_set : goal.returns-in_err-check_set
+returns-in_err-check_set c =
     let p = c.requires in
-    let z = (rw c.in-Refused.is at c.check_set.ensures) in
-    let k = (rw c.lent_entries-lent.ensures.0 at (sym c.head_fits.ensures
-    ∙ (c.if-not-head_fits.false))) in
-    rw c.refused-in-Refused.ensures (from_away p.tracker_tested p.given_tested k z)
+    rw (passed_on c.from_residual-in_err-check_set.ensures.1)
+    (from_away p.tracker_tested p.given_tested c.in_ok-check_head.ensures.fits c.in_err-check_set.ensures)

@@ -8,14 +8,13 @@ use Rattle.model.specs.Prelude.{ap, not}
 use Rattle.call_join.proofs.calls.set_from_usage_scope.Goals as goal
 
 pub returns-then-not-tracker_fits : goal.returns-then-not-tracker_fits
-returns-then-not-tracker_fits c = rw c.refused.ensures
-    (away_unfit (first_unfit _ _ (tracker_unfit c.tracker_fits.ensures (ap not c.if-not-tracker_fits.true))))
+returns-then-not-tracker_fits c =
+    away_unfit (first_unfit _ _ (tracker_unfit c.tracker_fits.ensures (ap not c.if-not-tracker_fits.true)))
 
 pub returns-then-not-scope_fits : goal.returns-then-not-scope_fits
 returns-then-not-scope_fits c =
-    rw c.refused-then-not-scope_fits.ensures
-    (away_unfit (second_unfit _ _ (tracker_fit c.tracker_fits.ensures (ap not c.if-not-tracker_fits.false))
-    (scope_unfit c.scope_fits.ensures (ap not c.if-not-scope_fits.true))))
+    away_unfit (second_unfit _ _ (tracker_fit c.tracker_fits.ensures (ap not c.if-not-tracker_fits.false))
+    (scope_unfit c.scope_fits.ensures (ap not c.if-not-scope_fits.true)))
 
 pub set_from-requires : goal.set_from-requires
 set_from-requires c =

@@ -12,8 +12,8 @@ overflow_add-at c =
     let v = c.loop-k.invariant in let p = c.requires in
     omega (arith, v.high, v.few, p.logs_set.few, p.set_top_bound, c.loop-k-test.true)
 
-pub log_at-y-requires : goal.log_at-y-requires
-log_at-y-requires c =
+pub log_at-x-requires : goal.log_at-x-requires
+log_at-x-requires c =
     let v = c.loop-k.invariant in let p = c.requires in
     let b = c.loop-k-test.true in
     record {
@@ -27,20 +27,13 @@ pub overflow_add-x : goal.overflow_add-x
 overflow_add-x c =
     let v = c.loop-k.invariant in
     let p = c.requires in
-    omega (arith, v.high, v.few, p.logs_set.few, c.loop-k-test.true, c.log_at-y.ensures.few)
-
-pub overflow_add-k : goal.overflow_add-k
-overflow_add-k c =
-    omega (arith, c.requires.logs_set.few, c.loop-k-test.true)
-
-pub loop-k-smaller : goal.loop-k-smaller
-loop-k-smaller c = omega (arith, c.loop-k-test.true)
+    omega (arith, v.high, v.few, p.logs_set.few, c.loop-k-test.true, c.log_at-x.ensures.few)
 
 pub loop-k-preserved : goal.loop-k-preserved
 loop-k-preserved c =
     let p = c.requires in
     let b = c.loop-k-test.true in
-    adding_turn c.loop-k.invariant p.room_for (up_next _ _ b) b c.log_at-y.ensures (omega arith)
+    adding_turn c.loop-k.invariant p.room_for (up_next _ _ b) b c.log_at-x.ensures (omega arith)
 
 pub returns : goal.returns
 returns c =

@@ -11,14 +11,6 @@ set_at-requires c =
     let p = c.requires in
     setting_ready p.joins c.loop-k.invariant.1 (rw p.n_value.0 at c.loop-k-test.true) p.n_value.1
 
-pub overflow_add-k : goal.overflow_add-k
-overflow_add-k c =
-    let p = c.requires in
-    omega (arith, p.joins.given.start.textures, c.loop-k-test.true, p.n_value.0)
-
-pub loop-k-smaller : goal.loop-k-smaller
-loop-k-smaller c = omega (arith, c.loop-k-test.true)
-
 pub loop-k-preserved : goal.loop-k-preserved
 loop-k-preserved c =
     let p = c.requires in let h = c.loop-k-test.true in

@@ -1,5 +1,5 @@
 -- `set_slots`: the slots below `k` are the model's, the others as they were.
-use Rattle.std.specs.Prelude.{◌≤◌, ◌-◌}
+use Rattle.std.specs.Prelude.{◌≤◌}
 use Rattle.set_storage.specs.Stays.{OwnedBy}
 use Rattle.set_ready.specs.Named.{Within}
 use Rattle.call_join.proofs.Setting.{Setting}
@@ -10,6 +10,3 @@ abbrev pub invariant-loop-k : goal.invariant-loop-k
 invariant-loop-k l = (l.k ≤ l.n)
     × Setting (Within l.initial.table (OwnedBy l.given)) l.initial.table l.initial.starts l.initial.ends (slot_after l.p l.from l.to l.given
     l.first l.last) l.k l.table l.starts l.ends
-
-abbrev pub decreases-loop-k : goal.decreases-loop-k
-decreases-loop-k l = l.n - l.k

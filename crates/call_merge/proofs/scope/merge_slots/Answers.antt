@@ -7,25 +7,25 @@ use Rattle.call_merge.proofs.scope.merge_slots.Goals as goal
 pub loop-k-init : goal.loop-k-init
 loop-k-init c = start _ _ _ _ _
 
-pub merge_owned_at-x-requires : goal.merge_owned_at-x-requires
-merge_owned_at-x-requires c =
+pub merge_owned_at-requires : goal.merge_owned_at-requires
+merge_owned_at-requires c =
     rw c.wide.ensures.0 (let w = (lap_ready c.loop-k.invariant c.requires c.loop-k-test.true) in
     record { owned_ready = w.0; p_value = w.1 })
 
-pub shape_of-ranges-in-At : goal.shape_of-ranges-in-At
-shape_of-ranges-in-At c = let e = c.merge_owned_at-x.ensures.frame.ranges.long
+pub shape_of-ranges-in-Err : goal.shape_of-ranges-in-Err
+shape_of-ranges-in-Err c = let e = c.merge_owned_at.ensures.frame.ranges.long
     ∙ c.loop-k.invariant.frame.ranges.long in
     search (rules, e)
 
-pub returns-in-At : goal.returns-in-At
-returns-in-At c =
+pub returns-in-Err : goal.returns-in-Err
+returns-in-Err c =
     stop c.loop-k.invariant c.requires c.loop-k-test.true
-    (rw c.wide.ensures.0 at c.merge_owned_at-x.ensures) c.in-At.is
+    (rw c.wide.ensures.0 at c.merge_owned_at.ensures) c.in-Err.is
 
 pub loop-k-preserved : goal.loop-k-preserved
 loop-k-preserved c =
     turn c.loop-k.invariant c.requires c.loop-k-test.true
-    (rw c.wide.ensures.0 at c.merge_owned_at-x.ensures) c.in_default.is
+    (rw c.wide.ensures.0 at c.merge_owned_at.ensures) c.in_default.is
 
 pub returns : goal.returns
 returns c = finish c.loop-k.invariant c.loop-k-test.false

@@ -1,10 +1,6 @@
 -- `merge_slots`: each lap merges one texture, and those to come read as at entry.
-use Rattle.std.specs.Prelude.{◌-◌}
 use Rattle.call_merge.proofs.{Slots.{Merging}}
 use Rattle.call_merge.proofs.scope.merge_slots.Given as goal
 
 abbrev pub invariant-loop-k : goal.invariant-loop-k
 invariant-loop-k l = Merging l.p l.initial.table l.initial.ranges l.given l.lent l.k l.table l.ranges
-
-abbrev pub decreases-loop-k : goal.decreases-loop-k
-decreases-loop-k l = l.n - l.k

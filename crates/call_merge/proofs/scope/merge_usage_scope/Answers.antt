@@ -2,7 +2,7 @@
 use Rattle.set_ready.specs.Tested.{scope_tested}
 use Rattle.set_wellformed.specs.Whole.{scope_unfit, scope_fit, first_unfit, second_unfit, both_fit}
 use Rattle.call_merge.proofs.{OneUse.not_fitting, Scopes.{scope_away, scope_done, scope_ready}}
-use Rattle.model.specs.Prelude.{ap, not}
+use Rattle.model.specs.{Errors.passed_on, Prelude.{ap, not}}
 use Rattle.call_merge.proofs.scope.merge_usage_scope.Goals as goal
 
 pub returns-then-not-scope_fits : goal.returns-then-not-scope_fits
@@ -27,18 +27,18 @@ merge_slots-requires c =
     (scope_fit c.scope_fits.ensures (ap not c.if-not-scope_fits.false)) in
     let g = scope_tested _ _ c.scope_fits-2.ensures.long
     (scope_fit c.scope_fits-2.ensures (ap not c.if-not-scope_fits-2.false)) in
-    scope_ready k g (rw c.in-Accepted.is at c.check_set.ensures)
+    scope_ready k g c.in_ok-check_set.ensures
     c.flags_of-p.ensures
 
-pub returns-in-Accepted : goal.returns-in-Accepted
-returns-in-Accepted c =
+pub returns : goal.returns
+returns c =
     let fit = both_fit _ _ (scope_fit c.scope_fits.ensures (ap not c.if-not-scope_fits.false))
     (scope_fit c.scope_fits-2.ensures (ap not c.if-not-scope_fits-2.false)) in
-    scope_done _ fit (rw c.in-Accepted.is at c.check_set.ensures)
+    scope_done _ fit c.in_ok-check_set.ensures
     (rw c.flags_of-p.ensures at c.merge_slots.ensures)
 
-pub returns-in-Refused : goal.returns-in-Refused
-returns-in-Refused c =
+pub returns-in_err-check_set : goal.returns-in_err-check_set
+returns-in_err-check_set c =
     let fit = both_fit _ _ (scope_fit c.scope_fits.ensures (ap not c.if-not-scope_fits.false))
     (scope_fit c.scope_fits-2.ensures (ap not c.if-not-scope_fits-2.false)) in
-    scope_away _ fit (rw c.in-Refused.is at c.check_set.ensures)
+    rw (passed_on c.from_residual.ensures.1) (scope_away _ fit c.in_err-check_set.ensures)

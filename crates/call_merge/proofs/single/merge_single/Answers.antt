@@ -1,5 +1,5 @@
 -- `merge_single`: the test, the checks, then the merge of one texture.
-use Rattle.model.specs.Prelude.{ap, not}
+use Rattle.model.specs.{Errors.passed_on, Prelude.{ap, not}}
 use Rattle.set_ready.specs.Tested.{scope_tested}
 use Rattle.set_wellformed.specs.Whole.{scope_unfit, scope_fit}
 use Rattle.call_merge.proofs.OneUse.{not_fitting, single_away, single_done, single_ready, single_use}
@@ -13,22 +13,26 @@ check_single-requires c =
     (scope_tested _ _ c.scope_fits.ensures.long
     (scope_fit c.scope_fits.ensures (ap not c.if-not-scope_fits.false))).measured.textures
 
-pub merge_use_at-x-requires : goal.merge_use_at-x-requires
-merge_use_at-x-requires c =
-    let z = (rw c.in-Accepted.is at c.check_single.ensures) in
+pub merge_use_at-requires : goal.merge_use_at-requires
+merge_use_at-requires c =
+    let z = c.in_ok-check_single.ensures in
     let k = scope_tested _ _ c.scope_fits.ensures.long
     (scope_fit c.scope_fits.ensures (ap not c.if-not-scope_fits.false)) in
     rw c.wide-i.ensures.0 (record { half_ready = single_ready z k; taken_use = single_use z c.use_of-u.ensures c.flags_of-p.ensures })
 
-pub returns-in-Accepted : goal.returns-in-Accepted
-returns-in-Accepted c =
-    let z = (rw c.in-Accepted.is at c.check_single.ensures) in
+pub returns-in-Ok : goal.returns-in-Ok
+returns-in-Ok c =
     let fit = scope_fit c.scope_fits.ensures (ap not c.if-not-scope_fits.false) in
-    let m = (rw (c.wide-i.ensures.0, c.flags_of-p.ensures, ← c.use_of-u.ensures.given _) at
-    c.merge_use_at-x.ensures) in
-    rw c.told.ensures (single_done fit (scope_tested _ _ c.scope_fits.ensures.long fit) z m)
+    let m = (rw (c.wide-i.ensures.0, c.flags_of-p.ensures, ← c.use_of-u.ensures.given _) at c.in-Ok.ensures) in
+    single_done fit (scope_tested _ _ c.scope_fits.ensures.long fit) c.in_ok-check_single.ensures m
 
-pub returns-in-Refused : goal.returns-in-Refused
-returns-in-Refused c =
-    single_away (scope_fit c.scope_fits.ensures (ap not c.if-not-scope_fits.false))
-    (rw c.in-Refused.is at c.check_single.ensures)
+pub returns-in-Err : goal.returns-in-Err
+returns-in-Err c =
+    let fit = scope_fit c.scope_fits.ensures (ap not c.if-not-scope_fits.false) in
+    let m = (rw (c.wide-i.ensures.0, c.flags_of-p.ensures, ← c.use_of-u.ensures.given _) at c.in-Err.ensures) in
+    single_done fit (scope_tested _ _ c.scope_fits.ensures.long fit) c.in_ok-check_single.ensures m
+
+pub returns-in_err-check_single : goal.returns-in_err-check_single
+returns-in_err-check_single c =
+    rw (passed_on c.from_residual.ensures.1)
+    (single_away (scope_fit c.scope_fits.ensures (ap not c.if-not-scope_fits.false)) c.in_err-check_single.ensures)

@@ -2,8 +2,8 @@
 use Rattle.call_merge.specs.Single.{full_use, part_use}
 use Rattle.call_merge.proofs.single.use_of.Goals as goal
 
-pub returns-in-Full : goal.returns-in-Full
-returns-in-Full c = rw (c.full.ensures, c.in-Full.is) (full_use _)
+pub returns-in-None : goal.returns-in-None
+returns-in-None c = rw (c.full.ensures, c.in-None.is) (full_use _)
 
-pub returns-in-Part : goal.returns-in-Part
-returns-in-Part c = rw c.in-Part.is (part_use _ _ _ c.is_full.ensures)
+pub returns-in-Some : goal.returns-in-Some
+returns-in-Some c = rw c.in-Some.is (part_use _ _ _ c.is_full.ensures)

@@ -6,7 +6,7 @@ use Rattle.log_head.specs.{Log.head_le, Called.{Fitting, counted_fits, all_fit, 
 use Rattle.call_remove.specs.Logs.{removed_entries, logs_listed}
 use Rattle.call_remove.proofs.{Removal.{none_removed, all_removed}}
 use Rattle.call_remove.proofs.sparse.remove_checked.Goals as goal
-use Rattle.call_remove.proofs.sparse.remove_checked.Goals.{then-free-subresources+else-free-n, else-free-subresources}
+use Rattle.call_remove.proofs.sparse.remove_checked.Goals.{then-head-subresources+else-head-n, else-head-subresources}
 
 pub subresources-requires : goal.subresources-requires
 subresources-requires c = let m = c.requires.listing.tracker.starts in (m.textures, (m.mips, m.layers))
@@ -14,33 +14,33 @@ subresources-requires c = let m = c.requires.listing.tracker.starts in (m.textur
 pub log_listed-n-requires : goal.log_listed-n-requires
 log_listed-n-requires c = let q = c.requires.listing in rw c.flags_of-p.ensures (record {
   logs_listed = logs_listed q.tracker q.scope q.passed;
-  is_bound = c.requires.indices_len_bound_2;
+  few = c.requires.indices_len_bound_2;
   most_entries_bound = omega arith;
-  fact = λ w. absurd (false≢true w);
+  room_for = λ w. absurd (false≢true w);
 })
 
-pub returns-then-free-n : goal.returns-then-free-n
-returns-then-free-n c =
+pub returns-then-head-n : goal.returns-then-head-n
+returns-then-head-n c =
     let n = (rw c.flags_of-p.ensures at c.log_listed-n.ensures) in
-    rw (c.refused.ensures, n.content) (none_removed (omega (arith, n.count)))
+    rw n.content (none_removed (omega (arith, n.count)))
 
 pub log_listed-n-requires-2 : goal.log_listed-n-requires-2
 log_listed-n-requires-2 c =
     let a = c.args in
     let new : List PendingTransition = removed_entries a.table.now a.ends.now a.given.now a.lent.now a.indices.now in
-    let f : Fitting new a.head.free a.log.now c.if-free-subresources.log = elim c.if-free-subresources.branch [
-      | then-free-subresources+else-free-n w ↦
-          counted_fits (rw c.flags_of-p.ensures at w.log_listed-n.ensures) w.if-free-n.false w.log-is
-      | else-free-subresources w ↦ all_fit c.requires.indices_len_bound c.subresources.ensures w.if-free-subresources.false w.log-is
+    let f : Fitting new a.head.free a.log.now c.if-head-subresources.log = elim c.if-head-subresources.branch [
+      | then-head-subresources+else-head-n w ↦
+          counted_fits (rw c.flags_of-p.ensures at w.log_listed-n.ensures) w.if-head-n.false w.log-is
+      | else-head-subresources w ↦ all_fit c.requires.indices_len_bound c.subresources.ensures w.if-head-subresources.false w.log-is
     ] in
     let q = c.requires.listing in
     let room = room_for a.head a.log.now new c.requires.head_value f.fits in
     let h = head_le (length a.log.now / 7) a.head c.requires.head_value in
     rw (c.flags_of-p.ensures, f.same) (record {
       logs_listed = logs_listed q.tracker q.scope q.passed;
-      is_bound = c.requires.indices_len_bound_2;
+      few = c.requires.indices_len_bound_2;
       most_entries_bound = omega (arith, h, c.requires.log_len_bound);
-      fact = λ w. room;
+      room_for = λ w. room;
     })
 
 pub set_listed-requires : goal.set_listed-requires
@@ -50,10 +50,10 @@ pub moved_on-requires : goal.moved_on-requires
 moved_on-requires c =
     let a = c.args in
     let new : List PendingTransition = removed_entries a.table.now a.ends.now a.given.now a.lent.now a.indices.now in
-    let f : Fitting new a.head.free a.log.now c.if-free-subresources.log = elim c.if-free-subresources.branch [
-      | then-free-subresources+else-free-n w ↦
-          counted_fits (rw c.flags_of-p.ensures at w.log_listed-n.ensures) w.if-free-n.false w.log-is
-      | else-free-subresources w ↦ all_fit c.requires.indices_len_bound c.subresources.ensures w.if-free-subresources.false w.log-is
+    let f : Fitting new a.head.free a.log.now c.if-head-subresources.log = elim c.if-head-subresources.branch [
+      | then-head-subresources+else-head-n w ↦
+          counted_fits (rw c.flags_of-p.ensures at w.log_listed-n.ensures) w.if-head-n.false w.log-is
+      | else-head-subresources w ↦ all_fit c.requires.indices_len_bound c.subresources.ensures w.if-head-subresources.false w.log-is
     ] in
     let logged = wrote (c.requires.head_value, c.requires.log_len_bound) f.fits
     (rw (c.flags_of-p.ensures, f.same) at c.log_listed-n-2.ensures) in
@@ -63,10 +63,10 @@ pub returns : goal.returns
 returns c =
     let a = c.args in
     let new : List PendingTransition = removed_entries a.table.now a.ends.now a.given.now a.lent.now a.indices.now in
-    let f : Fitting new a.head.free a.log.now c.if-free-subresources.log = elim c.if-free-subresources.branch [
-      | then-free-subresources+else-free-n w ↦
-          counted_fits (rw c.flags_of-p.ensures at w.log_listed-n.ensures) w.if-free-n.false w.log-is
-      | else-free-subresources w ↦ all_fit c.requires.indices_len_bound c.subresources.ensures w.if-free-subresources.false w.log-is
+    let f : Fitting new a.head.free a.log.now c.if-head-subresources.log = elim c.if-head-subresources.branch [
+      | then-head-subresources+else-head-n w ↦
+          counted_fits (rw c.flags_of-p.ensures at w.log_listed-n.ensures) w.if-head-n.false w.log-is
+      | else-head-subresources w ↦ all_fit c.requires.indices_len_bound c.subresources.ensures w.if-head-subresources.false w.log-is
     ] in
     let logged = wrote (c.requires.head_value, c.requires.log_len_bound) f.fits
     (rw (c.flags_of-p.ensures, f.same) at c.log_listed-n-2.ensures) in

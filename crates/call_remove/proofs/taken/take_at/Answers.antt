@@ -5,10 +5,8 @@ use Rattle.call_remove.proofs.taken.take_at.Goals as goal
 pub returns-then-given-i-eq0 : goal.returns-then-given-i-eq0
 returns-then-given-i-eq0 c = taken_not c.if-given-i-eq0.true
 
-pub set_taken-requires : goal.set_taken-requires
-set_taken-requires c =
-    record { sets_at = c.requires; fact = c.if-given-i-eq0.false }
+pub set_at-requires : goal.set_at-requires
+set_at-requires c = c.requires
 
 pub returns : goal.returns
-returns c =
-    taken_own c.if-given-i-eq0.false c.set_taken.ensures
+returns c = taken_own c.if-given-i-eq0.false c.set_at.ensures

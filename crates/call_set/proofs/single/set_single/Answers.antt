@@ -1,5 +1,5 @@
 -- `set_single_lem`: the test, the log's head, the checks, and then the use.
-use Rattle.model.specs.Prelude.{sym, ◌∙◌, ap, not}
+use Rattle.model.specs.{Errors.passed_on, Prelude.{ap, not}}
 use Rattle.set_wellformed.specs.Whole.{tracker_unfit, tracker_fit}
 use Rattle.set_ready.specs.Tested.{tracker_tested}
 use Rattle.texture_track.specs.Tracked.{away_unfit, away_short}
@@ -8,14 +8,13 @@ use Rattle.call_set.proofs.single.set_single.Goals as goal
 
 pub returns-then-not-tracker_fits : goal.returns-then-not-tracker_fits
 returns-then-not-tracker_fits c =
-    rw c.refused.ensures (away_unfit (tracker_unfit c.tracker_fits.ensures (ap not c.if-not-tracker_fits.true)))
+    away_unfit (tracker_unfit c.tracker_fits.ensures (ap not c.if-not-tracker_fits.true))
 
-pub returns-then-not-head_fits : goal.returns-then-not-head_fits
-returns-then-not-head_fits c =
-    let k = (rw c.lent_entries.ensures.0 at (sym c.head_fits.ensures
-    ∙ (c.if-not-head_fits.true))) in
-    rw c.refused-then-not-head_fits.ensures
-    (away_short (tracker_fit c.tracker_fits.ensures (ap not c.if-not-tracker_fits.false)) k)
+pub returns-in_err-check_head : goal.returns-in_err-check_head
+returns-in_err-check_head c =
+    let short = c.in_err-check_head.ensures.fits in
+    rw (passed_on c.from_residual.ensures.1, short.0)
+    (away_short (tracker_fit c.tracker_fits.ensures (ap not c.if-not-tracker_fits.false)) short.1)
 
 pub check_single-requires : goal.check_single-requires
 check_single-requires c =
@@ -25,34 +24,28 @@ check_single-requires c =
 pub set_checked-requires : goal.set_checked-requires
 set_checked-requires c =
     let a = c.args in
-    let z = (rw (c.in-Accepted.is, c.state_of-new.ensures.0) at
-    c.check_single.ensures) in
+    let z = rw c.state_of-new.ensures.0 at c.in_ok-check_single.ensures in
     let fit = tracker_fit c.tracker_fits.ensures (ap not c.if-not-tracker_fits.false) in
-    let k = (rw c.lent_entries.ensures.0 at (sym c.head_fits.ensures
-    ∙ (c.if-not-head_fits.false))) in rw (c.wide-i.ensures.0, c.state_of-new.ensures.0) (record {
+    rw (c.wide-i.ensures.0, c.state_of-new.ensures.0) (record {
       both_ready = single_ready z (tracker_tested _ _ _ c.tracker_fits.ensures.long fit);
       taken_use = single_use z c.is_full-all.ensures;
       len_bound = single_few a.table.now a.starts.now a.ends.now _ _ fit c.state_of-new.ensures.1 z _
           (as_use_lem _ _ _ _ c.is_full-all.ensures);
-      head_value = k;
-      log_len_bound = c.lent_entries.ensures.1;
+      head_value = c.in_ok-check_head.ensures.fits;
+      log_len_bound = c.check_head.ensures.countable;
     })
 
-pub returns-in-Accepted : goal.returns-in-Accepted
-returns-in-Accepted c =
-    let z = (rw (c.in-Accepted.is, c.state_of-new.ensures.0) at
-    c.check_single.ensures) in
-    let k = (rw c.lent_entries.ensures.0 at (sym c.head_fits.ensures
-    ∙ (c.if-not-head_fits.false))) in
+pub returns : goal.returns
+returns c =
+    let z = rw c.state_of-new.ensures.0 at c.in_ok-check_single.ensures in
+    let k = c.in_ok-check_head.ensures.fits in
     single_done (tracker_fit c.tracker_fits.ensures (ap not c.if-not-tracker_fits.false)) k _ z
     (as_use_lem _ _ _ _ c.is_full-all.ensures)
     (rw (c.wide-i.ensures.0, c.state_of-new.ensures.0) at
     c.set_checked.ensures)
 
-pub returns-in-Refused : goal.returns-in-Refused
-returns-in-Refused c =
-    let z = (rw (c.in-Refused.is, c.state_of-new.ensures.0) at
-    c.check_single.ensures) in
-    let k = (rw c.lent_entries.ensures.0 at (sym c.head_fits.ensures
-    ∙ (c.if-not-head_fits.false))) in
-    rw c.refused-in-Refused.ensures (single_away (tracker_fit c.tracker_fits.ensures (ap not c.if-not-tracker_fits.false)) k z)
+pub returns-in_err-check_single : goal.returns-in_err-check_single
+returns-in_err-check_single c =
+    let z = rw c.state_of-new.ensures.0 at c.in_err-check_single.ensures in
+    let k = c.in_ok-check_head.ensures.fits in
+    rw (passed_on c.from_residual-in_err-check_single.ensures.1) (single_away (tracker_fit c.tracker_fits.ensures (ap not c.if-not-tracker_fits.false)) k z)

@@ -1,25 +1,8 @@
--- `check_sparse`: the flags, then the list in its order; the first check that fails is told.
-use Rattle.model.specs.Prelude.{sym, ◌∙◌}
-use Rattle.set_checks.proofs.{Turns.{turn, stop, end, sparse_begins, sparse_differs}}
+-- `check_sparse`: the first check that fails is told.
+use Rattle.std.proofs.Common.{rules}
+use Rattle.set_checks.proofs.{Firsts.{sparse_stops}}
 use Rattle.set_checks.proofs.sets.check_sparse.Goals as goal
 
-pub returns-then-not-same_flags : goal.returns-then-not-same_flags
-returns-then-not-same_flags c = sparse_differs _ _ _ (sym c.same_flags.ensures ∙ (c.if-not-same_flags.true))
-
-pub loop-k-init : goal.loop-k-init
-loop-k-init c =
-    sparse_begins _ _ c.args.indices.now (sym c.same_flags.ensures ∙ (c.if-not-same_flags.false))
-
-pub loop-k-preserved : goal.loop-k-preserved
-loop-k-preserved c =
-    turn c.loop-k.invariant c.loop-k-test.true c.check_listed.ensures.is c.in-Accepted.is
-
-pub returns-in-Refused : goal.returns-in-Refused
-returns-in-Refused c =
-    record {
-      is = stop c.loop-k.invariant c.loop-k-test.true
-          c.check_listed.ensures.is c.in-Refused.is;
-    }
-
-pub returns : goal.returns
-returns c = record { is = end c.loop-k.invariant c.loop-k-test.false }
+pub returns-in_err-check_listed : goal.returns-in_err-check_listed
+returns-in_err-check_listed c =
+    sparse_stops (search rules) c.loop-i-test.true c.loop-i.invariant c.in_err-check_listed.ensures (search rules)

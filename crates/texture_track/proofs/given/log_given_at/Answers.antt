@@ -12,9 +12,9 @@ barrier_texture-requires c =
     let p = c.requires in let o = c.if-table-i-eq0.false in
     record {
       texture_held = half_held p.half_ready o;
-      texture_held_2 = given_textured p.half_given;
+      given_held = given_textured p.half_given;
       at_le_log_top = p.at_le_log_top;
-      fact = rw (ne_eqb _ _ o) at p.fact;
+      room_for = rw (ne_eqb _ _ o) at p.room_for;
     }
 
 pub returns : goal.returns

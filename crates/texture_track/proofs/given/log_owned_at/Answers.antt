@@ -9,13 +9,12 @@ returns-then-given-i-eq0 c = rw (eq-eqb _ _ c.if-given-i-eq0.true) (adds_none _ 
 pub log_given_at-requires : goal.log_given_at-requires
 log_given_at-requires c =
     let p = c.requires in let o = c.if-given-i-eq0.false in
-    record {
+    rw c.extent_of-extent.ensures (record {
       half_ready = p.logs_at.ready (rw (ne_eqb _ _ o));
       half_given = p.logs_at.given (rw (ne_eqb _ _ o));
-      at_le_log_top =
-          p.at_le_log_top;
-      fact = rw (ne_eqb _ _ o) at p.room_for;
-    }
+      at_le_log_top = p.at_le_log_top;
+      room_for = rw (ne_eqb _ _ o) at p.room_for;
+    })
 
 pub returns : goal.returns
-returns c = rw (ne_eqb _ _ c.if-given-i-eq0.false) c.log_given_at.ensures
+returns c = rw (ne_eqb _ _ c.if-given-i-eq0.false) (rw c.extent_of-extent.ensures at c.log_given_at.ensures)

@@ -9,10 +9,11 @@ returns-then-given-i-eq0 c = rw (eq-eqb _ _ c.if-given-i-eq0.true) (tracker_kept
 
 pub set_given_at-requires : goal.set_given_at-requires
 set_given_at-requires c =
-    let w = where_owned _ c.if-given-i-eq0.false c.requires in record { both_ready = w.0; both_given = w.1 }
+    let w = where_owned _ c.if-given-i-eq0.false c.requires in
+    rw c.extent_of-extent.ensures (record { both_ready = w.0; both_given = w.1 })
 
 pub returns : goal.returns
 returns c =
     let own = c.if-given-i-eq0.false in
     let given = c.args.given.now in
-    rw (ne_eqb _ _ own) (tracker_named (only_owned_lem given own) c.set_given_at.ensures)
+    rw (ne_eqb _ _ own) (tracker_named (only_owned_lem given own) (rw c.extent_of-extent.ensures at c.set_given_at.ensures))
