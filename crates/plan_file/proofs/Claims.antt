@@ -1,8 +1,8 @@
 -- Claims: what holds of plan files, from the definitions (Plan, Write) and from the contracts of the calls (Reading, Writing).
-use Rattle.std.specs.Prelude.{◌+◌, ◌*◌, ◌%◌, ◌≤◌, ◌≡◌, ◌++◌}
+use Rattle.std.specs.Prelude.{◌+◌, ◌*◌, ◌%◌, ◌≤◌, ◌≡◌, ◌++◌, Result, Ok}
 use Rattle.model.specs.Prelude.{ℕ, true, List, length, take, drop}
 use Rattle.model.specs.{declared.Refusal.Refusal, Refusals.number_of}
-use Rattle.plan_file.specs.{declared.PlanAnswer.PlanAnswer, Plan.{Event, took, no, read_plan}}
+use Rattle.plan_file.specs.{Plan.{Event, took, no, read_plan}}
 use Rattle.plan_file.specs.{Write.{events_of, levels, deepest, widest, wrote, not, write_plan}, Reading.PlanRead, Writing.PlanWritten}
 use Rattle.plan_file.specs.{Wide.{Wide}, Bytes.Bytes, Forward.{balanced_from, deepest_from}, Uses.{widths, numbers_of, count_of}}
 use Rattle.plan_file.specs.Packing.{bytes_of, Fit}
@@ -23,15 +23,15 @@ list_round_trip = RoundTrips.list_round_trip
 
 -- ---- The same of the two calls
 -- where `read` accepts a file f, `write` of the n items that it left, with room for the file, writes f, and what lies past it stays
-pub read_write_lem : (f l m t o z : List ℕ) (n : ℕ) (r : PlanAnswer) → Bytes f
-    → PlanRead f l (PlanAnswer.Done n) m → t ≡ take (16 * n) m → PlanWritten t o r z → length f ≤ length o
-    → (r ≡ PlanAnswer.Done (length f)) × (z ≡ f ++ drop (length f) o)
+pub read_write_lem : (f l m t o z : List ℕ) (n : ℕ) (r : Result ℕ Refusal) → Bytes f
+    → PlanRead f l (Ok n) m → t ≡ take (16 * n) m → PlanWritten t o r z → length f ≤ length o
+    → (r ≡ Ok (length f)) × (z ≡ f ++ drop (length f) o)
 read_write_lem = Together.read_write_lem
 
 -- where `write` accepts items t, `read` of the n bytes that it left, with room for the items, leaves items of the same events
-pub write_read : (t l z f o m : List ℕ) (n : ℕ) (r : PlanAnswer)
-    → PlanWritten t l (PlanAnswer.Done n) z → f ≡ take n z → PlanRead f o r m → 16 * length (events_of t) ≤ length o
-    → (r ≡ PlanAnswer.Done (length (events_of t))) × (events_of (take (16 * length (events_of t)) m) ≡ events_of t)
+pub write_read : (t l z f o m : List ℕ) (n : ℕ) (r : Result ℕ Refusal)
+    → PlanWritten t l (Ok n) z → f ≡ take n z → PlanRead f o r m → 16 * length (events_of t) ≤ length o
+    → (r ≡ Ok (length (events_of t))) × (events_of (take (16 * length (events_of t)) m) ≡ events_of t)
 write_read = Together.write_read
 
 -- ---- Every file and every list is accepted, or turned away by its own numbers

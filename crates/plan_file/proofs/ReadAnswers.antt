@@ -1,14 +1,13 @@
 -- The whole reader: an accepted file's uses have 15 bytes, its items stand one after another, and the answer is the definition's.
-use Rattle.std.specs.Prelude.{◌+◌, ◌*◌, ◌/◌, ◌<◌, ◌≤◌, ◌≡◌, ◌∷◌, ◌++◌}
+use Rattle.std.specs.Prelude.{◌+◌, ◌*◌, ◌/◌, ◌<◌, ◌≤◌, ◌≡◌, ◌∷◌, ◌++◌, Result, Ok, Err}
 use Rattle.model.specs.Prelude.{ℕ, suc, refl, ap, sym, subst, ◌∙◌, true, false, List, []}
 use Rattle.model.specs.Prelude.{append_assoc, arith, length, drop, length-drop, length-append, take_at, drop-drop, drop-append-add, ltb}
 use Rattle.model.specs.Prelude.{lt-ltb, le-ltb}
-use Rattle.model.specs.{declared.{Refusal.Refusal, Verdict.Verdict}, declared.Refusal.TheVariants.NoFreeEntry, ListLaws.all_join}
-use Rattle.plan_file.specs.{declared.reader.Step.Step, declared.PlanAnswer.PlanAnswer}
+use Rattle.model.specs.{declared.Refusal.Refusal, declared.Refusal.TheVariants.NoFreeEntry, ListLaws.all_join}
 use Rattle.plan_file.specs.Plan.{Event, opened, used, closed, other, Read, took, no, around, after, fields, read_plan, item, items}
 use Rattle.plan_file.specs.{Plan.{answer_of, left_of}, Reading.{put_item, put_all, CameAs, GroupRead, PlanRead}}
 use Rattle.plan_file.specs.Wide.{WideUse, Wide, WideRead}
-use Rattle.plan_file.proofs.ReadingLaws.{unlike, run_has}
+use Rattle.plan_file.proofs.ReadingLaws.{undone, same_count, run_has}
 
 -- ---- Uses have 15 bytes
 wide_after : (a b : Read) → WideRead a → WideRead b → WideRead (after a b)
@@ -58,47 +57,34 @@ put_items k (x ∷ es) a b e h w =
         more n = omega arith
 
 -- ---- The three answers
-module _ (l : List ℕ) where
-  no_of : (rd : Read) (r : Refusal) (k n : ℕ) (x m : List ℕ) → CameAs rd k x (Verdict.Refused r) n m
-      → (PlanAnswer.Refused r ≡ answer_of rd l) × (l ≡ left_of rd l)
+module _ (f l : List ℕ) where
+  pub reads_no : {e : Refusal} {x m : List ℕ} → GroupRead f 8 0 x (Err e) m → PlanRead f l (Err e) l
   unfolding answer_of left_of
-  no_of (took es) r k n x m w = absurd (unlike (sym w.0))
-  no_of (no c) r k n x m w = (told w, refl)
+  reads_no {e} {x} {m} g = let z = go (read_plan f) g.came.what in record { answer = z.0; left = z.1 }
     where
-      told : {a b : Refusal} → Verdict.Refused a ≡ Verdict.Refused b → PlanAnswer.Refused a ≡ PlanAnswer.Refused b
-      told e = cc
+      go : (rd : Read) → CameAs rd 0 x (Err e) m → (Err e ≡ answer_of rd l) × (l ≡ left_of rd l)
+      go (took es) w = absurd (undone (sym w.0))
+      go (no c) w = (w, refl)
 
-  short_of : (rd : Read) (n : ℕ) (x m : List ℕ) → CameAs rd 0 x Verdict.Accepted n m → length l / 16 < n
-      → (PlanAnswer.Refused NoFreeEntry ≡ answer_of rd l) × (l ≡ left_of rd l)
-  unfolding answer_of left_of
-  short_of (took es) n x m w h =
-      let t : ltb (length l / 16) (length es) ≡ true = lt-ltb (length l / 16) (length es) (omega (arith, w.1.0)) in (rw t, rw t)
-  short_of (no r) n x m w h = absurd (unlike w)
+  module _ {n : ℕ} {x m : List ℕ} (g : GroupRead f 8 0 x (Ok n) m) where
+    pub reads_short : length l / 16 < n → PlanRead f l (Err NoFreeEntry) l
+    unfolding answer_of left_of
+    reads_short h = let z = go (read_plan f) g.came.what in record { answer = z.0; left = z.1 }
+      where
+        go : (rd : Read) → CameAs rd 0 x (Ok n) m → (Err NoFreeEntry ≡ answer_of rd l) × (l ≡ left_of rd l)
+        go (took es) w =
+            let t : ltb (length l / 16) (length es) ≡ true = lt-ltb (length l / 16) (length es) (omega (arith, same_count w.0)) in
+            (rw t, rw t)
+        go (no c) w = absurd (undone w)
 
-  done_of : (rd : Read) (n j : ℕ) (v : Verdict) (x m z : List ℕ) → CameAs rd 0 x Verdict.Accepted n m
-      → CameAs rd 0 l v j z → n ≤ length l / 16
-      → WideRead rd → (PlanAnswer.Done n ≡ answer_of rd l) × (z ≡ left_of rd l)
-  unfolding answer_of left_of
-  done_of (took es) n j v x m z w u h q =
-      let t : ltb (length l / 16) (length es) ≡ false = le-ltb (length l / 16) (length es) (omega (arith, w.1.0)) in
-      let e : n ≡ length es = omega (arith, w.1.0) in
-      (rw t (ap PlanAnswer.Done e), rw t (u.1.1 ∙ put_items 0 es [] l refl (omega (arith, w.1.0)) q))
-  done_of (no r) n j v x m z w u h q = absurd (unlike w)
-
-came_as : {f x m : List ℕ} {s : Step} {v : Verdict} → GroupRead f 8 0 x s m → s.verdict ≡ v → CameAs (read_plan f) 0 x v s.count m
-came_as g e = rw (← e) g.came.what
-
-module _ {f l x m : List ℕ} {s : Step} (g : GroupRead f 8 0 x s m) where
-  pub reads_no : {r : Refusal} → s.verdict ≡ Verdict.Refused r → PlanRead f l (PlanAnswer.Refused r) l
-  reads_no e = let w = no_of l (read_plan f) _ 0 s.count x m (came_as g e) in record { answer = w.0; left = w.1 }
-
-  module _ (e : s.verdict ≡ Verdict.Accepted) where
-    pub reads_short : length l / 16 < s.count → PlanRead f l (PlanAnswer.Refused NoFreeEntry) l
-    reads_short h = let w = short_of l (read_plan f) s.count x m (came_as g e) h in record { answer = w.0; left = w.1 }
-
-    pub reads_done : s.count ≤ length l / 16 → {q : Step} {z : List ℕ} → GroupRead f 8 0 l q z
-        → PlanRead f l (PlanAnswer.Done s.count) z
-    reads_done h {q} {z} u =
-        let w = done_of l (read_plan f) s.count q.count q.verdict x m z (came_as g e) u.came.what h
-        (wide_fields (length f) 8 f) in
-        record { answer = w.0; left = w.1 }
+    pub reads_done : n ≤ length l / 16 → {r : Result ℕ Refusal} {z : List ℕ} → GroupRead f 8 0 l r z → PlanRead f l r z
+    unfolding answer_of left_of
+    reads_done h {r} {z} u =
+        let q = go (read_plan f) g.came.what u.came.what (wide_fields (length f) 8 f) in record { answer = q.0; left = q.1 }
+      where
+        go : (rd : Read) → CameAs rd 0 x (Ok n) m → CameAs rd 0 l r z → WideRead rd → (r ≡ answer_of rd l) × (z ≡ left_of rd l)
+        go (took es) w v q =
+            let e : n ≡ length es = omega (arith, same_count w.0) in
+            let t : ltb (length l / 16) (length es) ≡ false = le-ltb (length l / 16) (length es) (omega (arith, e)) in
+            (rw t (v.0 ∙ ap Ok (omega arith)), rw t (v.1 ∙ put_items 0 es [] l refl (omega (arith, e)) q))
+        go (no c) w v q = absurd (undone w)

@@ -1,12 +1,14 @@
 -- The laws by which the reader's code is the definition: how many fields a run wants, how it goes on, and what each field is.
-use Rattle.std.specs.Prelude.{◌+◌, ◌-◌, ◌<◌, ◌≤◌, ◌≡◌, ◌∷◌, ◌++◌}
+use Rattle.std.specs.Prelude.{◌+◌, ◌-◌, ◌<◌, ◌≤◌, ◌≡◌, ◌∷◌, ◌++◌, Option, Result, Ok, Err}
 use Rattle.model.specs.Prelude.{ℕ, zero, suc, refl, ap, sym, ◌∙◌, Bool, true, false, List, [], add-one}
 use Rattle.model.specs.Prelude.{arith, length, drop, length-take, length-drop, length-append, ltb, eq-eqb, ne_eqb, ltb-false, true≢false}
 use Rattle.model.specs.Prelude.{eqb, eqb-true}
-use Rattle.model.specs.declared.{Refusal.Refusal, Verdict.Verdict}
-use Rattle.model.specs.{declared.Refusal.TheVariants.{FieldCutShort, UnknownTag, UseOfWrongSize, GroupsTooDeep}, BoolLaws.by_test}
+use Rattle.model.specs.declared.Refusal.{Refusal}
+use Rattle.model.specs.declared.Refusal.TheVariants.{FieldCutShort, UnknownTag, UseOfWrongSize, GroupsTooDeep}
+use Rattle.model.specs.{BoolLaws.{by_test, by_test₂}}
 use Rattle.plan_file.specs.Plan.{used, Event, opened, closed, Read, took, no, tag_of, length_of, size_of, content, cut_short, as_use}
-use Rattle.plan_file.specs.{Plan.{around, after, field, fields, run, item}, Reading.{put_item, put_all, Came}}
+use Rattle.plan_file.specs.{Plan.{around, after, field, fields, run, item}, Reading.{put_item, put_all, Came, field_by}}
+use Rattle.plan_file.specs.{Kinds.tag_kind, declared.kinds.Tag.Tag}
 
 -- ---- Fuel: as many fields as there are bytes are always enough
 content_short : (s : List ℕ) → length (content s) ≤ length s - 3
@@ -54,57 +56,54 @@ put_then k (e ∷ x) y l = put_then (suc k) x y (put_item k (item e) l)
     near a b = omega arith
 
 -- a refusal is no acceptance
-pub unlike : {r : Refusal} → Verdict.Accepted ≡ Verdict.Refused r → ⊥
-unlike e = let z : ◌≡◌ {A = ℕ} 0 1 = cc in omega arith
+pub undone : {n : ℕ} {r : Refusal} → Ok n ≡ Err r → ⊥
+undone e = let z : ◌≡◌ {A = ℕ} 0 1 = cc in omega arith
 
-pub came_after : (a b : Read) {k n q : ℕ} {v : Verdict} {l m z : List ℕ} → Came a k l Verdict.Accepted n m → Came b n m v q z
-    → Came (after a b) k l v q z
-came_after (took x) (took y) {k} {n} {q} {v} {l} {m} {z} w u =
+pub same_count : {n m : ℕ} → ◌≡◌ {A = Result ℕ Refusal} (Ok n) (Ok m) → n ≡ m
+same_count e = cc
+
+pub came_after : (a b : Read) {k n : ℕ} {r : Result ℕ Refusal} {l m z : List ℕ} → Came a k l (Ok n) m → Came b n m r z
+    → Came (after a b) k l r z
+came_after (took x) (took y) {k} {n} {r} {l} {m} {z} w u =
+    let e : n ≡ k + length x = same_count w.what.0 in
     record {
       what = (
-        u.what.0,
-        (
-          omega (arith, u.what.1.0, w.what.1.0, length-append x y),
-          u.what.1.1 ∙ go k n l m x y w.what.1.0 w.what.1.1 ∙ sym (put_then k x y l),
-        ),
+        u.what.0 ∙ ap Ok (omega (arith, length-append x y)),
+        u.what.1 ∙ go k n l m x y e w.what.1 ∙ sym (put_then k x y l),
       );
     }
   where
     go : (k n : ℕ) (l m : List ℕ) (x y : List Event) → n ≡ k + length x → m ≡ put_all k x l
         → put_all n y m ≡ put_all (k + length x) y (put_all k x l)
     go k n l m x y p q = cc
-came_after (took x) (no r) w u = record { what = u.what }
-came_after (no r) b w u = absurd (unlike w.what)
+came_after (took x) (no e) w u = record { what = u.what }
+came_after (no e) b w u = absurd (undone w.what)
 
-pub came_stop : (a b : Read) {r : Refusal} {k n q : ℕ} {l m z : List ℕ} → Came a k l (Verdict.Refused r) n m
-    → Came (after a b) k l (Verdict.Refused r) q z
-came_stop (took x) b w = absurd (unlike (sym w.what.0))
-came_stop (no r) b w = record { what = w.what }
+pub came_stop : (a b : Read) {e : Refusal} {k : ℕ} {l m z : List ℕ} → Came a k l (Err e) m → Came (after a b) k l (Err e) z
+came_stop (took x) b w = absurd (undone (sym w.what.0))
+came_stop (no e) b w = record { what = w.what }
 
-pub came_around : (a : Read) {k n : ℕ} {l l₁ m z : List ℕ} → l₁ ≡ put_item k (item opened) l → Came a (k + 1) l₁ Verdict.Accepted n m
-    → z ≡ put_item n (item closed) m → Came (around a) k l Verdict.Accepted (n + 1) z
+pub came_around : (a : Read) {k n : ℕ} {l l₁ m z : List ℕ} → l₁ ≡ put_item k (item opened) l → Came a (k + 1) l₁ (Ok n) m
+    → z ≡ put_item n (item closed) m → Came (around a) k l (Ok (n + 1)) z
 unfolding put_all
 came_around (took es) {k} {n} {l} {l₁} {m} {z} o w e =
+    let long : n ≡ k + 1 + length es = same_count w.what.0 in
     record {
       what = (
-        refl,
-        (
-          omega (arith, w.what.1.0, length-append es (closed ∷ [])),
-          e ∙ go k (suc k) n (put_item k (item opened) l) l₁ m (item closed) es (add-one k) w.what.1.0 w.what.1.1 o
-              ∙ sym (put_then (suc k) es (closed ∷ []) (put_item k (item opened) l)),
-        ),
+        ap Ok (omega (arith, length-append es (closed ∷ []))),
+        e ∙ go k (suc k) n (put_item k (item opened) l) l₁ m (item closed) es (add-one k) long w.what.1 o
+            ∙ sym (put_then (suc k) es (closed ∷ []) (put_item k (item opened) l)),
       );
     }
   where
     go : (k j n : ℕ) (l l₁ m i : List ℕ) (es : List Event) → k + 1 ≡ j → n ≡ k + 1 + length es → m ≡ put_all (k + 1) es l₁ → l₁ ≡ l
         → put_item n i m ≡ put_item (j + length es) i (put_all j es l)
     go k j n l l₁ m i es p q r s = cc
-came_around (no r) o w e = absurd (unlike w.what)
+came_around (no c) o w e = absurd (undone w.what)
 
-pub around_stop : (a : Read) {r : Refusal} {k j n q : ℕ} {l l₁ m z : List ℕ} → Came a j l₁ (Verdict.Refused r) n m
-    → Came (around a) k l (Verdict.Refused r) q z
-around_stop (took x) w = absurd (unlike (sym w.what.0))
-around_stop (no r) w = record { what = w.what }
+pub around_stop : (a : Read) {e : Refusal} {k j : ℕ} {l l₁ m z : List ℕ} → Came a j l₁ (Err e) m → Came (around a) k l (Err e) z
+around_stop (took x) w = absurd (undone (sym w.what.0))
+around_stop (no e) w = record { what = w.what }
 
 -- ---- A field that is not cut short
 pub uncut : (s : List ℕ) → cut_short s ≡ false → (3 ≤ length s) × (length_of s ≤ length s - 3)
@@ -125,17 +124,16 @@ module _ (i : Read) (d : ℕ) (s : List ℕ) (cut : cut_short s ≡ false) where
   unfolding field
   field_use t = rw (cut, eq-eqb (tag_of s) 2 t)
 
-  pub field_unknown : (tag_of s ≡ 2 → ⊥) → (tag_of s ≡ 1 → ⊥) → field i d s ≡ no UnknownTag
-  unfolding field
-  field_unknown u t = rw (cut, ne_eqb (tag_of s) 2 u, ne_eqb (tag_of s) 1 t)
-
-  pub field_deep : tag_of s ≡ 1 → d ≡ 0 → field i d s ≡ no GroupsTooDeep
-  unfolding field
-  field_deep t z = rw (cut, ne_eqb (tag_of s) 2 (λ u. omega arith), eq-eqb (tag_of s) 1 t, eq-eqb d 0 z)
-
   pub field_group : tag_of s ≡ 1 → (d ≡ 0 → ⊥) → field i d s ≡ around i
   unfolding field
   field_group t z = rw (cut, ne_eqb (tag_of s) 2 (λ u. omega arith), eq-eqb (tag_of s) 1 t, ne_eqb d 0 z)
+
+-- as the code tells it
+pub field_whole : (d : ℕ) (s : List ℕ) → cut_short s ≡ false
+    → field (run (d - 1) (content s)) d s ≡ field_by (tag_kind (tag_of s)) (content s) d
+unfolding field
+field_whole d s cut = rw cut (by_test₂ (λ (a : Read) (t : Option Tag). a ≡ field_by t (content s) d) (eqb (tag_of s) 2) (λ _. refl)
+    (λ _. by_test₂ (λ (a : Read) (t : Option Tag). a ≡ field_by t (content s) d) (eqb (tag_of s) 1) (λ _. refl) (λ _. refl)))
 
 -- ---- What every run has: what no field at all has, a use and a refusal, and what `after` and `around` keep
 module _ (P : Read → Type 0) (empty : P (took [])) (both : (a b : Read) → P a → P b → P (after a b))

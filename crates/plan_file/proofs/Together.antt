@@ -1,13 +1,12 @@
 -- What the calls do together, from their contracts alone: what `read` leaves, handed to `write`, gives the file's bytes back, and what
 -- `write` leaves, handed to `read`, gives the list's events back.
-use Rattle.std.specs.Prelude.{◌+◌, ◌*◌, ◌/◌, ◌≤◌, ◌≡◌, ◌∷◌, ◌++◌, if◌then◌else◌}
+use Rattle.std.specs.Prelude.{◌+◌, ◌*◌, ◌/◌, ◌≤◌, ◌≡◌, ◌∷◌, ◌++◌, if◌then◌else◌, Result, Ok, Err}
 use Rattle.model.specs.Prelude.{ℕ, suc, refl, ap, sym, ◌∙◌, Bool, true, false, List, [], append_assoc}
 use Rattle.model.specs.Prelude.{arith, length, take, drop, replicate, length-append, take_at, drop-append-add, get_or_at, ltb, le-ltb}
 use Rattle.model.specs.{declared.Refusal.Refusal, declared.Refusal.TheVariants.NoFreeEntry}
-use Rattle.plan_file.specs.declared.{PlanAnswer.PlanAnswer}
 use Rattle.plan_file.specs.Plan.{Event, opened, used, closed, other, Read, took, no, read_plan, item, items, answer_of, left_of}
 use Rattle.plan_file.specs.{Reading.PlanRead, Wide.{WideUse, Wide, WideRead}}
-use Rattle.plan_file.proofs.ReadAnswers.{wide_fields, item_long}
+use Rattle.plan_file.proofs.{ReadingLaws.undone, ReadAnswers.{wide_fields, item_long}}
 use Rattle.plan_file.specs.Write.{event_of, event_at, events_from, events_of, Wrote, wrote, not, write_plan, answer_to, left_to}
 use Rattle.plan_file.specs.{Writing.PlanWritten, Bytes.Bytes}
 use Rattle.plan_file.proofs.{WriteAnswers.wide_events, RoundTrips.{file_round_trip, list_round_trip}}
@@ -46,10 +45,7 @@ events_of_items es w = ap (λ (n : ℕ). events_from (items es) n 0) (sixteenth 
     sixteenth e = omega arith
 
 -- ---- What an answer that is no refusal tells
-undone : {n : ℕ} {r : Refusal} → PlanAnswer.Done n ≡ PlanAnswer.Refused r → ⊥
-undone e = let z : ◌≡◌ {A = ℕ} 0 1 = cc in omega arith
-
-chosen : (b : Bool) (n k : ℕ) (m l x : List ℕ) → PlanAnswer.Done n ≡ (if b then PlanAnswer.Refused NoFreeEntry else PlanAnswer.Done k)
+chosen : (b : Bool) (n k : ℕ) (m l x : List ℕ) → Ok n ≡ (if b then Err NoFreeEntry else Ok k)
     → m ≡ (if b then l else x) → (n ≡ k) × (m ≡ x)
 chosen true n k m l x e f = absurd (undone e)
 chosen false n k m l x e f = (cc, f)
@@ -61,7 +57,7 @@ record Accepted (f l : List ℕ) (n : ℕ) (m : List ℕ) (es : List Event) : Ty
   pub left : m ≡ items es ++ drop (16 * length es) l
   pub wide : Wide es
 
-read_of : (f l : List ℕ) (n : ℕ) (m : List ℕ) (rd : Read) → read_plan f ≡ rd → PlanAnswer.Done n ≡ answer_of rd l → m ≡ left_of rd l
+read_of : (f l : List ℕ) (n : ℕ) (m : List ℕ) (rd : Read) → read_plan f ≡ rd → Ok n ≡ answer_of rd l → m ≡ left_of rd l
     → WideRead rd → (es : List Event) × Accepted f l n m es
 unfolding answer_of left_of
 read_of f l n m (took es) p e g w =
@@ -69,7 +65,7 @@ read_of f l n m (took es) p e g w =
     (es, record { plan = p; count = q.0; left = q.1; wide = w })
 read_of f l n m (no c) p e g w = absurd (undone e)
 
-read_done : (f l : List ℕ) (n : ℕ) (m : List ℕ) → PlanRead f l (PlanAnswer.Done n) m → (es : List Event) × Accepted f l n m es
+read_done : (f l : List ℕ) (n : ℕ) (m : List ℕ) → PlanRead f l (Ok n) m → (es : List Event) × Accepted f l n m es
 read_done f l n m r = read_of f l n m (read_plan f) refl r.answer r.left (wide_fields (length f) 8 f)
 
 -- an accepted list: the file's bytes, and the file that was left
@@ -78,7 +74,7 @@ record Filed (es : List Event) (l : List ℕ) (n : ℕ) (m f : List ℕ) : Type 
   pub count : n ≡ length f
   pub left : m ≡ f ++ drop (length f) l
 
-write_of : (es : List Event) (l : List ℕ) (n : ℕ) (m : List ℕ) (x : Wrote) → write_plan es ≡ x → PlanAnswer.Done n ≡ answer_to x l
+write_of : (es : List Event) (l : List ℕ) (n : ℕ) (m : List ℕ) (x : Wrote) → write_plan es ≡ x → Ok n ≡ answer_to x l
     → m ≡ left_to x l → (f : List ℕ) × Filed es l n m f
 unfolding answer_to left_to
 write_of es l n m (wrote f) p e g =
@@ -86,25 +82,25 @@ write_of es l n m (wrote f) p e g =
     (f, record { plan = p; count = q.0; left = q.1 })
 write_of es l n m (not c) p e g = absurd (undone e)
 
-write_done : (t l : List ℕ) (n : ℕ) (m : List ℕ) → PlanWritten t l (PlanAnswer.Done n) m → (f : List ℕ) × Filed (events_of t) l n m f
+write_done : (t l : List ℕ) (n : ℕ) (m : List ℕ) → PlanWritten t l (Ok n) m → (f : List ℕ) × Filed (events_of t) l n m f
 write_done t l n m r = write_of (events_of t) l n m (write_plan (events_of t)) refl r.answer r.left
 
 -- what the answers are where the definition accepts and there is room
 room_read : (f l : List ℕ) (es : List Event) → read_plan f ≡ took es → 16 * length es ≤ length l
-    → (answer_of (read_plan f) l ≡ PlanAnswer.Done (length es)) × (left_of (read_plan f) l ≡ items es ++ drop (16 * length es) l)
+    → (answer_of (read_plan f) l ≡ Ok (length es)) × (left_of (read_plan f) l ≡ items es ++ drop (16 * length es) l)
 unfolding answer_of left_of
 room_read f l es p h = let b : ltb (length l / 16) (length es) ≡ false = le-ltb (length l / 16) (length es) (omega arith) in
     (rw (p, b), rw (p, b))
 
 room_write : (es : List Event) (l f : List ℕ) → write_plan es ≡ wrote f → length f ≤ length l
-    → (answer_to (write_plan es) l ≡ PlanAnswer.Done (length f)) × (left_to (write_plan es) l ≡ f ++ drop (length f) l)
+    → (answer_to (write_plan es) l ≡ Ok (length f)) × (left_to (write_plan es) l ≡ f ++ drop (length f) l)
 unfolding answer_to left_to
 room_write es l f p h = let b : ltb (length l) (length f) ≡ false = le-ltb (length l) (length f) h in (rw (p, b), rw (p, b))
 
 -- a file that was read, and the items that it left written
-pub read_write_lem : (f l m t o z : List ℕ) (n : ℕ) (r : PlanAnswer) → Bytes f → PlanRead f l (PlanAnswer.Done n) m → t ≡ take (16 * n) m
+pub read_write_lem : (f l m t o z : List ℕ) (n : ℕ) (r : Result ℕ Refusal) → Bytes f → PlanRead f l (Ok n) m → t ≡ take (16 * n) m
     → PlanWritten t o r z → length f ≤ length o
-    → (r ≡ PlanAnswer.Done (length f)) × (z ≡ f ++ drop (length f) o)
+    → (r ≡ Ok (length f)) × (z ≡ f ++ drop (length f) o)
 read_write_lem f l m t o z n r b a e w h =
     let got = read_done f l n m a in
     let es = got.0 in
@@ -118,9 +114,9 @@ read_write_lem f l m t o z n r b a e w h =
     (w.answer ∙ q.0, w.left ∙ q.1)
 
 -- a list that was written, and the file that it left read
-pub write_read : (t l z f o m : List ℕ) (n : ℕ) (r : PlanAnswer) → PlanWritten t l (PlanAnswer.Done n) z → f ≡ take n z → PlanRead f o r m
+pub write_read : (t l z f o m : List ℕ) (n : ℕ) (r : Result ℕ Refusal) → PlanWritten t l (Ok n) z → f ≡ take n z → PlanRead f o r m
     → 16 * length (events_of t) ≤ length o
-    → (r ≡ PlanAnswer.Done (length (events_of t))) × (events_of (take (16 * length (events_of t)) m) ≡ events_of t)
+    → (r ≡ Ok (length (events_of t))) × (events_of (take (16 * length (events_of t)) m) ≡ events_of t)
 write_read t l z f o m n r a e w h =
     let got = write_done t l n z a in
     let x = got.0 in

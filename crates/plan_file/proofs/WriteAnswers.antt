@@ -1,16 +1,15 @@
 -- The whole writer: how long the file is, and that the answer is the definition's.
-use Rattle.std.specs.Prelude.{◌+◌, ◌*◌, ◌-◌, ◌/◌, ◌<◌, ◌≤◌, ◌≡◌, ◌∷◌, ◌++◌, if◌then◌else◌}
-use Rattle.model.specs.Prelude.{ℕ, zero, suc, refl, ap, sym, ◌∙◌, Bool, true, false, List, []}
+use Rattle.std.specs.Prelude.{◌+◌, ◌*◌, ◌-◌, ◌/◌, ◌<◌, ◌≤◌, ◌≡◌, ◌∷◌, ◌++◌, if◌then◌else◌, Ok, Err}
+use Rattle.model.specs.Prelude.{ℕ, zero, suc, refl, ap, sym, subst, ◌∙◌, Bool, true, false, List, []}
 use Rattle.model.specs.Prelude.{arith, length, drop, get_or, length-drop, length-append, length-take-le, ltb, eqb, lt-ltb, le-ltb, eq-eqb}
 use Rattle.model.specs.Prelude.{ltb-false, eqb-true}
-use Rattle.model.specs.declared.{Refusal.Refusal, Verdict.Verdict}
+use Rattle.model.specs.declared.Refusal.{Refusal}
 use Rattle.model.specs.{declared.Refusal.TheVariants.{GroupsTooDeep, PlanUnbalanced, GroupTooLong, NoFreeEntry}}
 use Rattle.model.specs.BoolLaws.{by_test}
-use Rattle.plan_file.specs.{declared.writer.Weighed.Weighed, declared.PlanAnswer.PlanAnswer}
 use Rattle.plan_file.specs.{Plan.{Event, opened, used, closed, other}, Wide.{WideUse, Wide}}
-use Rattle.plan_file.proofs.ReadingLaws.{unlike}
+use Rattle.plan_file.proofs.ReadingLaws.{undone}
 use Rattle.plan_file.specs.Write.{event_at, events_from, events_of, levels, deepest, head, written, top, widest, Wrote, wrote, not}
-use Rattle.plan_file.specs.{Write.{write_plan, answer_to, left_to}, Writing.{costs, judged, Weighs, Fine, Laid, PlanWritten}}
+use Rattle.plan_file.specs.{Write.{write_plan, answer_to, left_to}, Writing.{costs, judged, Fine, Laid, PlanWritten}}
 use Rattle.plan_file.specs.Levels.{flat, flat_push, flat_top, flat_shut, flat_one, levels_length, level_tail}
 
 -- ---- The uses of a list of items have 15 bytes
@@ -70,44 +69,35 @@ narrow (closed ∷ es) h w = omega (arith, narrow es (level_tail closed (levels 
 narrow (other ∷ es) h w = absurd (omega arith)
 
 -- so in a file of at most 65,538 bytes none is too long
-pub short_enough : (t : List ℕ) (n : ℕ) {total : ℕ} → 16 * n ≤ length t → Fine (events_from t n 0) total → total ≤ 65538
-    → false ≡ ltb 65535 (widest (events_from t n 0))
-short_enough t n r f h =
-    let es = events_from t n 0 in
-    sym (le-ltb 65535 (widest es) (omega (arith, f.cost, narrow es (omega (arith, f.level)) (wide_from t n 0 (omega arith)))))
+pub short_enough : (es : List Event) {total : ℕ} → Wide es → Fine es total → total ≤ 65538 → false ≡ ltb 65535 (widest es)
+short_enough es w f h = sym (le-ltb 65535 (widest es) (omega (arith, f.cost, narrow es (omega (arith, f.level)) w)))
 
 -- ---- The answers
--- what a list that is judged well is
-fine_of : (a b : Bool)
-    → Verdict.Accepted ≡ (if a then (if b then Verdict.Refused GroupsTooDeep else Verdict.Accepted) else Verdict.Refused PlanUnbalanced)
-    → (a ≡ true) × (b ≡ false)
-fine_of true true e = absurd (unlike e)
-fine_of true false e = (refl, refl)
-fine_of false b e = absurd (unlike e)
-
-no_of : (l : List ℕ) (a b : Bool) (x : Wrote) (r : Refusal)
-    → Verdict.Refused r ≡ (if a then (if b then Verdict.Refused GroupsTooDeep else Verdict.Accepted) else Verdict.Refused PlanUnbalanced)
-    → (PlanAnswer.Refused r ≡ answer_to (if a then (if b then not GroupsTooDeep else x) else not PlanUnbalanced) l)
-    × (l ≡ left_to (if a then (if b then not GroupsTooDeep else x) else not PlanUnbalanced) l)
-unfolding answer_to left_to
-no_of l true true x r e = (cc, refl)
-no_of l true false x r e = absurd (unlike (sym e))
-no_of l false b x r e = (cc, refl)
-
-pub weighs_no : {t l : List ℕ} {w : Weighed} {r : Refusal} → Weighs (events_of t) w → w.verdict ≡ Verdict.Refused r
-    → PlanWritten t l (PlanAnswer.Refused r) l
-unfolding write_plan judged
-weighs_no {t} {l} {w} {r} h e =
-    let es = events_of t in
-    let rest = if ltb 65535 (widest es) then not GroupTooLong else wrote (top (written es)) in
-    let z = no_of l (eqb (levels es) 1) (ltb 9 (deepest es)) rest r (sym e ∙ h.verdict) in
-    record { answer = z.0; left = z.1 }
-
-pub weighs_fine : {es : List Event} {w : Weighed} → Weighs es w → w.verdict ≡ Verdict.Accepted → Fine es w.total
+-- a list that is judged well
+pub judged_fine : (es : List Event) (n : ℕ) → Ok n ≡ judged es → Fine es n
 unfolding judged
-weighs_fine {es} h e =
-    let z = fine_of (eqb (levels es) 1) (ltb 9 (deepest es)) (sym e ∙ h.verdict) in
-    record { level = eqb-true (levels es) 1 z.0; deep = ltb-false 9 (deepest es) z.1; cost = h.total }
+judged_fine es n = go (eqb (levels es) 1) (ltb 9 (deepest es)) refl refl
+  where
+    go : (a b : Bool) → eqb (levels es) 1 ≡ a → ltb 9 (deepest es) ≡ b
+        → Ok n ≡ (if a then (if b then Err GroupsTooDeep else Ok (costs es)) else Err PlanUnbalanced) → Fine es n
+    go true true p q e = absurd (undone e)
+    go true false p q e = record { level = eqb-true (levels es) 1 p; deep = ltb-false 9 (deepest es) q; cost = cc }
+    go false b p q e = absurd (undone e)
+
+-- and one that is not
+pub judged_no : (t l : List ℕ) (es : List Event) (r : Refusal) → es ≡ events_of t → Err r ≡ judged es → PlanWritten t l (Err r) l
+unfolding write_plan judged answer_to left_to
+judged_no t l es r a e =
+    let z = go (eqb (levels es) 1) (ltb 9 (deepest es)) (if ltb 65535 (widest es) then not GroupTooLong else wrote (top (written es)))
+    (costs es) e in
+    record { answer = rw (← a) z.0; left = rw (← a) z.1 }
+  where
+    go : (a b : Bool) (x : Wrote) (n : ℕ) → Err r ≡ (if a then (if b then Err GroupsTooDeep else Ok n) else Err PlanUnbalanced)
+        → (Err r ≡ answer_to (if a then (if b then not GroupsTooDeep else x) else not PlanUnbalanced) l)
+        × (l ≡ left_to (if a then (if b then not GroupsTooDeep else x) else not PlanUnbalanced) l)
+    go true true x n e = (e, refl)
+    go true false x n e = absurd (undone (sym e))
+    go false b x n e = (e, refl)
 
 -- what is written of a list that is judged well
 module _ {es : List Event} {total : ℕ} (f : Fine es total) where
@@ -119,22 +109,25 @@ module _ {es : List Event} {total : ℕ} (f : Fine es total) where
   unfolding write_plan
   plan_of h = rw (eq-eqb (levels es) 1 f.level, le-ltb 9 (deepest es) f.deep, h)
 
-module _ {t l : List ℕ} {total : ℕ} {long : Bool} (f : Fine (events_of t) total) (g : long ≡ ltb 65535 (widest (events_of t))) where
-  pub writes_25 : long ≡ true → PlanWritten t l (PlanAnswer.Refused GroupTooLong) l
-  unfolding answer_to left_to
-  writes_25 h = let p = plan_25 f (sym g ∙ h) in record { answer = rw p; left = rw p }
+module _ (t l : List ℕ) {es : List Event} {total : ℕ} {long : Bool} (a : es ≡ events_of t) (f : Fine es total)
+    (g : long ≡ ltb 65535 (widest es)) where
+  length_is : length (top (written es)) ≡ total
+  length_is = file_length es f.level (subst Wide (sym a) (wide_events t)) ∙ sym f.cost
 
-  pub writes_15 : long ≡ false → length l < total → PlanWritten t l (PlanAnswer.Refused NoFreeEntry) l
+  pub writes_25 : long ≡ true → PlanWritten t l (Err GroupTooLong) l
+  unfolding answer_to left_to
+  writes_25 h = let p = plan_25 f (sym g ∙ h) in record { answer = rw (← a, p); left = rw (← a, p) }
+
+  pub writes_15 : long ≡ false → length l < total → PlanWritten t l (Err NoFreeEntry) l
   unfolding answer_to left_to
   writes_15 h s =
-      let p = plan_of f (sym g ∙ h) in let n = file_length (events_of t) f.level (wide_events t) in
-      let b = lt-ltb (length l) (length (top (written (events_of t)))) (omega (arith, n, f.cost)) in
-      record { answer = rw (p, b); left = rw (p, b) }
+      let p = plan_of f (sym g ∙ h) in
+      let b = lt-ltb (length l) (length (top (written es))) (omega (arith, length_is)) in
+      record { answer = rw (← a, p, b); left = rw (← a, p, b) }
 
-  pub writes_done : long ≡ false → total ≤ length l → {q : ℕ} {z : List ℕ} → Laid (events_of t) total l q z
-      → PlanWritten t l (PlanAnswer.Done total) z
+  pub writes_done : long ≡ false → total ≤ length l → {q : ℕ} {z : List ℕ} → Laid es total l q z → PlanWritten t l (Ok total) z
   unfolding answer_to left_to
   writes_done h s v =
-      let p = plan_of f (sym g ∙ h) in let n = file_length (events_of t) f.level (wide_events t) ∙ sym f.cost in
-      let b = le-ltb (length l) (length (top (written (events_of t)))) (omega (arith, n)) in
-      record { answer = rw (p, b, n); left = rw (p, b, n) (v.bytes s) }
+      let p = plan_of f (sym g ∙ h) in
+      let b = le-ltb (length l) (length (top (written es))) (omega (arith, length_is)) in
+      record { answer = rw (← a, p, b, length_is); left = rw (← a, p, b, length_is) (v.bytes s) }

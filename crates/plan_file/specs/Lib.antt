@@ -9,14 +9,16 @@ pub mod Samples
 -- the contracts of the reader's and of the writer's functions
 pub mod Reading
 pub mod Writing
+-- what these say of the code's own values: kinds and tags; items of 16 bytes
+pub mod Kinds
+pub mod Items
 -- what proofs/Claims says of them has these words: uses of 15 bytes; a walk from a list's front; numbers in bytes
 pub mod Wide
 pub mod Forward
 pub mod Packing
--- laws that the code's proofs cite: bytes copied; the events of items; levels and their bytes; bytes put, and the list judged; uses counted
+-- laws that the code's proofs cite: bytes copied; levels and their bytes; bytes put, and the list judged; uses counted
 -- and listed
 pub mod Copies
-pub mod Events
 pub mod Levels
 pub mod WritingLaws
 pub mod UsesLaws

@@ -1,12 +1,12 @@
 -- Plan files (request 08): what a file says, and what the reader does with borrowed items.
 -- "Fields have a one-byte tag and a two-byte length, then that many bytes; all numbers go low byte first. Tag 1 is a group, tag 2 a use of
 -- 15 bytes. A group holds fields, and a field is a use or a group, groups nested at most eight deep."
-use Rattle.std.specs.Prelude.{◌+◌, ◌*◌, ◌-◌, ◌/◌, ◌∷◌, ◌++◌, if◌then◌else◌}
+use Rattle.std.specs.Prelude.{◌+◌, ◌*◌, ◌-◌, ◌/◌, ◌∷◌, ◌++◌, if◌then◌else◌, Result, Ok, Err}
 use Rattle.model.specs.Prelude.{ℕ, zero, suc, Bool, true, List, [], ltb, eqb, length, take, drop, get_or}
 use Rattle.model.specs.Prelude.{replicate}
 use Rattle.model.specs.declared.Refusal.TheVariants.{FieldCutShort, UnknownTag, UseOfWrongSize, GroupsTooDeep, NoFreeEntry}
 use Rattle.model.specs.{declared.Refusal.Refusal}
-use Rattle.plan_file.specs.{declared.PlanAnswer.PlanAnswer, Bytes.low_first}
+use Rattle.plan_file.specs.{Bytes.low_first}
 
 -- ---- What a plan is: "a list of opened, use and closed, in file order"; a use has its bytes. `other` is an item of no such kind, which
 -- only a list to be written can have.
@@ -94,9 +94,9 @@ items [] = []
 items (e ∷ es) = item e ++ items es
 
 -- what the reader answers of a file, with the items l borrowed: "15 last"
-unfoldable pub answer_of : Read → List ℕ → PlanAnswer
-answer_of (no r) l = PlanAnswer.Refused r
-answer_of (took es) l = if ltb (length l / 16) (length es) then PlanAnswer.Refused NoFreeEntry else PlanAnswer.Done (length es)
+unfoldable pub answer_of : Read → List ℕ → Result ℕ Refusal
+answer_of (no r) l = Err r
+answer_of (took es) l = if ltb (length l / 16) (length es) then Err NoFreeEntry else Ok (length es)
 
 -- and what l then holds: the items, and past them what was there; a refusal changes nothing
 unfoldable pub left_of : Read → List ℕ → List ℕ

@@ -1,8 +1,8 @@
 -- The uses of a plan as numbers: THE DEFINITION of `uses`, its contract, and uses that are computed.
-use Rattle.std.specs.Prelude.{◌*◌, ◌/◌, ◌≡◌, ◌∷◌, ◌++◌, if◌then◌else◌}
-use Rattle.model.specs.Prelude.{ℕ, suc, refl, List, [], ltb, length, take, drop, replicate}
-use Rattle.model.specs.{declared.Refusal.TheVariants.NoFreeEntry}
-use Rattle.plan_file.specs.{declared.PlanAnswer.PlanAnswer, declared.PlanAnswer.TheVariants.{Done, Refused}, Bytes.low_first}
+use Rattle.std.specs.Prelude.{◌*◌, ◌/◌, ◌≡◌, ◌∷◌, ◌++◌, if◌then◌else◌, Result, Ok, Err}
+use Rattle.model.specs.Prelude.{ℕ, suc, refl, Bool, true, false, List, [], ltb, length, take, drop, replicate}
+use Rattle.model.specs.{declared.Refusal.Refusal, declared.Refusal.TheVariants.NoFreeEntry}
+use Rattle.plan_file.specs.{Bytes.low_first}
 use Rattle.plan_file.specs.{Plan.{Event, opened, used, closed, other}, Write.{events_from, events_of}}
 
 -- ---- One use
@@ -27,6 +27,13 @@ uses_of (used p ∷ es) = numbers_of p ++ uses_of es
 uses_of (closed ∷ es) = uses_of es
 uses_of (other ∷ es) = uses_of es
 
+-- whether an event is one
+abbrev pub is_use : Event → Bool
+is_use opened = false
+is_use (used p) = true
+is_use closed = false
+is_use other = false
+
 -- how many they are
 unfoldable pub count_of : List Event → ℕ
 count_of [] = 0
@@ -36,14 +43,14 @@ count_of (closed ∷ es) = count_of es
 count_of (other ∷ es) = count_of es
 
 -- ---- The call on borrowed numbers l: 15 where there is no room for all uses, and nothing is written then
-abbrev pub uses_answer : List Event → List ℕ → PlanAnswer
-uses_answer es l = if ltb (length l / 8) (count_of es) then Refused NoFreeEntry else Done (count_of es)
+abbrev pub uses_answer : List Event → List ℕ → Result ℕ Refusal
+uses_answer es l = if ltb (length l / 8) (count_of es) then Err NoFreeEntry else Ok (count_of es)
 
 abbrev pub uses_left : List Event → List ℕ → List ℕ
 uses_left es l = if ltb (length l / 8) (count_of es) then l else uses_of es ++ drop (8 * count_of es) l
 
 -- THE CONTRACT: the answer, and what the list holds then
-pub record UsesListed (items l : List ℕ) (r : PlanAnswer) (l' : List ℕ) : Type 0 where
+pub record UsesListed (items l : List ℕ) (r : Result ℕ Refusal) (l' : List ℕ) : Type 0 where
   pub answer : r ≡ uses_answer (events_of items) l
   pub left : l' ≡ uses_left (events_of items) l
 

@@ -1,10 +1,10 @@
 -- Writing a plan (request 08): which list is turned away, and the bytes of the file.
 -- Everything goes by what follows an event, from the end of the list to its front: a group's length stands before what the group holds, and
 -- so is known where it is written. specs/Forward says the same of a walk from the front.
-use Rattle.std.specs.Prelude.{◌+◌, ◌*◌, ◌-◌, ◌/◌, ◌∷◌, ◌++◌, if◌then◌else◌}
+use Rattle.std.specs.Prelude.{◌+◌, ◌*◌, ◌-◌, ◌/◌, ◌∷◌, ◌++◌, if◌then◌else◌, Result, Ok, Err}
 use Rattle.model.specs.Prelude.{ℕ, zero, suc, List, [], length, take, drop, get_or, ltb, eqb, max}
 use Rattle.model.specs.{declared.Refusal.Refusal, declared.Refusal.TheVariants.{GroupsTooDeep, PlanUnbalanced, GroupTooLong, NoFreeEntry}}
-use Rattle.plan_file.specs.{declared.PlanAnswer.PlanAnswer, Bytes.bytes_in, Plan.{Event, opened, used, closed, other}}
+use Rattle.plan_file.specs.{Bytes.bytes_in, Plan.{Event, opened, used, closed, other}}
 
 -- ---- The list, from its items: 16 bytes each, the k-th at 16 * k
 -- of an opened or closed item the 15 bytes are not read
@@ -104,9 +104,9 @@ write_plan es =
     else not PlanUnbalanced
 
 -- what the writer answers, with the file l borrowed: "15 last"
-unfoldable pub answer_to : Wrote → List ℕ → PlanAnswer
-answer_to (not r) l = PlanAnswer.Refused r
-answer_to (wrote f) l = if ltb (length l) (length f) then PlanAnswer.Refused NoFreeEntry else PlanAnswer.Done (length f)
+unfoldable pub answer_to : Wrote → List ℕ → Result ℕ Refusal
+answer_to (not r) l = Err r
+answer_to (wrote f) l = if ltb (length l) (length f) then Err NoFreeEntry else Ok (length f)
 
 -- and what l then holds: the bytes, and past them what was there; a refusal changes nothing
 unfoldable pub left_to : Wrote → List ℕ → List ℕ

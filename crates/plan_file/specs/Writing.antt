@@ -1,14 +1,13 @@
 -- The contracts of the writer: of `write`, and of the functions beneath it, whose definitions go the code's way.
-use Rattle.std.specs.Prelude.{◌+◌, ◌≤◌, ◌≡◌, ◌∷◌, ◌++◌, if◌then◌else◌}
+use Rattle.std.specs.Prelude.{◌+◌, ◌≤◌, ◌≡◌, ◌∷◌, ◌++◌, if◌then◌else◌, Result, Ok, Err}
 use Rattle.model.specs.Prelude.{ℕ, List, [], length, take, drop, ltb, leb, eqb}
-use Rattle.model.specs.{declared.Verdict.Verdict, declared.Refusal.TheVariants.{GroupsTooDeep, PlanUnbalanced}}
-use Rattle.plan_file.specs.{declared.writer.Weighed.Weighed, declared.PlanAnswer.PlanAnswer}
+use Rattle.model.specs.{declared.Refusal.Refusal, declared.Refusal.TheVariants.{GroupsTooDeep, PlanUnbalanced}}
 use Rattle.plan_file.specs.Plan.{Event, opened, used, closed, other}
-use Rattle.plan_file.specs.Write.{event_of, events_of, levels, deepest, level_at, written, top, widest, write_plan, answer_to, left_to}
+use Rattle.plan_file.specs.Write.{events_of, levels, deepest, written, top, widest, write_plan, answer_to, left_to}
 
 -- ---- `write`
 -- the list was written into the borrowed file: answer and file are the definition's
-pub record PlanWritten (t l : List ℕ) (r : PlanAnswer) (m : List ℕ) : Type 0 where
+pub record PlanWritten (t l : List ℕ) (r : Result ℕ Refusal) (m : List ℕ) : Type 0 where
   pub answer : r ≡ answer_to (write_plan (events_of t)) l
   pub left : m ≡ left_to (write_plan (events_of t)) l
 
@@ -30,23 +29,9 @@ unfoldable pub put_at : ℕ → List ℕ → List ℕ → List ℕ
 put_at p x l = if leb (p + length x) (length l) then take p l ++ (x ++ drop (p + length x) l) else l
 
 -- ---- What each function shows
--- the level before an item, by its kind
-abbrev pub level_by : ℕ → ℕ → ℕ
-level_by kind k = level_at (event_of kind []) k
-
--- how many bytes an item adds, by its kind
-abbrev pub cost_by : ℕ → ℕ
-cost_by kind = if eqb kind 1 then 3 else if eqb kind 2 then 18 else 0
-
--- 24, then 23, from the level and the depth that going through a list has found
-unfoldable pub judged : ℕ → ℕ → Verdict
-judged level deep =
-    if eqb level 1 then (if ltb 9 deep then Verdict.Refused GroupsTooDeep else Verdict.Accepted) else Verdict.Refused PlanUnbalanced
-
--- the list was judged: 24, then 23, and how many bytes it makes
-pub record Weighs (es : List Event) (r : Weighed) : Type 0 where
-  pub verdict : r.verdict ≡ judged (levels es) (deepest es)
-  pub total : r.total ≡ costs es
+-- what judging a list comes to: 24, then 23, or how many bytes it makes
+unfoldable pub judged : List Event → Result ℕ Refusal
+judged es = if eqb (levels es) 1 then (if ltb 9 (deepest es) then Err GroupsTooDeep else Ok (costs es)) else Err PlanUnbalanced
 
 -- the list was measured and, where l has room for all of it, laid out there; of a shorter l nothing is said
 pub record Laid (es : List Event) (total : ℕ) (l : List ℕ) (r : ℕ) (m : List ℕ) : Type 0 where

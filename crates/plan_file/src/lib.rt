@@ -8,10 +8,10 @@
 //     items    16 bytes each: a kind, 1 opened, 2 use, 3 closed, and the 15 bytes of the use as in the file. A rest of fewer than 16 bytes
 //              is no item
 //
+//     kinds    the bytes that tell kinds of items and of fields apart
 //     reader   `read`, by a group reader and a field reader that call each other: a group holds fields, and a field is a use or a group
 //     writer   `write`, from the last item to the first, so that a group's length is known where it is written
 //     lister   `uses`, the uses of a list of items as eight numbers each
-//     parts    the bytes of a use, moved as words
 //
 // What holds: nothing is required of a caller; answers and borrowed memory are those of specs/Plan, specs/Write and specs/Uses; a refusal
 // changes nothing; an accepted file read and written is the same bytes, an accepted list written and read the same events (proofs/Claims).
@@ -19,19 +19,11 @@
 // read only while fewer than eight stand round it, so at most nine group readers are on the stack at a time.
 #![tactic(auto)]
 
+mod kinds;
 mod lister;
-mod parts;
 mod reader;
 mod writer;
 
 pub use lister::uses;
-use model::Refusal;
 pub use reader::read;
 pub use writer::write;
-
-// What a call answers: how many items, bytes or uses it wrote, or why it is turned away.
-#[derive(Clone, Copy)]
-pub enum PlanAnswer {
-    Done(usize),
-    Refused(Refusal),
-}

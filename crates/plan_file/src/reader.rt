@@ -1,160 +1,118 @@
-// Reading. Both readers take the bytes that they read as a slice of their own, how many groups may still stand one in another, and the
-// items with the number of those already counted. Bytes and depth fall from a group to what it holds.
-ghost use Rattle.std.specs.Prelude.{◌≡◌, ◌∷◌, ◌+◌, ◌<◌, length};
-ghost use Rattle.plan_file.specs.Reading.{end_of, put_item, FieldRead, UseRead, GroupRead, PlanRead, turned_away, taken};
+// Reading. Both readers take how many groups may still stand one in another, and the items with the number of those already counted; they
+// answer how many there are then. Depth falls from a group to what it holds. Items and number are no struct, which would be no plainer: it
+// would hold a `&mut` behind a `&mut`, and each contract would name its fields.
+ghost use Rattle.std.specs.Prelude.{◌≡◌, ◌∷◌, ◌+◌, ◌<◌, length, replicate, true, MatchOption};
+ghost use Rattle.plan_file.specs.Kinds.{kind_byte};
+ghost use Rattle.plan_file.specs.Plan.{cut_short};
+ghost use Rattle.plan_file.specs.Reading.{put_item, FieldSplit, UseRead, FieldRead, GroupRead, PlanRead};
 
-use crate::PlanAnswer;
-use crate::parts::held;
-use model::{Refusal, Verdict};
+use crate::kinds::{ItemKind, Tag};
+use model::Refusal;
 
-// What a reader tells: whether it accepts, how many bytes it took, and how many items there are then.
+// A field, and what follows it.
 #[derive(Clone, Copy)]
-pub struct Step {
-    pub verdict: Verdict,
-    pub size: usize,
-    pub count: usize,
+struct Field<'a> {
+    tag: u8,
+    content: &'a [u8],
+    after: &'a [u8],
 }
 
-// A reader that turns away: it took nothing.
-fn turned_away(r: Refusal, count: usize) -> Step
-    ensures { result ≡ turned_away r count }
+// The field that s begins with, unless its tag and length are cut short or its length goes past s.
+fn split_field(s: &[u8]) -> Option<Field<'_>>
+    ensures { MatchOption result (cut_short s.now ≡ true) (λ f. FieldSplit s.now f.tag f.content.now f.after.now) }
 {
-    Step {
-        verdict: Verdict::Refused(r),
-        size: 0,
-        count,
+    let [tag, low, high, rest @ ..] = s else {
+        return None;
+    };
+    let n = usize::from(u16::from_le_bytes([*low, *high]));
+    if rest.len() < n {
+        return None;
     }
+    let (content, after) = rest.split_at(n);
+    Some(Field {
+        tag: *tag,
+        content,
+        after,
+    })
 }
 
-// A reader that accepts.
-fn taken(size: usize, count: usize) -> Step
-    ensures { result ≡ taken size count }
+// An item of a kind, with 0 for each byte of a use.
+fn bare_item(kind: ItemKind) -> [u8; 16]
+    ensures { result ≡ kind_byte kind ∷ replicate 15 0 }
 {
-    Step {
-        verdict: Verdict::Accepted,
-        size,
-        count,
-    }
-}
-
-// A byte as a size.
-fn wide(x: u8) -> usize
-    ensures { (result ≡ x) × (x < 256) }
-{
-    x as usize
-}
-
-// Where the field ends that s begins with, or 0 if its tag and length are cut short or its length goes past s.
-fn end_of(s: &[u8]) -> usize
-    ensures { result ≡ end_of s.now }
-{
-    if s.len() < 3 {
-        return 0;
-    }
-    let n = wide(s[1]) + 256 * wide(s[2]);
-    if s.len() - 3 < n {
-        return 0;
-    }
-    3 + n
+    let mut item = [0u8; 16];
+    item[0] = kind.byte();
+    item
 }
 
 // Writes the k-th item, if there is room for it.
-fn put(items: &mut [u8], k: usize, kind: u8, rest: &[u8])
-    requires { length rest.now ≡ 15 }
-    ensures { items.new ≡ put_item k (kind ∷ rest.now) items.old }
+fn put(items: &mut [u8], k: usize, item: [u8; 16])
+    ensures { items.new ≡ put_item k item items.old }
 {
     if k < items.len() / 16 {
         let at = 16 * k;
-        let from = at + 1;
-        let to = at + 16;
-        items[at] = kind;
-        let part = held(rest);
-        items[from..to].copy_from_slice(&part);
+        items[at..at + 16].copy_from_slice(&item);
     }
 }
 
-// Reads a use, of which these are the bytes.
-fn read_use(content: &[u8], items: &mut [u8], k: usize) -> Step
-    requires { k < 18446744073709551615 }
+// Reads a use, of which these are the bytes. The item is put together before it is written: so the compiler moves it as words.
+fn read_use(content: &[u8], items: &mut [u8], k: usize) -> Result<usize, Refusal>
+    requires { k + 1 < 18446744073709551616 }
     ensures { UseRead content.now k items.old result items.new }
 {
     if content.len() != 15 {
-        return turned_away(Refusal::UseOfWrongSize, k);
+        return Err(Refusal::UseOfWrongSize);
     }
-    put(items, k, 2, content);
-    taken(18, k + 1)
+    let mut item = bare_item(ItemKind::Used);
+    item[1..].copy_from_slice(content);
+    put(items, k, item);
+    Ok(k + 1)
 }
 
-// The field reader: the field that s begins with. What a group holds goes to the group reader.
+// The field reader. What a group holds goes to the group reader.
 #[cycle(reading)]
-fn read_field(s: &[u8], depth: usize, items: &mut [u8], k: usize) -> Step
-    requires { k + length s.now < 18446744073709551616 }
-    ensures { FieldRead s.now depth k items.old result items.new }
+fn read_field(field: Field<'_>, depth: usize, items: &mut [u8], k: usize) -> Result<usize, Refusal>
+    requires { k + length field.content.now + 2 < 18446744073709551616 }
+    ensures { FieldRead field.entry.tag field.entry.content.now depth k items.old result items.new }
 {
-    let end = end_of(s);
-    if end == 0 {
-        return turned_away(Refusal::FieldCutShort, k);
-    }
-    if s[0] == 2 {
-        return read_use(&s[3..end], items, k);
-    }
-    if s[0] != 1 {
-        return turned_away(Refusal::UnknownTag, k);
-    }
-    if depth == 0 {
-        return turned_away(Refusal::GroupsTooDeep, k);
-    }
-    let blank = [0u8; 15];
-    put(items, k, 1, &blank);
-    let inside = read_group(&s[3..end], depth - 1, items, k + 1);
-    let count = inside.count;
-    let verdict = inside.verdict;
-    match verdict {
-        Verdict::Accepted => {
-            put(items, count, 3, &blank);
-            taken(end, count + 1)
+    match Tag::of(field.tag) {
+        Some(Tag::Use) => read_use(field.content, items, k),
+        Some(Tag::Group) => {
+            if depth == 0 {
+                return Err(Refusal::GroupsTooDeep);
+            }
+            put(items, k, bare_item(ItemKind::Opened));
+            let count = read_group(field.content, depth - 1, items, k + 1)?;
+            put(items, count, bare_item(ItemKind::Closed));
+            Ok(count + 1)
         }
-        Verdict::Refused(r) => turned_away(r, k),
+        None => Err(Refusal::UnknownTag),
     }
 }
 
 // The group reader: what a group holds, or a file, field by field to the end of s.
 #[cycle(reading)]
-fn read_group(s: &[u8], depth: usize, items: &mut [u8], k: usize) -> Step
+fn read_group(s: &[u8], depth: usize, items: &mut [u8], k: usize) -> Result<usize, Refusal>
     requires { k + length s.now < 18446744073709551616 }
     ensures { GroupRead s.now depth k items.old result items.new }
 {
-    let mut at: usize = 0;
+    let mut rest = s;
     let mut count = k;
-    while at < s.len() {
-        let one = read_field(&s[at..], depth, items, count);
-        let verdict = one.verdict;
-        match verdict {
-            Verdict::Accepted => {}
-            Verdict::Refused(r) => return turned_away(r, k),
-        }
-        at += one.size;
-        count = one.count;
+    while !rest.is_empty() {
+        let field = split_field(rest).ok_or(Refusal::FieldCutShort)?;
+        count = read_field(field, depth, items, count)?;
+        rest = field.after;
     }
-    taken(at, count)
+    Ok(count)
 }
 
 // Reads a file into the borrowed items. First it is judged, without room for any item; only then items are written.
-pub fn read(file: &[u8], items: &mut [u8]) -> PlanAnswer
+pub fn read(file: &[u8], items: &mut [u8]) -> Result<usize, Refusal>
     ensures { PlanRead file.now items.old result items.new }
 {
-    let mut nowhere = [0u8; 1];
-    let judged = read_group(file, 8, &mut nowhere, 0);
-    let count = judged.count;
-    let verdict = judged.verdict;
-    match verdict {
-        Verdict::Accepted => {
-            if items.len() / 16 < count {
-                return PlanAnswer::Refused(Refusal::NoFreeEntry);
-            }
-            read_group(file, 8, items, 0);
-            PlanAnswer::Done(count)
-        }
-        Verdict::Refused(r) => PlanAnswer::Refused(r),
+    let count = read_group(file, 8, &mut [], 0)?;
+    if items.len() / 16 < count {
+        return Err(Refusal::NoFreeEntry);
     }
+    read_group(file, 8, items, 0)
 }

@@ -1,10 +1,8 @@
--- `count_of` counts the uses from the first item on: those among the items before the i-th are found.
-use Rattle.std.proofs.Common.{◌-◌}
-use Rattle.plan_file.specs.UsesLaws.{Counting}
+-- `count_of` has counted the uses among the items gone through.
+use Rattle.std.proofs.Common.{◌≡◌, take, List, ℕ}
+use Rattle.std.specs.List.{count_by}
+use Rattle.plan_file.specs.{Items.event_in, Uses.is_use}
 use Rattle.plan_file.proofs.lister.count_of.Given as goal
 
-abbrev pub invariant-loop-i : goal.invariant-loop-i
-invariant-loop-i l = Counting l.items l.n l.i l.count
-
-abbrev pub decreases-loop-i : goal.decreases-loop-i
-decreases-loop-i l = l.n - l.i
+abbrev pub invariant-loop-item : goal.invariant-loop-item
+invariant-loop-item l = l.count ≡ count_by (λ (it : List ℕ). is_use (event_in it)) (take l.item-index l.items)

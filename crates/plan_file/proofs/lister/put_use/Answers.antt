@@ -1,4 +1,4 @@
--- `put_use` reads the eight numbers and then writes them.
+-- `put_use` writes the eight numbers one by one.
 use Rattle.std.proofs.Common.{suc, ◌+◌, arith, ◌≡◌, ap}
 use Rattle.std.proofs.lemmas.List.Edits.{sets}
 use Rattle.plan_file.specs.UsesLaws.{eight_are}
@@ -15,6 +15,5 @@ returns c =
     let e6 : n + 6 ≡ suc (suc (suc (suc (suc (suc n))))) = omega arith in
     let e7 : n + 7 ≡ suc (suc (suc (suc (suc (suc (suc n)))))) = omega arith in
     rw (e1, e2, e3, e4, e5, e6, e7) (ap (sets c.args.list.now n)
-    (eight_are c.args.bytes.now _ _ _ _ _ _ _ _ c.requires.0 c.four-index.ensures
-    c.wide-mips.ensures.0 c.two-layers.ensures.0 c.wide-mip_start.ensures.0 c.wide-mip_end.ensures.0
-    c.two-layer_start.ensures.0 c.two-layer_end.ensures.0 c.two-state.ensures.0))
+    (eight_are c.args.item.now c.told-item (omega (arith, c.from_le_bytes.ensures)) c.from.ensures c.two.ensures c.from-2.ensures
+    c.from-3.ensures c.two-2.ensures c.two-3.ensures c.two-4.ensures))
