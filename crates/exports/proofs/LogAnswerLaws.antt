@@ -1,35 +1,39 @@
 -- Nothing is lost in the numbers of an answer of a merge of two logs, and they meet its contract.
-use Rattle.std.specs.Prelude.{◌≤◌, ◌≡◌}
-use Rattle.model.specs.Prelude.{ℕ, refl, sym, ap, subst, ◌∙◌, Bool, true, false, List, eqb, length}
+use Rattle.std.specs.Prelude.{◌≤◌, ◌≡◌, if◌then◌else◌}
+use Rattle.model.specs.Prelude.{ℕ, refl, sym, ap, subst, ◌∙◌, List, eqb, length}
 use Rattle.model.specs.declared.LogHead.{LogHead}
 use Rattle.log_head.specs.Log.{log_of}
-use Rattle.log_merge.specs.{declared.MergedAt.MergedAt, Calls.{which_of, MergesLogs}, Rest.rest_within}
+use Rattle.log_merge.specs.{declared.Rest.Rest, declared.Rest.TheVariants.{First, Second}}
+use Rattle.log_merge.specs.{Calls.{begins_at, which_of, MergesLogs}, Rest.rest_within}
 use Rattle.exports.specs.declared.MergedAnswer.{MergedAnswer}
-use Rattle.exports.specs.LogAnswers.{flag_of, merged_of, merged_in}
+use Rattle.exports.specs.LogAnswers.{MergeTold, flag_of, merged_of, merged_in}
 use Rattle.exports.proofs.AnswerLaws.{outcome_told}
 
 -- ---- Nothing is lost
-flag_told : (b : Bool) → eqb (flag_of b) 1 ≡ b
-flag_told true = refl
-flag_told false = refl
+rest_back : (r : Rest) → (if eqb (flag_of r) 1 then First (begins_at r) else Second (begins_at r)) ≡ r
+rest_back (First n) = refl
+rest_back (Second n) = refl
 
-pub merged_told : (x : MergedAt) (n m : ℕ) → merged_in (merged_of x n m) ≡ x
-merged_told x n m = rw (outcome_told x.merged.outcome, flag_told x.merged.rest.first)
+pub merged_told : (x : MergeTold) (n m : ℕ) → merged_in (merged_of x n m) ≡ x
+merged_told x n m = rw (outcome_told x.answered.outcome, rest_back x.rest)
 
 -- ---- What a merge answers, in numbers
-module _ {a b : List ℕ} {h : LogHead} {l : List ℕ} {x : MergedAt} {l' : List ℕ}
-    (w : MergesLogs a b h l (record { outcome = x.merged.outcome; head = x.head }) x.merged.rest l') where
+which_length : (r : Rest) (a b : List ℕ) → length (which_of r a b) ≡ which_of r (length a) (length b)
+which_length (First n) a b = refl
+which_length (Second n) a b = refl
+
+module _ {a b : List ℕ} {h : LogHead} {l : List ℕ} {x : MergeTold} {l' : List ℕ} (w : MergesLogs a b h l x.answered x.rest l') where
   -- the rest lies in its own log
-  pub rest_lies : x.merged.rest.from ≤ length (which_of x.merged.rest.first a b)
-  rest_lies = rw w.rest (rest_within a b (log_of l h))
+  pub rest_lies : begins_at x.rest ≤ which_of x.rest (length a) (length b)
+  rest_lies =
+      let lies : begins_at x.rest ≤ length (which_of x.rest a b) = rw w.rest (rest_within a b (log_of l h)) in
+      rw (which_length x.rest a b) at lies
 
   -- the numbers tell an answer that meets the contract of the call beneath, and they are its numbers
-  pub merge_told : {r : MergedAnswer} → r ≡ merged_of x (length a) (length b)
-      → (r ≡ merged_of (merged_in r) (length a) (length b))
-      × MergesLogs a b h l (record { outcome = (merged_in r).merged.outcome; head = (merged_in r).head }) (merged_in r).merged.rest l'
-  merge_told {r} e =
+  pub merge_meets : {r : MergedAnswer} → r ≡ merged_of x (length a) (length b)
+      → (r ≡ merged_of (merged_in r) (length a) (length b)) × MergesLogs a b h l (merged_in r).answered (merged_in r).rest l'
+  merge_meets {r} e =
       let i : merged_in r ≡ x = ap merged_in e ∙ merged_told x (length a) (length b) in (
-        e ∙ ap (λ (y : MergedAt). merged_of y (length a) (length b)) (sym i),
-        subst (λ (y : MergedAt). MergesLogs a b h l (record { outcome = y.merged.outcome; head = y.head }) y.merged.rest l')
-            (sym i) w,
+        e ∙ ap (λ (y : MergeTold). merged_of y (length a) (length b)) (sym i),
+        subst (λ (y : MergeTold). MergesLogs a b h l y.answered y.rest l') (sym i) w,
       )

@@ -1,10 +1,9 @@
 -- An answer in plain numbers: which numbers tell each outcome of a call, and which outcome the numbers tell.
-use Rattle.model.specs.Prelude.{ℕ, eqb}
-use Rattle.model.specs.{declared.Conflict.Conflict as Conflicting, declared.Outcome.TheVariants.{Done, Refused, Conflict}}
-use Rattle.model.specs.declared.Selection.TheVariants.{Full, Part}
-use Rattle.model.specs.declared.{LogHead.LogHead, Outcome.Outcome, Selection.Selection, Selector.Selector, UsageFlags.UsageFlags}
+use Rattle.model.specs.Prelude.{ℕ, eqb, Option, None, Some, Ok, Err}
+use Rattle.model.specs.{declared.Conflict.Conflict as Conflicting, declared.CallError.TheVariants.{Refused, Conflict}}
+use Rattle.model.specs.declared.{LogHead.LogHead, Selector.Selector, UsageFlags.UsageFlags}
 use Rattle.std.specs.Prelude.{if◌then◌else◌}
-use Rattle.model.specs.{declared.Answered.Answered, Refusals.{number_of, place_of, tracker_index, refusal_from}}
+use Rattle.model.specs.{Log.{Answered, Outcome}, Refusals.{number_of, place_of, tracker_index, refusal_from}}
 use Rattle.model.specs.Representation.{select, mip_start, mip_end, layer_start, layer_end}
 use Rattle.exports.specs.declared.{Answer.Answer, LoggedAnswer.LoggedAnswer}
 
@@ -41,7 +40,7 @@ conflict_as c = record {
 
 -- each outcome
 abbrev pub answer_of : Outcome → Answer
-answer_of Done = record {
+answer_of (Ok u) = record {
   kind = 0;
   number = 0;
   place = 0;
@@ -53,8 +52,8 @@ answer_of Done = record {
   old_state = 0;
   new_state = 0;
 }
-answer_of (Refused r) = refused_as (number_of r) (place_of r)
-answer_of (Conflict c) = conflict_as c
+answer_of (Err (Refused r)) = refused_as (number_of r) (place_of r)
+answer_of (Err (Conflict c)) = conflict_as c
 
 -- and with the head of the log
 abbrev pub logged_of : Answered → LoggedAnswer
@@ -77,8 +76,8 @@ conflict_of a = record {
 
 -- each kind
 abbrev pub outcome_of : Answer → Outcome
-outcome_of a = if eqb a.kind 0 then Done else if eqb a.kind 1
-    then Refused (refusal_from a.number a.place) else Conflict (conflict_of a)
+outcome_of a = if eqb a.kind 0 then Ok tt else if eqb a.kind 1
+    then Err (Refused (refusal_from a.number a.place)) else Err (Conflict (conflict_of a))
 
 -- and with the head of the log
 abbrev pub answered_of : LoggedAnswer → Answered
@@ -90,8 +89,8 @@ flags_of exclusive uninitialized complex unknown =
     record { exclusive = exclusive; uninitialized = uninitialized; complex = complex; unknown = unknown }
 
 -- a use of all of a texture, or of what a selector names
-abbrev pub selection_of : ℕ → Selector → Selection
-selection_of part q = if eqb part 0 then Full else Part q
+abbrev pub selection_of : ℕ → Selector → Option Selector
+selection_of part q = if eqb part 0 then None else Some q
 
 -- the head of the log
 abbrev pub head_of : ℕ → ℕ → LogHead

@@ -1,104 +1,97 @@
 // Outcomes in numbers, and numbers as what the calls take.
 ghost use Rattle.std.specs.Prelude.{◌≡◌};
-ghost use Rattle.model.specs.Refusals.{number_of, place_of};
-ghost use Rattle.model.specs.Representation.{select};
+ghost use Rattle.model.specs.{Log.{answered, unless_refused}, Refusals.{number_of, place_of}};
 ghost use Rattle.exports.specs.SetAnswers.{answer_of, refused_as, conflict_as, logged_of, selection_of};
 
 use crate::{Answer, LoggedAnswer};
-use model::{
-    Answered, Conflict, Layer, LayerRange, Mip, MipRange, Outcome, Refusal, Selection, Selector,
+use model::{CallError, Conflict, LogHead, Refusal, Selector};
+
+// Done: no number tells anything.
+pub const DONE: Answer = Answer {
+    kind: 0,
+    number: 0,
+    place: 0,
+    index: 0,
+    mip_start: 0,
+    mip_end: 0,
+    layer_start: 0,
+    layer_end: 0,
+    old_state: 0,
+    new_state: 0,
 };
 
-// An outcome, in numbers.
-pub fn flat(x: Outcome) -> Answer
-    ensures { result ≡ answer_of x }
-{
-    match x {
-        Outcome::Done => Answer {
-            kind: 0,
-            number: 0,
-            place: 0,
-            index: 0,
-            mip_start: 0,
-            mip_end: 0,
-            layer_start: 0,
-            layer_end: 0,
-            old_state: 0,
-            new_state: 0,
-        },
-        Outcome::Refused(r) => refused(r),
-        Outcome::Conflict(c) => conflict(c),
+impl From<Refusal> for Answer {
+    ghost from_gives = { λ r a. a ≡ refused_as (number_of r) (place_of r) };
+
+    fn from(r: Refusal) -> Answer {
+        Answer {
+            kind: 1,
+            number: r.number(),
+            place: r.place(),
+            ..DONE
+        }
     }
 }
 
-fn refused(r: Refusal) -> Answer
-    ensures { result ≡ refused_as (number_of r) (place_of r) }
-{
-    Answer {
-        kind: 1,
-        number: model::number(r),
-        place: model::place(r),
-        index: 0,
-        mip_start: 0,
-        mip_end: 0,
-        layer_start: 0,
-        layer_end: 0,
-        old_state: 0,
-        new_state: 0,
+impl From<Conflict> for Answer {
+    ghost from_gives = { λ c a. a ≡ conflict_as c };
+
+    fn from(c: Conflict) -> Answer {
+        Answer {
+            kind: 2,
+            index: c.index.0,
+            mip_start: c.found.selector.mips.start.0,
+            mip_end: c.found.selector.mips.end.0,
+            layer_start: c.found.selector.layers.start.0,
+            layer_end: c.found.selector.layers.end.0,
+            old_state: c.found.old,
+            new_state: c.found.new,
+            ..DONE
+        }
     }
 }
 
-fn conflict(c: Conflict) -> Answer
-    ensures { result ≡ conflict_as c }
-{
-    Answer {
-        kind: 2,
-        number: 0,
-        place: 0,
-        index: c.index.0,
-        mip_start: c.found.selector.mips.start.0,
-        mip_end: c.found.selector.mips.end.0,
-        layer_start: c.found.selector.layers.start.0,
-        layer_end: c.found.selector.layers.end.0,
-        old_state: c.found.old,
-        new_state: c.found.new,
+impl From<Result<(), CallError>> for Answer {
+    ghost from_gives = { λ x a. a ≡ answer_of x };
+
+    fn from(x: Result<(), CallError>) -> Answer {
+        match x {
+            Ok(()) => DONE,
+            Err(CallError::Refused(r)) => Answer::from(r),
+            Err(CallError::Conflict(c)) => Answer::from(c),
+        }
     }
 }
 
-// An outcome with the head of the log.
-pub fn logged(x: Answered) -> LoggedAnswer
-    ensures { result ≡ logged_of x }
+impl From<Result<(), Refusal>> for Answer {
+    ghost from_gives = { λ x a. a ≡ answer_of (unless_refused x) };
+
+    fn from(x: Result<(), Refusal>) -> Answer {
+        match x {
+            Ok(()) => DONE,
+            Err(r) => Answer::from(r),
+        }
+    }
+}
+
+// What a call answers that was told the head of the log, with the head after it: a refusal leaves it.
+pub fn logged(told: LogHead, x: Result<LogHead, Refusal>) -> LoggedAnswer
+    ensures { result ≡ logged_of (answered told x) }
 {
-    let outcome = x.outcome;
+    let (answer, head) = match x {
+        Ok(head) => (DONE, head),
+        Err(r) => (Answer::from(r), told),
+    };
     LoggedAnswer {
-        answer: flat(outcome),
-        written: x.head.written,
-        free: x.head.free,
-    }
-}
-
-// The selector of some mips and layers.
-pub fn selector(mip_start: u32, mip_end: u32, layer_start: u32, layer_end: u32) -> Selector
-    ensures { result ≡ select mip_start mip_end layer_start layer_end }
-{
-    Selector {
-        mips: MipRange {
-            start: Mip(mip_start),
-            end: Mip(mip_end),
-        },
-        layers: LayerRange {
-            start: Layer(layer_start),
-            end: Layer(layer_end),
-        },
+        answer,
+        written: head.written,
+        free: head.free,
     }
 }
 
 // All of a texture where `part` is 0, otherwise what the selector names.
-pub fn selection(part: u32, q: Selector) -> Selection
+pub fn selection(part: u32, q: Selector) -> Option<Selector>
     ensures { result ≡ selection_of part q }
 {
-    if part == 0 {
-        return Selection::Full;
-    }
-    Selection::Part(q)
+    if part == 0 { None } else { Some(q) }
 }

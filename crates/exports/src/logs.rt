@@ -1,15 +1,15 @@
 // The calls on logs alone: one that empties a log, and one that merges two into a third.
 ghost use Rattle.std.specs.Prelude.{◌≡◌, ◌≤◌, length};
-ghost use Rattle.model.specs.declared.Answered.{Answered};
+ghost use Rattle.model.specs.Log.{unless_refused};
 ghost use Rattle.log_head.specs.Log.{Emptying};
-ghost use Rattle.log_merge.specs.Calls.{MergesLogs};
+ghost use Rattle.log_merge.specs.Calls.{MergesLogs, begins_at, which_of};
 ghost use Rattle.exports.specs.SetAnswers.{logged_of, answered_of, head_of};
-ghost use Rattle.exports.specs.LogAnswers.{merged_as, merged_of, merged_in};
+ghost use Rattle.exports.specs.LogAnswers.{merge_told, merged_of, merged_in};
 
-use crate::answers::{flat, logged};
-use crate::{LoggedAnswer, MergedAnswer};
-use log_merge::MergedAt;
-use model::LogHead;
+use crate::answers::logged;
+use crate::{Answer, LoggedAnswer, MergedAnswer};
+use log_merge::Rest;
+use model::{LogHead, Refusal};
 
 // `track::empty_log`.
 #[unsafe(no_mangle)]
@@ -18,27 +18,42 @@ pub extern "C" fn track_empty_log(log: &[u32], written: usize, free: usize) -> L
     ensures emptying { Emptying (head_of written free) log.now (answered_of result) }
 {
     let head = LogHead { written, free };
-    logged(track::empty_log(log, head))
+    logged(head, track::empty_log(log, head))
 }
 
-// What a merge tells, where the log that the rest is a part of has so many numbers; `first` is 1 where it is the first.
-fn merged(x: MergedAt, first: u32, length: usize) -> MergedAnswer
-    requires { x.merged.rest.from ≤ length }
-    ensures { result ≡ merged_as x first length }
+// What a merge of two logs of so many numbers tells.
+fn merged(
+    outcome: Result<(), Refusal>,
+    head: LogHead,
+    rest: Rest,
+    first: usize,
+    second: usize,
+) -> MergedAnswer
+    requires { begins_at rest ≤ which_of rest first second }
+    ensures { result ≡ merged_of (merge_told (unless_refused outcome) head rest) first second }
 {
-    let told = x.merged;
-    let outcome = told.outcome;
-    MergedAnswer {
-        answer: flat(outcome),
-        written: x.head.written,
-        free: x.head.free,
-        rest_first: first,
-        rest_offset: told.rest.from,
-        rest_length: length - told.rest.from,
+    let answer = Answer::from(outcome);
+    match rest {
+        Rest::First(from) => MergedAnswer {
+            answer,
+            written: head.written,
+            free: head.free,
+            rest_first: 1,
+            rest_offset: from,
+            rest_length: first - from,
+        },
+        Rest::Second(from) => MergedAnswer {
+            answer,
+            written: head.written,
+            free: head.free,
+            rest_first: 0,
+            rest_offset: from,
+            rest_length: second - from,
+        },
     }
 }
 
-// `log_merge::merge_at`, with the rest as an offset and a length.
+// `log_merge::merge_at`, with the rest as an offset and a length: on a refusal the empty end of the second.
 #[unsafe(no_mangle)]
 pub extern "C" fn track_merge_logs(
     first: &[u32],
@@ -48,14 +63,15 @@ pub extern "C" fn track_merge_logs(
     free: usize,
 ) -> MergedAnswer
     ensures value { result ≡ merged_of (merged_in result) (length first.now) (length second.now) }
-    ensures fact { let y : Answered = record { outcome = (merged_in result).merged.outcome; head = (merged_in result).head } in
-        MergesLogs first.now second.now (head_of written free) third.old
-        y (merged_in result).merged.rest third.new }
+    ensures merges_logs { let x = merged_in result in
+        MergesLogs first.now second.now (head_of written free) third.old x.answered x.rest third.new }
 {
-    let given = LogHead { written, free };
-    let x = log_merge::merge_at(first, second, third, given);
-    if x.merged.rest.first {
-        return merged(x, 1, first.len());
+    let told = LogHead { written, free };
+    match log_merge::merge_at(first, second, third, told) {
+        Ok(x) => merged(Ok(()), x.head, x.rest, first.len(), second.len()),
+        Err(r) => {
+            let rest = Rest::Second(second.len());
+            merged(Err(r), told, rest, first.len(), second.len())
+        }
     }
-    merged(x, 0, second.len())
 }

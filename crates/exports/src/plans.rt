@@ -5,24 +5,25 @@ ghost use Rattle.plan_file.specs.Writing.{PlanWritten};
 ghost use Rattle.plan_file.specs.Uses.{UsesListed};
 ghost use Rattle.exports.specs.PlanAnswers.{counted_of, counted_in};
 
-use crate::CountedAnswer;
-use crate::answers::flat;
-use model::Outcome;
-use plan_file::PlanAnswer;
+use crate::answers::DONE;
+use crate::{Answer, CountedAnswer};
+use model::Refusal;
 
 // What a call on plan files answers, in numbers.
-fn counted(x: PlanAnswer) -> CountedAnswer
-    ensures { result ≡ counted_of x }
-{
-    match x {
-        PlanAnswer::Done(n) => CountedAnswer {
-            answer: flat(Outcome::Done),
-            count: n,
-        },
-        PlanAnswer::Refused(r) => CountedAnswer {
-            answer: flat(Outcome::Refused(r)),
-            count: 0,
-        },
+impl From<Result<usize, Refusal>> for CountedAnswer {
+    ghost from_gives = { λ x a. a ≡ counted_of x };
+
+    fn from(x: Result<usize, Refusal>) -> CountedAnswer {
+        match x {
+            Ok(count) => CountedAnswer {
+                answer: DONE,
+                count,
+            },
+            Err(r) => CountedAnswer {
+                answer: Answer::from(r),
+                count: 0,
+            },
+        }
     }
 }
 
@@ -32,7 +33,7 @@ pub extern "C" fn track_read_plan(file: &[u8], items: &mut [u8]) -> CountedAnswe
     ensures value { result ≡ counted_of (counted_in result) }
     ensures plan_read { PlanRead file.now items.old (counted_in result) items.new }
 {
-    counted(plan_file::read(file, items))
+    CountedAnswer::from(plan_file::read(file, items))
 }
 
 // `plan_file::write`.
@@ -41,7 +42,7 @@ pub extern "C" fn track_write_plan(items: &[u8], file: &mut [u8]) -> CountedAnsw
     ensures value { result ≡ counted_of (counted_in result) }
     ensures plan_written { PlanWritten items.now file.old (counted_in result) file.new }
 {
-    counted(plan_file::write(items, file))
+    CountedAnswer::from(plan_file::write(items, file))
 }
 
 // `plan_file::uses`.
@@ -50,5 +51,5 @@ pub extern "C" fn track_plan_uses(items: &[u8], uses: &mut [u32]) -> CountedAnsw
     ensures value { result ≡ counted_of (counted_in result) }
     ensures uses_listed { UsesListed items.now uses.old (counted_in result) uses.new }
 {
-    counted(plan_file::uses(items, uses))
+    CountedAnswer::from(plan_file::uses(items, uses))
 }

@@ -1,49 +1,63 @@
 // The calls on ranged states by themselves (01: strips): three numbers a range in one slice, of which the first `told` ranges are in use.
 ghost use Rattle.std.specs.Prelude.{◌≡◌};
 ghost use Rattle.range_calls.specs.RangeContract.{Isolates, Coalesces, Filters};
-ghost use Rattle.exports.specs.RangesAnswers.{numbers_of, isolate_as, coalesce_as, filter_as, isolate_in, coalesce_in, filter_in};
+ghost use Rattle.exports.specs.RangesAnswers.{refused_as, isolate_as, coalesce_as, filter_as, isolate_in, coalesce_in, filter_in};
 
-use crate::RangesAnswer;
-use crate::answers::flat;
-use model::Outcome;
-use range_calls::{CoalesceAnswer, FilterAnswer, IsolateAnswer};
+use crate::answers::DONE;
+use crate::{Answer, RangesAnswer};
+use model::Refusal;
+use range_calls::Isolation;
 
-// An outcome with three counts.
-fn numbers(x: Outcome, position: usize, count: usize, told: usize) -> RangesAnswer
-    ensures { result ≡ numbers_of x position count told }
+fn refused(r: Refusal) -> RangesAnswer
+    ensures { result ≡ refused_as r }
 {
     RangesAnswer {
-        answer: flat(x),
-        position,
-        count,
-        told,
+        answer: Answer::from(r),
+        position: 0,
+        count: 0,
+        told: 0,
     }
 }
 
-fn isolated(x: IsolateAnswer) -> RangesAnswer
+fn isolated(x: Result<Isolation, Refusal>) -> RangesAnswer
     ensures { result ≡ isolate_as x }
 {
     match x {
-        IsolateAnswer::Refused(r) => numbers(Outcome::Refused(r), 0, 0, 0),
-        IsolateAnswer::Isolated(i) => numbers(Outcome::Done, i.position, i.count, i.told),
+        Ok(i) => RangesAnswer {
+            answer: DONE,
+            position: i.position,
+            count: i.count,
+            told: i.told,
+        },
+        Err(r) => refused(r),
     }
 }
 
-fn coalesced(x: CoalesceAnswer) -> RangesAnswer
+fn coalesced(x: Result<usize, Refusal>) -> RangesAnswer
     ensures { result ≡ coalesce_as x }
 {
     match x {
-        CoalesceAnswer::Refused(r) => numbers(Outcome::Refused(r), 0, 0, 0),
-        CoalesceAnswer::Coalesced(n) => numbers(Outcome::Done, 0, 0, n),
+        Ok(told) => RangesAnswer {
+            answer: DONE,
+            position: 0,
+            count: 0,
+            told,
+        },
+        Err(r) => refused(r),
     }
 }
 
-fn filtered(x: FilterAnswer) -> RangesAnswer
+fn filtered(x: Result<usize, Refusal>) -> RangesAnswer
     ensures { result ≡ filter_as x }
 {
     match x {
-        FilterAnswer::Refused(r) => numbers(Outcome::Refused(r), 0, 0, 0),
-        FilterAnswer::Filtered(n) => numbers(Outcome::Done, 0, n, 0),
+        Ok(count) => RangesAnswer {
+            answer: DONE,
+            position: 0,
+            count,
+            told: 0,
+        },
+        Err(r) => refused(r),
     }
 }
 

@@ -7,8 +7,8 @@ ghost use Rattle.call_merge.specs.Contract.{MergeSingle, MergeUsageScope};
 ghost use Rattle.exports.specs.SetAnswers.{answer_of, outcome_of, selection_of};
 
 use crate::Answer;
-use crate::answers::{flat, selection, selector};
-use model::{Extent, TrackerIndex};
+use crate::answers::selection;
+use model::{Extent, Selector, TrackerIndex};
 use set_storage::Table;
 
 // `track::merge_single`. Where `part` is 0 the use is of all of the texture, and the four numbers after it are not read.
@@ -33,8 +33,11 @@ pub extern "C" fn track_merge_single(
         (selection_of part (select mip_start mip_end layer_start layer_end)) state (outcome_of result) s' }
 {
     let extent = Extent { mips, layers };
-    let named = selection(part, selector(mip_start, mip_end, layer_start, layer_end));
-    flat(track::merge_single(table, ranges, TrackerIndex(index), extent, named, state))
+    let named = selection(
+        part,
+        Selector::new(mip_start, mip_end, layer_start, layer_end),
+    );
+    Answer::from(track::merge_single(table, ranges, TrackerIndex(index), extent, named, state))
 }
 
 // `track::merge_usage_scope`.
@@ -51,5 +54,5 @@ pub extern "C" fn track_merge_usage_scope(
         let g : LentScope = record { table = given.now; ranges = lent.now } in
         MergeUsageScope s g (outcome_of result) s' }
 {
-    flat(track::merge_usage_scope(table, ranges, given, lent))
+    Answer::from(track::merge_usage_scope(table, ranges, given, lent))
 }

@@ -6,7 +6,6 @@ ghost use Rattle.set_storage.specs.Lent.{LentTracker, scope_test, tracker_test};
 ghost use Rattle.exports.specs.SetAnswers.{answer_of, outcome_of, flags_of};
 
 use crate::Answer;
-use crate::answers::flat;
 use model::UsageFlags;
 use set_storage::Table;
 use set_wellformed::{scope_fits, tracker_fits};
@@ -34,7 +33,7 @@ pub extern "C" fn track_open_scope(
         complex,
         unknown,
     };
-    flat(track::open_scope(table, ranges, n, m, w, flags))
+    Answer::from(track::open_scope(table, ranges, n, m, w, flags))
 }
 
 // `track::open_tracker`.
@@ -62,7 +61,7 @@ pub extern "C" fn track_open_tracker(
         complex,
         unknown,
     };
-    flat(track::open_tracker(table, starts, ends, n, m, w, flags, mask))
+    Answer::from(track::open_tracker(table, starts, ends, n, m, w, flags, mask))
 }
 
 // `set_wellformed::scope_fits`.
@@ -70,10 +69,7 @@ pub extern "C" fn track_open_tracker(
 pub extern "C" fn track_scope_is_well_formed(table: &Table, ranges: &[u32]) -> u32
     ensures { result ≡ (if scope_test (record { table = table.now; ranges = ranges.now }) then 1 else 0) }
 {
-    if scope_fits(table, ranges) {
-        return 1;
-    }
-    0
+    u32::from(scope_fits(table, ranges))
 }
 
 // `set_wellformed::tracker_fits`.
@@ -82,8 +78,5 @@ pub extern "C" fn track_tracker_is_well_formed(table: &Table, starts: &[u32], en
     ensures { let t : LentTracker = record { table = table.now; starts = starts.now; ends = ends.now } in
         result ≡ (if tracker_test t then 1 else 0) }
 {
-    if tracker_fits(table, starts, ends) {
-        return 1;
-    }
-    0
+    u32::from(tracker_fits(table, starts, ends))
 }

@@ -9,8 +9,8 @@ ghost use Rattle.call_remove.specs.Removed.{SetAndRemoveSparse};
 ghost use Rattle.exports.specs.SetAnswers.{logged_of, answered_of, head_of};
 
 use crate::LoggedAnswer;
-use crate::answers::{logged, selector};
-use model::{Extent, LogHead, TrackerIndex};
+use crate::answers::logged;
+use model::{Extent, LogHead, Selector, TrackerIndex};
 use set_storage::Table;
 
 // `track::set_single`.
@@ -39,7 +39,7 @@ pub extern "C" fn track_set_single(
         log.new }
 {
     let extent = Extent { mips, layers };
-    let named = selector(mip_start, mip_end, layer_start, layer_end);
+    let named = Selector::new(mip_start, mip_end, layer_start, layer_end);
     let head = LogHead { written, free };
     let x = track::set_single(
         table,
@@ -52,7 +52,7 @@ pub extern "C" fn track_set_single(
         log,
         head,
     );
-    logged(x)
+    logged(head, x)
 }
 
 // `track::set_from_usage_scope`.
@@ -75,7 +75,7 @@ pub extern "C" fn track_set_from_usage_scope(
 {
     let head = LogHead { written, free };
     let x = track::set_from_usage_scope(table, starts, ends, given, lent, log, head);
-    logged(x)
+    logged(head, x)
 }
 
 // `track::set_from_tracker`.
@@ -99,7 +99,7 @@ pub extern "C" fn track_set_from_tracker(
 {
     let head = LogHead { written, free };
     let x = track::set_from_tracker(table, starts, ends, given, first, last, log, head);
-    logged(x)
+    logged(head, x)
 }
 
 // `track::set_and_remove_from_usage_scope_sparse`.
@@ -126,5 +126,5 @@ pub extern "C" fn track_set_and_remove_from_usage_scope_sparse(
     let x = track::set_and_remove_from_usage_scope_sparse(
         table, starts, ends, given, lent, indices, log, head,
     );
-    logged(x)
+    logged(head, x)
 }

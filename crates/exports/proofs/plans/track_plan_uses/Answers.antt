@@ -5,4 +5,4 @@ use Rattle.exports.proofs.plans.track_plan_uses.Goals as goal
 
 pub returns : goal.returns
 returns c =
-    rw (c.counted.ensures, counted_told _) (record { value = refl; uses_listed = c.uses.ensures })
+    rw (c.from.ensures, counted_told _) (record { value = refl; uses_listed = c.uses.ensures })

@@ -5,4 +5,4 @@ use Rattle.exports.proofs.plans.track_read_plan.Goals as goal
 
 pub returns : goal.returns
 returns c =
-    rw (c.counted.ensures, counted_told _) (record { value = refl; plan_read = c.read.ensures })
+    rw (c.from.ensures, counted_told _) (record { value = refl; plan_read = c.read.ensures })

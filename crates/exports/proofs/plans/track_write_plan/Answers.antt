@@ -5,4 +5,4 @@ use Rattle.exports.proofs.plans.track_write_plan.Goals as goal
 
 pub returns : goal.returns
 returns c =
-    rw (c.counted.ensures, counted_told _) (record { value = refl; plan_written = c.write.ensures })
+    rw (c.from.ensures, counted_told _) (record { value = refl; plan_written = c.write.ensures })

@@ -5,5 +5,5 @@ use Rattle.exports.proofs.scopes.track_merge_single.Goals as goal
 
 pub returns : goal.returns
 returns c =
-    rw (c.flat.ensures, outcome_told _, ← c.selector.ensures, ← c.selection-named.ensures)
+    rw (c.from.ensures, outcome_told _, ← c.new.ensures, ← c.selection-named.ensures)
     (record { value = refl; fact = c.merge_single.ensures })

@@ -5,4 +5,4 @@ use Rattle.exports.proofs.scopes.track_merge_usage_scope.Goals as goal
 
 pub returns : goal.returns
 returns c =
-    rw (c.flat.ensures, outcome_told _) (record { value = refl; fact = c.merge_usage_scope.ensures })
+    rw (c.from.ensures, outcome_told _) (record { value = refl; fact = c.merge_usage_scope.ensures })

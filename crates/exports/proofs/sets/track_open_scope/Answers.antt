@@ -5,4 +5,4 @@ use Rattle.exports.proofs.sets.track_open_scope.Goals as goal
 
 pub returns : goal.returns
 returns c =
-    rw (c.flat.ensures, outcome_told _) (record { value = refl; fact = c.open_scope.ensures })
+    rw (c.from.ensures, outcome_told _) (record { value = refl; fact = c.open_scope.ensures })

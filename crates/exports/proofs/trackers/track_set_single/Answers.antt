@@ -5,4 +5,4 @@ use Rattle.exports.proofs.trackers.track_set_single.Goals as goal
 
 pub returns : goal.returns
 returns c =
-    rw (c.logged.ensures, outcome_told _) (record { value = refl; fact = rw c.selector-named.ensures at c.set_single-x.ensures })
+    rw (c.logged.ensures, outcome_told _) (record { value = refl; fact = rw c.new-named.ensures at c.set_single-x.ensures })
