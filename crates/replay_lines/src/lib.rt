@@ -3,23 +3,21 @@
 // Place in the picture: under the program `replay`, which adds the public calls; a crate of its own, so that it is proved while the calls
 // are. Lines, answers and storage: oracle/README.md.
 //
-//     scan      the bytes of a line, one by one, to its words and numbers
-//     numbers   reading, writing, copying and comparing runs of numbers
-//     sets      where the numbers of each set are kept, and what is known of it
-//     silent    the lines that answer nothing: put, poke, room, log
+//     words     the words of a line, read in turn
+//     sets      the four sets between calls, and what of them is lent to a call
+//     changes   the lines that answer nothing: put, poke, room, log
 //     tell      answers
-//     out       the bytes that are to be written
 //     ranged    the calls on ranged states
 //     logs      what a lent log is before a call, and the merge of two logs
 //     plans     the calls on plan files
+//
+// No heap and fixed memory are rules of the tracker; this is a test driver over it, and takes what it needs from the allocator.
 #![tactic(auto)]
 
+pub mod changes;
 pub mod logs;
-pub mod numbers;
-pub mod out;
 pub mod plans;
 pub mod ranged;
-pub mod scan;
 pub mod sets;
-pub mod silent;
 pub mod tell;
+pub mod words;

@@ -1,118 +1,71 @@
 // Plan files: read, written, and the uses of a list told, as the line says.
-use crate::numbers::{at, most, smaller};
-use crate::out::Out;
-use crate::ranged::run;
-use crate::{logs, out, scan, tell};
-use plan_file::PlanAnswer;
+use crate::tell::{Numbers, Out};
+use crate::words::Words;
+use crate::{logs, tell};
+use model::Refusal;
+use std::alloc::{AllocError, Global};
+use std::io;
+use std::io::Write;
+
+// Room for what a line has and for what it says is lent.
+const ROOM: usize = 65536;
 
 // What byte i of borrowed memory is before a call.
 fn before(i: usize) -> u8 {
     (89 + i % 11) as u8
 }
 
-fn fill(s: &mut [u8]) {
-    let mut i = 0;
-    while i < s.len() {
-        s[i] = before(i);
-        i += 1;
-    }
+// Memory of this many bytes, as it is lent.
+fn lend(room: usize, alloc: Global) -> Result<Vec<u8>, AllocError> {
+    (0..room.min(ROOM)).map(before).collect(alloc)
 }
 
-fn untouched(s: &[u8]) -> bool {
-    let mut i = 0;
-    while i < s.len() {
-        if s[i] != before(i) {
-            return false;
-        }
-        i += 1;
-    }
-    true
+// Whether memory is as it was lent.
+fn is_kept(memory: &[u8]) -> bool {
+    memory.iter().enumerate().all(|(i, b)| *b == before(i))
 }
 
-// The numbers of a line as bytes, as far as both reach.
-fn copy(numbers: &[u32], to: &mut [u8]) {
-    let n = smaller(numbers.len(), to.len());
-    let mut i = 0;
-    while i < n {
-        to[i] = (numbers[i] % 256) as u8;
-        i += 1;
-    }
+// N BYTE*
+fn given(words: &mut Words, alloc: Global) -> Result<Vec<u8>, AllocError> {
+    let n = words.size();
+    words.bytes(n.min(ROOM), alloc)
 }
 
-// All bytes of a run, and the end of the line.
-fn bytes(out: &mut Out, s: &[u8]) {
-    let mut i = 0;
-    while i < s.len() {
-        out::number(out, out::wide(s[i]));
-        i += 1;
-    }
-    out::end_line(out);
+// read_plan LENT N BYTE*
+pub fn read_plan(words: &mut Words, out: &mut Out, alloc: Global) -> io::Result<()> {
+    let mut items = lend(words.size(), alloc)?;
+    let file = given(words, alloc)?;
+    let answer = plan_file::read(&file, &mut items);
+    tell_bytes(out, "read", answer, &items)
+}
+
+// write_plan LENT N BYTE*
+pub fn write_plan(words: &mut Words, out: &mut Out, alloc: Global) -> io::Result<()> {
+    let mut file = lend(words.size(), alloc)?;
+    let items = given(words, alloc)?;
+    let answer = plan_file::write(&items, &mut file);
+    tell_bytes(out, "written", answer, &file)
 }
 
 // The refusal, or the word, how many were written, and all bytes that were borrowed.
-fn answer(out: &mut Out, x: PlanAnswer, word: &[u8], s: &[u8]) {
-    match x {
-        PlanAnswer::Done(n) => {
-            out::text(out, word);
-            out::number(out, n);
-            bytes(out, s);
-        }
-        PlanAnswer::Refused(r) => tell::refused(out, r, untouched(s)),
+fn tell_bytes(
+    out: &mut Out,
+    word: &str,
+    answer: Result<usize, Refusal>,
+    bytes: &[u8],
+) -> io::Result<()> {
+    match answer {
+        Ok(n) => writeln!(out, "{word} {n}{}", Numbers(bytes)),
+        Err(r) => tell::refused(out, r, is_kept(bytes)),
     }
 }
 
-fn read(file: &[u8], items: &mut [u8], out: &mut Out) {
-    fill(items);
-    let x = plan_file::read(file, items);
-    answer(out, x, b"read", items);
-}
-
-fn write(items: &[u8], file: &mut [u8], out: &mut Out) {
-    fill(file);
-    let x = plan_file::write(items, file);
-    answer(out, x, b"written", file);
-}
-
-// The list is borrowed as a log is.
-fn uses(items: &[u8], list: &mut [u32], out: &mut Out) {
-    logs::fill(list);
-    match plan_file::uses(items, list) {
-        PlanAnswer::Done(n) => {
-            out::text(out, b"listed");
-            out::number(out, n);
-            run(out, list);
-        }
-        PlanAnswer::Refused(r) => tell::refused(out, r, logs::untouched(list)),
+// plan_uses LENT N BYTE*. The list is lent as a log is.
+pub fn plan_uses(words: &mut Words, out: &mut Out, alloc: Global) -> io::Result<()> {
+    let mut list = logs::numbers(words.size(), alloc)?;
+    let items = given(words, alloc)?;
+    match plan_file::uses(&items, &mut list) {
+        Ok(n) => writeln!(out, "listed {n}{}", Numbers(&list)),
+        Err(r) => tell::refused(out, r, logs::are_kept(&list)),
     }
-}
-
-fn call(kind: u32, given: &[u8], lent: &mut [u8], list: &mut [u32], out: &mut Out) {
-    match kind {
-        scan::READ_PLAN => read(given, lent, out),
-        scan::WRITE_PLAN => write(given, lent, out),
-        _ => uses(given, list, out),
-    }
-}
-
-// The call on the bytes that the line has, and on as much as it says is borrowed.
-fn on_bytes(line: &[u32], given: &mut [u8], lent: &mut [u8], list: &mut [u32], out: &mut Out) {
-    let from = smaller(3, line.len());
-    copy(&line[from..], given);
-    let n = most(line, 2, given.len());
-    let m = most(line, 1, lent.len());
-    let k = most(line, 1, list.len());
-    call(
-        at(line, 0),
-        &given[..n],
-        &mut lent[..m],
-        &mut list[..k],
-        out,
-    );
-}
-
-// read_plan LENT N BYTE*, write_plan LENT N BYTE*, plan_uses LENT N BYTE*
-pub fn line(line: &[u32], list: &mut [u32], out: &mut Out) {
-    let mut given = [0u8; 65536];
-    let mut lent = [0u8; 65536];
-    on_bytes(line, &mut given, &mut lent, list, out);
 }

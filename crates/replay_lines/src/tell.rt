@@ -1,193 +1,119 @@
 // Answers, as oracle/README.md says them.
-ghost use Rattle.std.specs.Prelude.{◌≤◌};
+ghost use Rattle.std.specs.Prelude.{◌<◌};
 
-use crate::numbers::{at, most, smaller};
-use crate::out::Out;
-use crate::sets::Book;
-use crate::silent::ranges_at;
-use crate::{out, sets};
-use model::{Conflict, LogHead, Refusal, Selector};
-use set_storage::{COUNTS, END, LAYERS, MIPS, OWNED, START, wide};
+use crate::sets::{Half, Kind, Place, Set, Sets};
+use model::{Conflict, LogHead, Refusal};
+use set_storage::{COMPLEX, LAYERS, MIPS, OWNED, TEXTURES};
+use std::fmt::Display;
+use std::io::{BufWriter, StdoutLock, Write};
+use std::{fmt, io};
 
-fn number(out: &mut Out, x: u32) {
-    out::number(out, wide(x));
-}
+// Where answers go.
+pub type Out = BufWriter<StdoutLock<'static>>;
 
-pub fn case(out: &mut Out, n: u32) {
-    out::text(out, b"case");
-    number(out, n);
-    out::end_line(out);
-}
+// Numbers, each after a space.
+#[derive(Drop)]
+pub struct Numbers<'a, T>(pub &'a [T]);
 
-pub fn done(out: &mut Out) {
-    out::text(out, b"done\n");
-}
-
-pub fn refused(out: &mut Out, r: Refusal, kept: bool) {
-    out::text(out, b"refused");
-    number(out, model::number(r));
-    number(out, model::place(r));
-    if kept {
-        out::text(out, b" kept\n");
-    } else {
-        out::text(out, b" changed\n");
+impl<T: Display + Drop> Display for Numbers<'_, T> {
+    fn fmt<W: fmt::Write>(&self, f: &mut fmt::Formatter<W>) -> fmt::Result {
+        for n in self.0 {
+            write!(f, " {n}")?;
+        }
+        Ok(())
     }
 }
 
-pub fn emptied(out: &mut Out, head: LogHead) {
-    out::text(out, b"emptied");
-    head_numbers(out, head);
+pub fn refused(out: &mut Out, r: Refusal, kept: bool) -> io::Result<()> {
+    let number = r.number();
+    let place = r.place();
+    let then = if kept { "kept" } else { "changed" };
+    writeln!(out, "refused {number} {place} {then}")
 }
 
-pub fn head(out: &mut Out, head: LogHead) {
-    out::text(out, b"log");
-    head_numbers(out, head);
+// `word` and a head.
+pub fn head(out: &mut Out, word: &str, head: LogHead) -> io::Result<()> {
+    writeln!(out, "{word} {} {}", head.written, head.free)
 }
 
-fn head_numbers(out: &mut Out, head: LogHead) {
-    out::number(out, head.written);
-    out::number(out, head.free);
-    out::end_line(out);
-}
-
-pub fn conflict(out: &mut Out, c: Conflict) {
-    let index = c.index;
+pub fn conflict(out: &mut Out, c: Conflict) -> io::Result<()> {
+    let index = c.index.0;
     let found = c.found;
-    out::text(out, b"conflict");
-    number(out, index.0);
-    selector(out, found.selector);
-    number(out, found.old);
-    number(out, found.new);
-    out::end_line(out);
+    let mips = found.selector.mips;
+    let layers = found.selector.layers;
+    writeln!(
+        out,
+        "conflict {index} {} {} {} {} {} {}",
+        mips.start.0, mips.end.0, layers.start.0, layers.end.0, found.old, found.new
+    )
 }
 
-fn selector(out: &mut Out, q: Selector) {
-    let mips = q.mips;
-    let layers = q.layers;
-    let a = mips.start;
-    let b = mips.end;
-    let c = layers.start;
-    let d = layers.end;
-    number(out, a.0);
-    number(out, b.0);
-    number(out, c.0);
-    number(out, d.0);
-}
-
-// n numbers from i on.
-fn run(out: &mut Out, s: &[u32], i: usize, n: usize)
-    requires i_bound { i ≤ 4294967296 }
-    requires n_bound { n ≤ 4096 }
-{
-    let mut k = 0;
-    while k < n {
-        number(out, at(s, i + k));
-        k += 1;
+// The entries that a call wrote to a log.
+pub fn transitions(out: &mut Out, log: &[u32], before: LogHead, after: LogHead) -> io::Result<()> {
+    let count = after.written.saturating_sub(before.written);
+    for entry in log.chunks(7).skip(before.written).take(count) {
+        writeln!(out, "transition{}", Numbers(entry))?;
     }
-}
-
-// The entries of the log from `from` up to `to`.
-pub fn transitions(out: &mut Out, log: &[u32], from: usize, to: usize) {
-    let end = smaller(to, 1000000);
-    let mut k = smaller(from, end);
-    while k < end {
-        out::text(out, b"transition");
-        run(out, log, 7 * k, 7);
-        out::end_line(out);
-        k += 1;
-    }
+    Ok(())
 }
 
 // Every opened set.
-pub fn all(out: &mut Out, book: &Book, store: &[u32]) {
-    let mut k = 0;
-    while k < 4 {
-        set(out, book[k], store, k);
-        k += 1;
-    }
-}
-
-fn set(out: &mut Out, kind: u32, store: &[u32], k: usize)
-    requires { k ≤ 3 }
-{
-    if kind == sets::SCOPE {
-        out::text(out, b"scope");
-        textures(out, store, k, false);
-    }
-    if kind == sets::TRACKER {
-        out::text(out, b"tracker");
-        textures(out, store, k, true);
-    }
-}
-
-// The number of the set, and what it owns.
-fn textures(out: &mut Out, store: &[u32], k: usize, tracker: bool)
-    requires { k ≤ 3 }
-{
-    out::number(out, k);
-    out::end_line(out);
-    let b = sets::base(store, k);
-    let n = most(store, b, 64);
-    let mut i = 0;
-    while i < n {
-        if at(store, b + OWNED + i) != 0 {
-            texture(out, store, k, i, tracker);
+pub fn all(out: &mut Out, sets: &Sets) -> io::Result<()> {
+    for (number, set) in sets.sets.iter().enumerate() {
+        if let Some(kind) = set.kind {
+            writeln!(out, "{kind} {number}")?;
+            textures(out, set, kind)?;
         }
-        i += 1;
     }
+    Ok(())
 }
 
-fn texture(out: &mut Out, store: &[u32], k: usize, index: usize, tracker: bool)
-    requires k_bound { k ≤ 3 }
-    requires index_bound { index ≤ 63 }
-{
-    let b = sets::base(store, k);
-    out::text(out, b"texture");
-    out::number(out, index);
-    number(out, at(store, b + MIPS + index));
-    number(out, at(store, b + LAYERS + index));
-    half(out, store, b, START, sets::starts_at(store, k), index);
-    if tracker {
-        half(out, store, b, END, sets::ends_at(store, k), index);
+// What the set owns.
+fn textures(out: &mut Out, set: &Set, kind: Kind) -> io::Result<()> {
+    let table = &set.table;
+    for index in 0..table[TEXTURES].min(64) as usize {
+        if table[OWNED + index] != 0 {
+            write!(
+                out,
+                "texture {index} {} {}",
+                table[MIPS + index],
+                table[LAYERS + index]
+            )?;
+            half(out, set, Half::Start, index)?;
+            if kind == Kind::Tracker {
+                half(out, set, Half::End, index)?;
+            }
+            writeln!(out)?;
+        }
     }
-    out::end_line(out);
+    Ok(())
 }
 
 // single STATE | many MIP*
-fn half(out: &mut Out, store: &[u32], b: usize, half: usize, ranges: usize, index: usize)
-    requires b_bound { b ≤ 5000000 }
-    requires half_bound { half ≤ 2000 }
-    requires ranges_bound { ranges ≤ 6000000 }
-    requires index_bound { index ≤ 63 }
+fn half(out: &mut Out, set: &Set, half: Half, index: usize) -> io::Result<()>
+    requires { index < 64 }
 {
-    let state = at(store, b + half + index);
-    if state != at(store, b + 5) {
-        out::text(out, b" single");
-        number(out, state);
-    } else {
-        out::text(out, b" many");
-        mips(out, store, b, half, ranges, index);
+    let table = &set.table;
+    let state = table[half.states() + index];
+    if state != table[COMPLEX] {
+        return write!(out, " single {state}");
     }
+    write!(out, " many")?;
+    for mip in 0..table[MIPS + index].min(16) as usize {
+        mip_ranges(out, set, half, Place { index, mip })?;
+    }
+    Ok(())
 }
 
-// MIP = COUNT RECORD*, for each mip.
-fn mips(out: &mut Out, store: &[u32], b: usize, half: usize, ranges: usize, index: usize)
-    requires b_bound { b ≤ 5000000 }
-    requires half_bound { half ≤ 2000 }
-    requires ranges_bound { ranges ≤ 6000000 }
-    requires index_bound { index ≤ 63 }
-{
-    let n = most(store, b + MIPS + index, 16);
-    let mut m = 0;
-    while m < n {
-        let count = most(store, b + half + COUNTS + 16 * index + m, 256);
-        out::number(out, count);
-        run(
-            out,
-            store,
-            ranges + ranges_at(store, b, index, m),
-            3 * count,
-        );
-        m += 1;
+// MIP = COUNT RECORD*
+fn mip_ranges(out: &mut Out, set: &Set, half: Half, place: Place) -> io::Result<()> {
+    let table = &set.table;
+    let ranges = set.ranges(half);
+    let count = table[place.count_at(half)].min(256) as usize;
+    let from = place.ranges_at(table);
+    write!(out, " {count}")?;
+    for number in ranges.iter().skip(from).take(3 * count) {
+        write!(out, " {number}")?;
     }
+    Ok(())
 }

@@ -1,9 +1,0 @@
--- `fill` stays within what is borrowed.
-use Rattle.std.proofs.Common.{◌-◌, ◌≤◌}
-use Rattle.replay_lines.proofs.ranged.fill.Given as goal
-
-abbrev pub invariant-loop-k : goal.invariant-loop-k
-invariant-loop-k l = l.k ≤ l.count
-
-abbrev pub decreases-loop-k : goal.decreases-loop-k
-decreases-loop-k l = l.count - l.k

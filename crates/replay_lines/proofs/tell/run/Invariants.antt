@@ -1,9 +1,0 @@
--- `run` tells as many numbers as it is told to.
-use Rattle.std.proofs.Common.{◌-◌, ◌≤◌}
-use Rattle.replay_lines.proofs.tell.run.Given as goal
-
-abbrev pub invariant-loop-k : goal.invariant-loop-k
-invariant-loop-k l = l.k ≤ l.n
-
-abbrev pub decreases-loop-k : goal.decreases-loop-k
-decreases-loop-k l = l.n - l.k

@@ -1,9 +1,0 @@
--- `textures` looks at every index below N.
-use Rattle.std.proofs.Common.{◌-◌, ◌≤◌}
-use Rattle.replay_lines.proofs.tell.textures.Given as goal
-
-abbrev pub invariant-loop-i : goal.invariant-loop-i
-invariant-loop-i l = l.i ≤ l.n
-
-abbrev pub decreases-loop-i : goal.decreases-loop-i
-decreases-loop-i l = l.n - l.i
