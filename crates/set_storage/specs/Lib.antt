@@ -7,3 +7,5 @@ pub mod Frames
 pub mod Slots
 pub mod Texture
 pub mod Locate
+pub mod Stored
+pub mod Uses

@@ -11,6 +11,8 @@
 //                h + COUNTS + 16 i + m     how many ranges its mip m has
 //     ranges   three numbers a range; those of (i, m) begin at 3 W (i M + m), with room for W
 //
+//     stored   a texture as it stands in one half, lent to be read mip by mip
+//
 // What holds: the view (specs/Storage) is total, any numbers read as a set. The mips of an index are read as at most M, since an index
 // that is not owned may hold any extent and its view must not reach into another's; a count past W reads as no ranges.
 #![tactic(auto)]
@@ -20,7 +22,10 @@ ghost use Rattle.set_storage.specs.Part.{base_of, Within};
 ghost use Rattle.set_storage.specs.Storage.{flags_of, extent_of, count_at, end_half, table_length};
 ghost use Rattle.set_storage.specs.Locate.{Locates, LocatedAt};
 
+pub mod stored;
+
 use model::{Extent, UsageFlags};
+pub use stored::{Run, Stored};
 
 pub const TABLE_LENGTH: usize = 2376;
 
