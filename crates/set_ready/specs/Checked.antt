@@ -1,11 +1,11 @@
 -- A use and a texture that passed the checks: the texture, owned or about to be, is ready for the use.
-use Rattle.model.specs.Prelude.{ℕ, sym, ap, subst, ◌∙◌, Bool, true, false, and-eq-true_iff, List, bit_and, bit_or, get_or, ne_eqb}
-use Rattle.model.specs.Prelude.{not-false, eqb-true}
+use Rattle.model.specs.Prelude.{ℕ, sym, ap, subst, ◌∙◌, true, false, Option, Some, List, bit_and, bit_or, get_or, ne_eqb, not-false}
+use Rattle.model.specs.Prelude.{eqb-true}
 use Rattle.model.specs.{declared.{UsageFlags.UsageFlags, Extent.Extent, Selector.Selector}, Flags.meets, Sets.Numbers}
-use Rattle.model.specs.{Representation.{is_full, full}, RangedStates.Tiles, CheckLaws.{SelectorWithin, StatePassed}}
+use Rattle.model.specs.{RangedStates.Tiles, CheckLaws.StatePassed}
 use Rattle.std.specs.Prelude.{◌+◌, ◌≡◌}
 use Rattle.set_storage.specs.{Storage.{numbers_of, flags_of, extent_of, owned_of, start_half, end_half, mip_of, owned_at}, Frames.Measured}
-use Rattle.set_storage.specs.Texture.{TextureReady, TextureHeld}
+use Rattle.set_storage.specs.{Texture.{TextureReady, TextureHeld}, Uses.PartWithin}
 use Rattle.texture_merge.specs.Uses.{UseReady, HeldReady}
 use Rattle.texture_update.specs.Update.{UpdateReady, Selecting}
 use Rattle.set_checks.specs.Passed.{TexturePassed}
@@ -28,22 +28,10 @@ module _ {p : UsageFlags} {st : ℕ} (k : StatePassed p st) where
   state_union : (x : ℕ) → bit_or x st ≡ p.complex → ⊥
   state_union x = union_not_bit x st p.complex k.nonzero (apart st p.complex k.plain)
 
--- ---- A use that passed the checks
--- a selector that names all of a texture is the full one
-pub full_is : (sh : Extent) (q : Selector) → is_full sh q ≡ true → q ≡ full sh
-full_is sh q e =
-    let a = (and-eq-true_iff _ _).0 e in let b = (and-eq-true_iff _ _).0 a.0 in let c = (and-eq-true_iff _ _).0 b.0 in
-    let z₀ = eqb-true _ _ c.0 in let z₁ = eqb-true _ _ c.1 in let z₂ = eqb-true _ _ b.1 in let z₃ = eqb-true _ _ a.1 in
-    λ i. record {
-      mips = record { start = record { 0 = z₀ i }; end = record { 0 = z₁ i } };
-      layers = record { start = record { 0 = z₂ i }; end = record { 0 = z₃ i } };
-    }
-
--- a use of a texture with the extent sh that passed the checks, by the flags of the table t
-pub record TakenUse (t : List ℕ) (sh : Extent) (all : Bool) (q : Selector) (p : UsageFlags) (new : ℕ) : Type 0 where
+-- ---- A use that passed the checks, of a texture with the extent sh, by the flags of the table t
+pub record TakenUse (t : List ℕ) (sh : Extent) (part : Option Selector) (p : UsageFlags) (new : ℕ) : Type 0 where
   pub flags : p ≡ flags_of t
-  pub selector : SelectorWithin sh q
-  pub whole : all ≡ true → q ≡ full sh
+  pub within : PartWithin sh part
   pub state : StatePassed p new
 
 -- ---- Its word says whether a texture is owned
@@ -73,17 +61,11 @@ module _ {h i : ℕ} {t r : List ℕ} {sh : Extent} (m : Measured (numbers_of t)
   }
 
 -- ---- A use of it
-module _ {t : List ℕ} {sh : Extent} {all : Bool} {q : Selector} {p : UsageFlags} {new : ℕ} (u : TakenUse t sh all q p new) where
+module _ {t : List ℕ} {sh : Extent} {part : Option Selector} {p : UsageFlags} {new : ℕ} (u : TakenUse t sh part p new) where
   -- in a table with the same flags
   pub use_ready : {d : Numbers} {h i : ℕ} {t' r : List ℕ} → TextureReady d h t' r i sh → flags_of t' ≡ flags_of t
-      → UseReady d h t' r i sh all q p new
-  use_ready x e = record {
-    texture = x;
-    selector = u.selector;
-    flags = u.flags ∙ sym e;
-    whole = u.whole;
-    plain = state_plain u.state;
-  }
+      → UseReady d h t' r i sh part p new
+  use_ready x e = record { texture = x; within = u.within; flags = u.flags ∙ sym e; plain = state_plain u.state }
 
   pub held_ready : {h i : ℕ} {r : List ℕ} → TextureHeld (numbers_of t) h t r i sh → HeldReady h t r i sh new
   held_ready {h} {i} x = record {
@@ -97,5 +79,6 @@ module _ {t : List ℕ} {sh : Extent} {all : Bool} {q : Selector} {p : UsageFlag
       → UpdateReady t s e i sh p new
   update_ready x y = record { start = x; end = y; flags = u.flags; plain = state_plain u.state }
 
-  pub selecting : Selecting sh q p new
-  selecting = record { selector = u.selector; known = state_known u.state }
+-- of a part
+pub selecting : {t : List ℕ} {sh : Extent} {q : Selector} {p : UsageFlags} {new : ℕ} → TakenUse t sh (Some q) p new → Selecting sh q p new
+selecting u = record { selector = u.within; known = state_known u.state }

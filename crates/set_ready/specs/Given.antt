@@ -5,6 +5,7 @@ use Rattle.model.specs.{declared.{UsageFlags.UsageFlags, Extent.Extent}, Texture
 use Rattle.std.specs.Prelude.{◌+◌, ◌<◌, ◌≡◌}
 use Rattle.set_storage.specs.Storage.{numbers_of, flags_of, extent_of, owned_of, start_half, end_half, held_of, complex_at, owned_at}
 use Rattle.set_storage.specs.{Storage.{textures_at, table_indices}, Stays.{Only, OnlyOwned}, Frames.Measured}
+use Rattle.set_storage.specs.{declared.stored.Stored.Stored, Stored.{HeldAs, word_of}}
 use Rattle.set_storage.specs.Texture.{TextureReady, TextureHeld}
 use Rattle.texture_merge.specs.FromSet.{GivenReady, SetReady, MergeReady}
 use Rattle.texture_update.specs.FromSet.{UpdateFromReady}
@@ -31,10 +32,10 @@ owned_given {g = g} {r} {i} k e n o =
     let f = k.slots i n in let h = half_fits start_half g r i (f.extent o).mips (f.held o) in
     record { measured = k.measured; texture = n; flags = e; extent = refl; fits = f.extent o; held = h }
 
--- ---- What follows
-module _ {t g l : List ℕ} {i from : ℕ} {sh : Extent} (q : HalfGiven t i sh from g l) where
+-- ---- What follows, of a stored texture
+module _ (g : Stored) {t : List ℕ} {sh : Extent} (q : HalfGiven t g.i sh g.half g.table.now g.ranges.now) where
   -- for the transitions to it
-  pub given_textured : TextureHeld (numbers_of g) from g l i sh
+  pub given_textured : HeldAs g sh
   given_textured =
       let n = q.texture in let y = q.fits in let e = q.extent in
       texture_held q.measured (record { texture = n; mip = y.mip; top = y.mips; some = y.layer; low = y.layers; own = λ o. e })
@@ -42,27 +43,27 @@ module _ {t g l : List ℕ} {i from : ℕ} {sh : Extent} (q : HalfGiven t i sh f
 
   -- for the functions that take it, by the flags p
   module _ {p : UsageFlags} (e : p ≡ flags_of t) where
-    given_ready : GivenReady from g l i sh p
+    given_ready : GivenReady g sh p
     given_ready = record { texture = given_textured; flags = q.flags ∙ sym e }
 
     -- into a texture of a table with the same flags
-    pub set_ready : {h : ℕ} {t' r : List ℕ} → TextureReady (numbers_of t') h t' r i sh → flags_of t' ≡ flags_of t
-        → SetReady h t' r i sh from g l p
+    pub set_ready : {h : ℕ} {t' r : List ℕ} → TextureReady (numbers_of t') h t' r g.i sh → flags_of t' ≡ flags_of t
+        → SetReady h t' r sh g p
     set_ready x same = record { texture = x; flags = e ∙ sym same; given = given_ready }
 
     -- into what a half holds
-    pub merge_ready : {h : ℕ} {r : List ℕ} → TextureHeld (numbers_of t) h t r i sh → MergeReady h t r i sh from g p
+    pub merge_ready : {h : ℕ} {r : List ℕ} → TextureHeld (numbers_of t) h t r g.i sh → MergeReady h t r sh g p
     merge_ready {h} x = record {
       tiled = x.tiled;
       plain = λ c.
-          let w : get_or g complex_at 0 ≡ get_or t complex_at 0 = ap (λ (y : UsageFlags). y.complex) q.flags in
+          let w : get_or g.table.now complex_at 0 ≡ get_or t complex_at 0 = ap (λ (y : UsageFlags). y.complex) q.flags in
           let s = q.held.state (λ z. c (z ∙ w ∙ sym (ap (λ (y : UsageFlags). y.complex) e))) in
-          union_not_bit (get_or t (h + i) 0) (get_or g (from + i) 0) (get_or t complex_at 0) s.state.nonzero (rw w at s.state.plain);
+          union_not_bit (get_or t (h + g.i) 0) (word_of g) (get_or t complex_at 0) s.state.nonzero (rw w at s.state.plain);
     }
 
     -- into both halves of a tracker's texture
-    pub given_update : {s z : List ℕ} → TextureHeld (numbers_of t) start_half t s i sh → TextureHeld (numbers_of t) end_half t z i sh
-        → UpdateFromReady t s z i sh from g l p
+    pub given_update : {s z : List ℕ} → TextureHeld (numbers_of t) start_half t s g.i sh → TextureHeld (numbers_of t) end_half t z g.i sh
+        → UpdateFromReady t s z sh g p
     given_update x y = record { start = x; end = y; flags = e; given = given_ready }
 
 -- ---- Index i, where the set with the table g may own a texture: there one is ready for it, and it is given

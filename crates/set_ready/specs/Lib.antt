@@ -1,4 +1,5 @@
 pub mod Tested
+pub mod Parts
 pub mod Checked
 pub mod Half
 pub mod Given

@@ -7,12 +7,12 @@ use Rattle.model.specs.{Sets.Numbers, Representation.{mip_start, mip_end, layer_
 use Rattle.std.specs.Prelude.{◌+◌, ◌≤◌, ◌<◌, ◌≡◌}
 use Rattle.range_states.specs.View.{decode}
 use Rattle.texture_mips.specs.{declared.uniting.Merged.Merged, Paint.Leaves, Merge.{Walked, conflict_of}}
-use Rattle.set_storage.specs.{declared.Located.Located, Locate.LocatedAt}
+use Rattle.set_storage.specs.{declared.Located.Located, Locate.LocatedAt, Stored.lent_part}
 use Rattle.set_storage.specs.Storage.{numbers_of, mips_in, mip_of, mips_of, layers_at, count_at}
 use Rattle.set_storage.specs.Frames.{Measured, MipsBecome, MipReady, mips_long, mips_top}
 use Rattle.texture_merge.specs.Walking.{walk_rest, among, among_in, among_under, among_over, walk_edits, walk_fresh}
 use Rattle.texture_merge.specs.Walks.{MipWalk, MipWalked, MipsWalked, walk_from, walk_measured, walk_word, walk_count, walk_ready}
-use Rattle.texture_merge.specs.Ready.{lent_part, put_back, lent_is, mip_left}
+use Rattle.texture_merge.specs.Ready.{put_back, lent_is, mip_left}
 use Rattle.texture_merge.specs.{Walks.{walk_here, walk_on, walk_stopped, walk_done}, Ready.{MipTiled, ManyReady, PieceReady, Selects}}
 
 pub lap_small : {h i m layers : ℕ} {t r : List ℕ} → ManyReady (numbers_of t) h t r i layers → m < mips_in (numbers_of t) t i → m < 16

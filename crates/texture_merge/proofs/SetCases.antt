@@ -6,6 +6,7 @@ use Rattle.model.specs.{Sets.Numbers, RangedStates.range}
 use Rattle.model.specs.Texture.{single, many, Given, given_single, pieces_of, from_held, fresh_mips, paint_all, insert, spread_piece, merge}
 use Rattle.std.specs.Prelude.{◌+◌, ◌<◌, ◌≡◌, ◌∷◌}
 use Rattle.set_storage.specs.{Storage.{numbers_of, count_at, mips_of, held_of, complex_at, layers_at}, Stays.{Frame, keeps_then}}
+use Rattle.set_storage.specs.{declared.stored.Stored.Stored, Stored.{word_of, mips_stored, held_in}}
 use Rattle.set_storage.specs.Frames.{MipsBecome, frame_below, half_of, measured_then}
 use Rattle.set_storage.specs.Slots.{HalfBecomes, become_single, become_many, become_marked, held_single, held_many}
 use Rattle.set_storage.specs.Texture.{TextureReady, texture_then, texture_dims}
@@ -15,36 +16,39 @@ use Rattle.texture_merge.specs.Giving.{inserted, inserts, merged, GivenTexture}
 use Rattle.texture_merge.specs.FromSet.{SetReady, MergeReady, given_state_lem, given_pieces, given_many_lem}
 use Rattle.texture_merge.proofs.Breaking.{break_many, break_texture, break_then}
 
-module _ {h i from : ℕ} {sh : Extent} {p : UsageFlags} {t r t₂ r₂ : List ℕ} (x : SetReady h t r i sh from t₂ r₂ p) where
+module _ {h : ℕ} {t r : List ℕ} {sh : Extent} {g : Stored} {p : UsageFlags} (x : SetReady h t r sh g p) where
   complex_is : p.complex ≡ get_or t complex_at 0
   complex_is = ap (λ (y : UsageFlags). y.complex) x.flags
 
+  abbrev i : ℕ
+  i = g.i
+
   abbrev gs : List (List Range)
-  gs = mips_of (numbers_of t₂) from t₂ r₂ i
+  gs = mips_stored g
 
   abbrev given : Given
-  given = from_held (held_of (numbers_of t₂) from t₂ r₂ i)
+  given = from_held (held_in g)
 
   -- ---- the given texture is Single
-  module _ (c : get_or t₂ (from + i) 0 ≡ p.complex → ⊥) where
-    pub insert_single : HalfBecomes (numbers_of t) h i (insert p sh given) t r (set t (h + i) (get_or t₂ (from + i) 0)) r
+  module _ (c : word_of g ≡ p.complex → ⊥) where
+    pub insert_single : HalfBecomes (numbers_of t) h i (insert p sh given) t r (set t (h + i) (word_of g)) r
     unfolding insert
     insert_single = rw (given_state_lem x.given c) (become_single x.texture.measured x.texture.index (λ z. c (z ∙ sym complex_is)))
 
     pub merge_single_lem : {z : Stopped} {t' r' : List ℕ}
-        → HalfMerged (numbers_of t) h i (merge p sh (held_of (numbers_of t) h t r i) (given_single (get_or t₂ (from + i) 0))) t r z t' r'
+        → HalfMerged (numbers_of t) h i (merge p sh (held_of (numbers_of t) h t r i) (given_single (word_of g))) t r z t' r'
         → HalfMerged (numbers_of t) h i (merge p sh (held_of (numbers_of t) h t r i) given) t r z t' r'
     merge_single_lem {z} {t'} {r'} m =
-        subst (λ (g : Given). HalfMerged (numbers_of t) h i (merge p sh (held_of (numbers_of t) h t r i) g) t r z t' r')
+        subst (λ (y : Given). HalfMerged (numbers_of t) h i (merge p sh (held_of (numbers_of t) h t r i) y) t r z t' r')
         (sym (given_state_lem x.given c)) m
 
   -- ---- the given texture is Many
-  module _ (c : get_or t₂ (from + i) 0 ≡ p.complex) where
+  module _ (c : word_of g ≡ p.complex) where
     -- insert: made anew UNKNOWN, and painted
     module _ {t₃ r₃ : List ℕ}
         (b : MipsBecome (numbers_of (set t (h + i) p.complex)) h i (replicate sh.mips (range 0 sh.layers p.unknown ∷ []))
         (set t (h + i) p.complex) r t₃ r₃) where
-      pub insert_ready : ManyReady (numbers_of t₃) h t₃ r₃ i (get_or t₃ (layers_at i) 0) × GivenTexture t₃ i sh.mips from t₂ r₂
+      pub insert_ready : ManyReady (numbers_of t₃) h t₃ r₃ i (get_or t₃ (layers_at i) 0) × GivenTexture t₃ sh.mips g
       insert_ready = (break_many x.texture x.flags p.unknown b, given_many_lem x.given c (break_texture x.texture x.flags p.unknown b))
 
       pub insert_many : {z : Stopped} {t₄ r₄ : List ℕ}
@@ -56,13 +60,13 @@ module _ {h i from : ℕ} {sh : Extent} {p : UsageFlags} {t r t₂ r₂ : List �
           (inserts p (pieces_of gs) (mips_of (numbers_of t₃) h t₃ r₃ i)) w.into in
           rw (given_pieces x.given c) (break_then x.texture x.flags p.unknown b (paint_all p.unknown (pieces_of gs)) v)
 
-    module _ (y : MergeReady h t r i sh from t₂ p) where
+    module _ (y : MergeReady h t r sh g p) where
       -- merge into Many
       module _ (e : get_or t (h + i) 0 ≡ p.complex) where
         told : get_or t (h + i) 0 ≡ get_or t complex_at 0
         told = e ∙ complex_is
 
-        pub many_ready : HalfTiled h t r i × GivenTexture t i sh.mips from t₂ r₂
+        pub many_ready : HalfTiled h t r i × GivenTexture t sh.mips g
         many_ready = (many_of (record { ready = x.texture; tiled = y.tiled }) told _ x.texture.layers, given_many_lem x.given c x.texture)
 
         pub many_many : {z : Stopped} {t' r' : List ℕ}
@@ -82,7 +86,7 @@ module _ {h i from : ℕ} {sh : Extent} {p : UsageFlags} {t r t₂ r₂ : List �
         dims₃ : numbers_of t₃ ≡ numbers_of t
         dims₃ = third.measured.dims
 
-        pub spread_ready : ManyReady (numbers_of t₃) h t₃ r₃ i (get_or t₃ (layers_at i) 0) × GivenTexture t₃ i sh.mips from t₂ r₂
+        pub spread_ready : ManyReady (numbers_of t₃) h t₃ r₃ i (get_or t₃ (layers_at i) 0) × GivenTexture t₃ sh.mips g
         spread_ready = (
           subst (λ (d : Numbers). ManyReady d h t₃ r₃ i (get_or t₃ (layers_at i) 0)) (sym dims₃)
               (fresh_many third cur b.mips _ third.layers),

@@ -7,9 +7,10 @@ use Rattle.model.specs.{Base.{each_at, Stop, fine, ruled, and_then, onward, pass
 use Rattle.model.specs.{Representation.{select, layer_start, layer_end, in_mips}, RangedStates.{paint, Tiles}}
 use Rattle.model.specs.{Texture.{Piece, on_mips, paint_all, spread_piece, spread_end, merge_mip, invalid_use}, BoolLaws.by_test}
 use Rattle.model.specs.RangeLaws.{paint_tiles, tiles_le}
-use Rattle.std.specs.Prelude.{◌*◌, ◌≤◌, ◌<◌, ◌≡◌, ◌∷◌, ◌++◌}
+use Rattle.std.specs.Prelude.{◌≤◌, ◌<◌, ◌≡◌, ◌∷◌, ◌++◌}
 use Rattle.range_states.specs.View.{decode}
 use Rattle.texture_mips.specs.{Merge.{merge_mip_lem, merge_other}, Kept.{run_tiles, update_tiles}}
+use Rattle.set_storage.specs.declared.stored.{Run.Run, Stored.Stored}
 use Rattle.set_storage.specs.{Storage.{numbers_of, mips_in, mips_of, layers_at, start_half}, Stays.{Frame, keeps_refl, keeps_then}}
 use Rattle.set_storage.specs.Frames.{Measured, frame_below, measured_then, mip_at, mips_long}
 use Rattle.texture_merge.specs.Walks.{Stopped, MipsWalked}
@@ -218,15 +219,14 @@ module _ {h i layers : ℕ} {goal : Stop InvalidUse (List (List Range))} {t₀ r
       }
 
 -- ---- What is given: a mip whose ranges tile the layers, and a texture of such mips
-pub record GivenMip (t : List ℕ) (i m : ℕ) (part : List ℕ) (len : ℕ) : Type 0 where
+pub record GivenMip (t : List ℕ) (i m : ℕ) (run : Run) : Type 0 where
   pub mip : m < mips_in (numbers_of t) t i
-  pub fits : 3 * len ≤ length part
-  pub tiled : Tiles 0 (decode len part) (get_or t (layers_at i) 0)
+  pub tiled : Tiles 0 (decode run.len run.records.now) (get_or t (layers_at i) 0)
 
-pub record GivenTexture (t : List ℕ) (i mips h : ℕ) (t₂ r₂ : List ℕ) : Type 0 where
-  pub many : ManyReady (numbers_of t₂) h t₂ r₂ i (get_or t (layers_at i) 0)
-  pub own : mips ≡ mips_in (numbers_of t) t i
-  pub same : mips ≡ mips_in (numbers_of t₂) t₂ i
+pub record GivenTexture (t : List ℕ) (mips : ℕ) (g : Stored) : Type 0 where
+  pub many : ManyReady (numbers_of g.table.now) g.half g.table.now g.ranges.now g.i (get_or t (layers_at g.i) 0)
+  pub own : mips ≡ mips_in (numbers_of t) t g.i
+  pub same : mips ≡ mips_in (numbers_of g.table.now) g.table.now g.i
 
 -- pieces within the layers keep the mips tiled
 pub passes_tiled : (f : Does) → KeepsTiled f → (m w : ℕ) (rs : List Range) (a : ℕ) (ss : List (List Range)) → Tiles a rs w → Tiled w ss

@@ -11,7 +11,7 @@ use Rattle.range_isolate.specs.{Isolation.IsolateRoom, Tiling.isolate_room}
 use Rattle.set_storage.specs.{declared.Located.Located, Part.{base_of, part_of, part_length}}
 use Rattle.set_storage.specs.Storage.{numbers_of, mips_in, count_at, mip_part, mip_of, mips_of, end_half, complex_at, layer_limit_at}
 use Rattle.set_storage.specs.{Storage.{layers_at, mip_limit_at}, Frames.{Measured, MipsBecome, MipReady, mip_is, mip_at, mip_put, room_of}}
-use Rattle.set_storage.specs.{Locate.LocatedAt, Texture.{TextureReady, TextureHeld, tiles_few, texture_mips}}
+use Rattle.set_storage.specs.{Locate.LocatedAt, Stored.lent_part, Texture.{TextureReady, TextureHeld, tiles_few, texture_mips}}
 
 -- the mips once what a selector names took a state: the others stay, and each of these is coalesced
 abbrev pub updated_mips : ℕ → Selector → ℕ → List (List Range) → List (List Range)
@@ -32,11 +32,7 @@ pub tiled_is : {d : Numbers} {h i m layers : ℕ} {t r : List ℕ} → MipTiled 
     → mip_of d h t r i m ≡ decode (get_or t (count_at h i m) 0) (mip_part d r i m)
 tiled_is {d} {h} {i} {m} {layers} {t} {r} q = mip_is d h t r i m (tiled_few q)
 
--- ---- The part that is lent on: `ranges[x.base..x.end]`
-abbrev pub lent_part : Located → List ℕ → List ℕ
-lent_part x r = take (x.end - x.base) (drop x.base r)
-
--- the ranges with p in its place
+-- ---- The part that is lent on, `ranges[x.base..x.end]`: the ranges with p in its place
 abbrev pub put_back : Located → List ℕ → List ℕ → List ℕ
 put_back x r p = take x.base r ++ (p ++ drop (x.end - x.base) (drop x.base r))
 

@@ -1,30 +1,25 @@
 -- One use of a texture, in one half: what is asked for, and the contracts of `insert` and `merge`.
-use Rattle.model.specs.Prelude.{ℕ, arith, refl, sym, ap, Bool, true, false, false≢true, Option, None, Some, List, [], bit_or, get_or}
+use Rattle.model.specs.Prelude.{ℕ, arith, refl, sym, ap, Bool, true, false, Option, None, Some, List, bit_or, get_or}
 use Rattle.model.specs.Prelude.{result_err}
 use Rattle.model.specs.declared.{UsageFlags.UsageFlags, Extent.Extent, Selector.Selector, Range.Range, InvalidUse.InvalidUse}
 use Rattle.model.specs.{Base.{Stop, fine, stopped, and_then, walk}, StateRules.{invalid_state, unite}, Sets.Numbers, Representation.full}
-use Rattle.model.specs.CheckLaws.{SelectorWithin}
-use Rattle.model.specs.Texture.{Held, single, many, Given, given_single, given_many, fresh_mips, spread_piece, merge_mip, merge_every}
+use Rattle.model.specs.Texture.{Held, single, many, fresh_mips, spread_piece, merge_mip, merge_every}
 use Rattle.model.specs.Texture.{invalid_use, as_many, merge}
-use Rattle.std.specs.Prelude.{◌+◌, ◌≡◌, ◌∷◌, if◌then◌else◌}
+use Rattle.std.specs.{Prelude.{◌+◌, ◌≡◌, if◌then◌else◌}, Option.{unwrap_or}}
 use Rattle.set_storage.specs.{Storage.{numbers_of, flags_of, complex_at}, Slots.HalfBecomes, Texture.{TextureReady, RangesTile}}
+use Rattle.set_storage.specs.Uses.{piece, use_of, PartWithin}
 use Rattle.texture_merge.specs.{Walks.Stopped, Ready.updated_mips}
-
--- a use of all of a texture, or of what a selector names
-abbrev pub use_of : Bool → Selector → ℕ → Given
-use_of all q new = if all then given_single new else given_many (record { selector = q; state = new } ∷ [])
 
 -- a Single texture broken up by a selector with a state
 unfoldable pub broken_up : Extent → ℕ → Selector → ℕ → ℕ → Held
 broken_up sh was q u st = many (updated_mips u q st (fresh_mips sh was))
 
 -- what the checks and the test of the set have shown
-pub record UseReady (d : Numbers) (h : ℕ) (t r : List ℕ) (i : ℕ) (sh : Extent) (all : Bool) (q : Selector)
+pub record UseReady (d : Numbers) (h : ℕ) (t r : List ℕ) (i : ℕ) (sh : Extent) (part : Option Selector)
     (p : UsageFlags) (new : ℕ) : Type 0 where
   pub texture : TextureReady d h t r i sh
-  pub selector : SelectorWithin sh q
+  pub within : PartWithin sh part
   pub flags : p ≡ flags_of t
-  pub whole : all ≡ true → q ≡ full sh
   pub plain : new ≡ p.complex → ⊥
 
 -- what is held there already: ranges that tile the layers, or a state that with the new one is not COMPLEX
@@ -44,10 +39,10 @@ pub record HalfMerged (d : Numbers) (h i : ℕ) (w : Stop InvalidUse Held) (t r 
   pub into : HalfBecomes d h i w.value t r t' r'
 
 -- ---- The model's merge of one use, case by case
--- with a state that has another bit than COMPLEX, for a part
-pub use_with : {d : Numbers} {h i : ℕ} {sh : Extent} {all : Bool} {q : Selector} {p : UsageFlags} {new : ℕ} {t r : List ℕ} (u : ℕ)
-    → UseReady d h t r i sh all q p new → (u ≡ p.complex → ⊥) → UseReady d h t r i sh false q p u
-use_with u x c = record { texture = x.texture; selector = x.selector; flags = x.flags; whole = λ z. absurd (false≢true z); plain = c }
+-- with a state that has another bit than COMPLEX
+pub use_with : {d : Numbers} {h i : ℕ} {sh : Extent} {part : Option Selector} {p : UsageFlags} {new : ℕ} {t r : List ℕ} (u : ℕ)
+    → UseReady d h t r i sh part p new → (u ≡ p.complex → ⊥) → UseReady d h t r i sh part p u
+use_with u x c = record { texture = x.texture; within = x.within; flags = x.flags; plain = c }
 
 pub united : (p : UsageFlags) (old new u : ℕ) → unite p old new ≡ Some u → u ≡ bit_or old new
 unfolding unite
@@ -57,34 +52,34 @@ united p old new u e = go (invalid_state p (bit_or old new)) e
     go true q = absurd (let z : ◌≡◌ {A = ℕ} 0 1 = cc in omega arith)
     go false q = cc
 
--- Single, and the states do not fit: nothing changes, and the use's selector is told
-pub single_conflict : (p : UsageFlags) (sh : Extent) (cur new : ℕ) (all : Bool) (q : Selector) → (all ≡ true → q ≡ full sh)
-    → unite p cur new ≡ None → merge p sh (single cur) (use_of all q new) ≡ stopped (single cur) (invalid_use q cur new)
+-- Single, and the states do not fit: nothing changes, and what the use names is told
+pub single_conflict : (p : UsageFlags) (sh : Extent) (cur new : ℕ) (part : Option Selector) → unite p cur new ≡ None
+    → merge p sh (single cur) (use_of part new) ≡ stopped (single cur) (invalid_use (unwrap_or part (full sh)) cur new)
 unfolding merge spread_piece
-single_conflict p sh cur new true q w e = rw (e, w refl)
-single_conflict p sh cur new false q w e = rw e
+single_conflict p sh cur new None e = rw e
+single_conflict p sh cur new (Some q) e = rw e
 
 -- Single, and they fit: the union, or the texture broken up
-pub single_all : (p : UsageFlags) (sh : Extent) (cur new u : ℕ) (q : Selector) → unite p cur new ≡ Some u
-    → merge p sh (single cur) (use_of true q new) ≡ fine (single u)
+pub single_all : (p : UsageFlags) (sh : Extent) (cur new u : ℕ) → unite p cur new ≡ Some u
+    → merge p sh (single cur) (use_of None new) ≡ fine (single u)
 unfolding merge
-single_all p sh cur new u q e = rw e
+single_all p sh cur new u e = rw e
 
 pub single_part : (p : UsageFlags) (sh : Extent) (cur new u : ℕ) (q : Selector) → unite p cur new ≡ Some u
-    → merge p sh (single cur) (use_of false q new) ≡ fine (broken_up sh cur q p.unknown u)
+    → merge p sh (single cur) (use_of (Some q) new) ≡ fine (broken_up sh cur q p.unknown u)
 unfolding merge spread_piece broken_up
 single_part p sh cur new u q e = rw e
 
 -- Many
-pub many_all : (p : UsageFlags) (sh : Extent) (ss : List (List Range)) (new : ℕ) (q : Selector)
-    → merge p sh (many ss) (use_of true q new) ≡ as_many (walk (merge_every p new) 0 ss)
+pub many_all : (p : UsageFlags) (sh : Extent) (ss : List (List Range)) (new : ℕ)
+    → merge p sh (many ss) (use_of None new) ≡ as_many (walk (merge_every p new) 0 ss)
 unfolding merge
-many_all p sh ss new q = refl
+many_all p sh ss new = refl
 
 pub many_part : (p : UsageFlags) (sh : Extent) (ss : List (List Range)) (new : ℕ) (q : Selector)
-    → merge p sh (many ss) (use_of false q new) ≡ as_many (walk (merge_mip p (record { selector = q; state = new })) 0 ss)
+    → merge p sh (many ss) (use_of (Some q) new) ≡ as_many (walk (merge_mip p (piece q new)) 0 ss)
 unfolding merge
-many_part p sh ss new q = ap as_many (once (walk (merge_mip p (record { selector = q; state = new })) 0 ss))
+many_part p sh ss new q = ap as_many (once (walk (merge_mip p (piece q new)) 0 ss))
   where
     once : (w : Stop InvalidUse (List (List Range))) → and_then w.conflict w.value (fine w.value) ≡ w
     once w = go w.conflict refl

@@ -4,6 +4,7 @@ ghost use Rattle.model.specs.declared.UsageFlags.{UsageFlags};
 ghost use Rattle.model.specs.StateRules.{end_after};
 ghost use Rattle.model.specs.Texture.{spread_piece};
 ghost use Rattle.set_storage.specs.Storage.{numbers_of, mips_of};
+ghost use Rattle.set_storage.specs.Uses.{piece};
 ghost use Rattle.texture_merge.specs.Ready.{HalfTiled, Selects};
 ghost use Rattle.texture_merge.specs.Walks.{MipsWalked};
 ghost use Rattle.texture_merge.specs.Giving.{Does, KeepsTiled, inserted, inserted_tiled, merged, merged_tiled, spread_tiled};
@@ -32,7 +33,7 @@ pub trait Doing: Copy {
         requires half_tiled { HalfTiled half table.old ranges.old i }
         requires selects { Selects (numbers_of table.old) table.old i q }
         ensures { let t = table.old in let r = ranges.old in let d = numbers_of t in
-            MipsWalked d half i (does self p (record { selector = q; state = new }) (mips_of d half t r i))
+            MipsWalked d half i (does self p (piece q new) (mips_of d half t r i))
             t r result table.new ranges.new };
 
     ghost keeps_tiled: { (s : Self) (p : UsageFlags) → KeepsTiled (does s p) };

@@ -5,12 +5,13 @@ ghost use Rattle.model.specs.Representation.{layer_start, layer_end};
 ghost use Rattle.model.specs.RangedStates.{range};
 ghost use Rattle.model.specs.Texture.{on_mips, merge_mip, merge_every};
 ghost use Rattle.set_storage.specs.Storage.{numbers_of, mips_of};
+ghost use Rattle.set_storage.specs.Uses.{piece};
 ghost use Rattle.set_storage.specs.Frames.{MipsBecome};
 ghost use Rattle.texture_merge.specs.Ready.{HalfTiled, Selects, EveryReady};
 ghost use Rattle.texture_merge.specs.Walks.{MipsWalked};
 
 use crate::mip::{Edit, conflict_on};
-use model::{InvalidUse, Selector, UsageFlags};
+use model::{Extent, InvalidUse, Selector, UsageFlags};
 use set_storage::{Table, locate, set_count, wide};
 
 // `ComplexTextureState::new`, in any state: each mip one range over all layers.
@@ -19,18 +20,17 @@ pub fn fresh_mips(
     ranges: &mut [u32],
     half: usize,
     i: usize,
-    mips: usize,
-    layers: u32,
+    extent: Extent,
     state: u32,
 )
-    requires { EveryReady (numbers_of table.old) half table.old ranges.old i mips }
+    requires { EveryReady (numbers_of table.old) half table.old ranges.old i extent.mips }
     ensures { let t = table.old in
-        MipsBecome (numbers_of t) half i (replicate mips (range 0 layers state ∷ []))
+        MipsBecome (numbers_of t) half i (replicate extent.mips (range 0 extent.layers state ∷ []))
         t ranges.old table.new ranges.new }
 {
-    for m in 0..mips {
+    for m in 0..wide(extent.mips) {
         let at = locate(table, ranges.len(), half, i, m);
-        texture_mips::fresh(&mut ranges[at.base..at.end], layers, state);
+        texture_mips::fresh(&mut ranges[at.base..at.end], extent.layers, state);
         set_count(table, half, i, m, 1);
     }
 }
@@ -73,7 +73,7 @@ pub fn merge_mips(
     requires half_tiled { HalfTiled half table.old ranges.old i }
     requires selects { Selects (numbers_of table.old) table.old i q }
     ensures { let t = table.old in let r = ranges.old in let d = numbers_of t in
-        MipsWalked d half i (walk (merge_mip p (record { selector = q; state = new })) 0 (mips_of d half t r i))
+        MipsWalked d half i (walk (merge_mip p (piece q new)) 0 (mips_of d half t r i))
         t r result table.new ranges.new }
 {
     let layers = q.layers;
@@ -94,16 +94,16 @@ pub fn merge_every_mips(
     ranges: &mut [u32],
     half: usize,
     i: usize,
-    mips: usize,
+    extent: Extent,
     p: UsageFlags,
     new: u32,
 ) -> Result<(), InvalidUse>
     requires half_tiled { HalfTiled half table.old ranges.old i }
-    requires every_ready { EveryReady (numbers_of table.old) half table.old ranges.old i mips }
+    requires every_ready { EveryReady (numbers_of table.old) half table.old ranges.old i extent.mips }
     ensures { let t = table.old in let r = ranges.old in let d = numbers_of t in
         MipsWalked d half i (walk (merge_every p new) 0 (mips_of d half t r i)) t r result table.new ranges.new }
 {
-    for m in 0..mips {
+    for m in 0..wide(extent.mips) {
         let at = locate(table, ranges.len(), half, i, m);
         let r = texture_mips::merge_every(&mut ranges[at.base..at.end], at.len, p, new);
         set_count(table, half, i, m, r.len);

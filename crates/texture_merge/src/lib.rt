@@ -5,10 +5,12 @@
 //
 //     mip        one mip: how it takes a state, and the conflict that a merge tells
 //     every      every mip, or those of a selector: `texture_mips` is lent the ranges of each, and their new count is written
-//     using      one use of the texture, for all of it or for a selector
+//     using      one use of the texture, of all of it or of the part that a selector names
 //     doing      what is done with a piece of another set's texture
-//     giving     the ranges of another set's texture, one after another
-//     from_set   another set's texture
+//     giving     the ranges of another set's texture, as it stands there (`Stored`), one after another
+//     from_set   another set's texture: its state as a use, or its ranges
+//
+// `(table, ranges, half, i)` stay parameters: of a struct with `&mut` fields, each method would have to promise them back (tried).
 //
 // What holds: a texture's words tell its extent, and where the half is Many its ranges tile the layers; every function requires that
 // (set_storage/specs/Texture: `TextureReady`, `TextureHeld`, which `UseReady`, `SetReady` and `MergeReady` extend) and keeps it. The half

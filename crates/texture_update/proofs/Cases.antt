@@ -1,12 +1,13 @@
 -- `update` of one use, case by case: what the code leaves is what the model's update gives.
-use Rattle.model.specs.Prelude.{ℕ, arith, refl, sym, ap, subst, ◌∙◌, false, List, get_or, set}
+use Rattle.model.specs.Prelude.{ℕ, arith, refl, sym, ap, subst, ◌∙◌, Some, List, get_or, set}
 use Rattle.model.specs.{declared.{UsageFlags.UsageFlags, Extent.Extent, Selector.Selector, Range.Range}, Representation.Ends}
 use Rattle.model.specs.Texture.{Held, single, many, Given, given_single, learn_all, met_by, update}
 use Rattle.std.specs.Prelude.{◌≡◌}
 use Rattle.set_storage.specs.Storage.{numbers_of, start_half, end_half, mips_of, held_of, ends_of, complex_at, state_at}
 use Rattle.set_storage.specs.Frames.{Measured, MipsBecome}
-use Rattle.set_storage.specs.{Slots.{HalfBecomes, become_single, become_many, held_single, held_many, half_low}, Texture.measured_low}
-use Rattle.texture_merge.specs.{Uses.{use_of, broken_up}, Ready.updated_mips}
+use Rattle.set_storage.specs.Slots.{HalfBecomes, become_single, become_many, held_single, held_many, half_low}
+use Rattle.set_storage.specs.{Texture.measured_low, Uses.{piece, use_of}}
+use Rattle.texture_merge.specs.{Uses.broken_up, Ready.updated_mips}
 use Rattle.texture_update.specs.Both.{BothBecome, BothMips, start_then_end, end_alone, mips_become}
 use Rattle.texture_update.specs.Update.{UpdateReady, Selecting, complex_is, state_single, state_kept, state_learnt, use_single, use_kept}
 use Rattle.texture_update.specs.Update.{use_learnt}
@@ -82,8 +83,8 @@ module _ {t s e : List ℕ} {i : ℕ} {sh : Extent} {p : UsageFlags} {new : ℕ}
   module _ {q : Selector} (x : Selecting sh q p new) where
     pub part_single : {t' e' : List ℕ} (cur : ℕ) → cur ≡ get_or t (state_at end_half i) 0 → (cur ≡ p.complex → ⊥)
         → HalfBecomes (numbers_of t) end_half i (broken_up sh cur q p.unknown new) t e t' e'
-        → BothBecome (numbers_of t) i (update p sh (ends_of (numbers_of t) t s e i) (use_of false q new)) t s e t' s e'
-    part_single cur z n h = ended (use_of false q new) (end_single (λ k. n (z ∙ k)) ∙ ap single (sym z))
+        → BothBecome (numbers_of t) i (update p sh (ends_of (numbers_of t) t s e i) (use_of (Some q) new)) t s e t' s e'
+    part_single cur z n h = ended (use_of (Some q) new) (end_single (λ k. n (z ∙ k)) ∙ ap single (sym z))
         (use_single p sh new q x.known (held_of (numbers_of t) start_half t s i) cur) h
 
     abbrev painted : List (List Range)
@@ -91,18 +92,18 @@ module _ {t s e : List ℕ} {i : ℕ} {sh : Extent} {p : UsageFlags} {new : ℕ}
 
     pub part_kept : {t' e' : List ℕ} → get_or t (state_at end_half i) 0 ≡ p.complex → (get_or t (state_at start_half i) 0 ≡ p.complex → ⊥)
         → MipsBecome (numbers_of t) end_half i painted t e t' e'
-        → BothBecome (numbers_of t) i (update p sh (ends_of (numbers_of t) t s e i) (use_of false q new)) t s e t' s e'
+        → BothBecome (numbers_of t) i (update p sh (ends_of (numbers_of t) t s e i) (use_of (Some q) new)) t s e t' s e'
     part_kept c n b =
-        ended (use_of false q new) (end_many c)
+        ended (use_of (Some q) new) (end_many c)
         (rw (start_single n) (use_kept p sh new q x.known (get_or t (state_at start_half i) 0) (mips_of (numbers_of t) end_half t e i)))
         (become_many r.end.ready.measured r.end.ready.index (c ∙ complex_is r) b)
 
     pub part_learnt : {t' s' e' : List ℕ} → get_or t (state_at end_half i) 0 ≡ p.complex → get_or t (state_at start_half i) 0 ≡ p.complex
-        → BothMips (numbers_of t) i (learn_all (met_by p.unknown (record { selector = q; state = new })) p.unknown new 0
+        → BothMips (numbers_of t) i (learn_all (met_by p.unknown (piece q new)) p.unknown new 0
         (mips_of (numbers_of t) end_half t e i) (mips_of (numbers_of t) start_half t s i)) painted t s e t' s' e'
-        → BothBecome (numbers_of t) i (update p sh (ends_of (numbers_of t) t s e i) (use_of false q new)) t s e t' s' e'
+        → BothBecome (numbers_of t) i (update p sh (ends_of (numbers_of t) t s e i) (use_of (Some q) new)) t s e t' s' e'
     part_learnt {t'} {s'} {e'} c d b =
         subst (λ (y : Ends Held). BothBecome (numbers_of t) i y t s e t' s' e')
-        (held_is (use_of false q new) _ (start_many d) (end_many c) (use_learnt p sh new q x.known (mips_of (numbers_of t) start_half t s i)
-        (mips_of (numbers_of t) end_half t e i)))
+        (held_is (use_of (Some q) new) _ (start_many d) (end_many c)
+        (use_learnt p sh new q x.known (mips_of (numbers_of t) start_half t s i) (mips_of (numbers_of t) end_half t e i)))
         (mips_become r.start.ready.measured r.end.ready.measured r.start.ready.index (d ∙ complex_is r) (c ∙ complex_is r) b)

@@ -5,8 +5,8 @@ use Rattle.std.specs.Prelude.{◌+◌, ◌≤◌, ◌<◌, ◌≡◌}
 use Rattle.range_states.specs.View.{decode}
 use Rattle.texture_mips.specs.{Learn.LearnRoom, Kept.{learn_room, tiles_within}}
 use Rattle.set_storage.specs.{declared.Located.Located, Storage.{numbers_of, start_half, end_half, mips_in, mip_of, mips_of, layers_at}}
-use Rattle.set_storage.specs.{Frames.{MipsBecome, half_of, mips_top}, Locate.LocatedAt}
-use Rattle.texture_merge.specs.{Ready.{lent_part, lent_fits, lent_layers, lent_tiled}, Walks.{MipWalk, walk_measured, walk_word}}
+use Rattle.set_storage.specs.{Frames.{MipsBecome, half_of, mips_top}, Locate.LocatedAt, Stored.lent_part}
+use Rattle.texture_merge.specs.{Ready.{lent_fits, lent_layers, lent_tiled}, Walks.{MipWalk, walk_measured, walk_word}}
 use Rattle.texture_update.specs.{Both.{away_mip, tiled_low}, Learning.{PairTiled, BothReady, walk_learn}}
 use Rattle.texture_merge.proofs.Laps.{lap_tiled, lap_on, lap_end}
 

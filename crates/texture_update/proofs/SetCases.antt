@@ -3,8 +3,9 @@ use Rattle.model.specs.Prelude.{ℕ, suc, arith, sym, ap, subst, ◌∙◌, List
 use Rattle.model.specs.{declared.{UsageFlags.UsageFlags, Extent.Extent, Range.Range, InvalidUse.InvalidUse}, Base.{Stop, passes}}
 use Rattle.model.specs.{Representation.Ends, RangedStates.range}
 use Rattle.model.specs.{Texture.{Held, single, Given, given_single, pieces_of, from_held, spread_end, update}, BoolLaws.by_eq}
-use Rattle.std.specs.Prelude.{◌+◌, ◌≡◌, ◌∷◌}
+use Rattle.std.specs.Prelude.{◌≡◌, ◌∷◌}
 use Rattle.set_storage.specs.{Storage.{numbers_of, start_half, end_half, mips_of, held_of, ends_of, layers_at, state_at}, Frames.MipsBecome}
+use Rattle.set_storage.specs.{declared.stored.Stored.Stored, Stored.{word_of, mips_stored, held_in}}
 use Rattle.texture_merge.specs.{Walks.{Stopped, MipsWalked}, Ready.ManyReady}
 use Rattle.texture_merge.specs.{Giving.{covered, covers, GivenTexture, many_tiled}, FromSet.{given_state_lem, given_pieces, given_many_lem}}
 use Rattle.texture_update.specs.{Both.BothBecome, Update.{UpdateReady, start_many, end_many}}
@@ -13,28 +14,30 @@ use Rattle.texture_update.specs.FromSet.{UpdateFromReady, from_use_lem, pieces_s
 use Rattle.texture_merge.proofs.Breaking.{break_many, break_texture, break_then}
 use Rattle.texture_update.proofs.Cases as cases
 
-module _ {t s e : List ℕ} {i : ℕ} {sh : Extent} {from : ℕ} {t₂ r₂ : List ℕ} {p : UsageFlags}
-    (x : UpdateFromReady t s e i sh from t₂ r₂ p) where
+module _ {t s e : List ℕ} {sh : Extent} {g : Stored} {p : UsageFlags} (x : UpdateFromReady t s e sh g p) where
+  abbrev i : ℕ
+  i = g.i
+
   abbrev gs : List (List Range)
-  gs = mips_of (numbers_of t₂) from t₂ r₂ i
+  gs = mips_stored g
 
   abbrev given : Given
-  given = from_held (held_of (numbers_of t₂) from t₂ r₂ i)
+  given = from_held (held_in g)
 
   -- any state but COMPLEX makes a use of all of the texture
   any : UpdateReady t s e i sh p (suc p.complex)
   any = from_use_lem x (suc p.complex) (λ z. omega arith)
 
   -- ---- the given texture is Single
-  pub state_given : {t' s' e' : List ℕ} → (get_or t₂ (from + i) 0 ≡ p.complex → ⊥)
-      → BothBecome (numbers_of t) i (update p sh (ends_of (numbers_of t) t s e i) (given_single (get_or t₂ (from + i) 0))) t s e t' s' e'
+  pub state_given : {t' s' e' : List ℕ} → (word_of g ≡ p.complex → ⊥)
+      → BothBecome (numbers_of t) i (update p sh (ends_of (numbers_of t) t s e i) (given_single (word_of g))) t s e t' s' e'
       → BothBecome (numbers_of t) i (update p sh (ends_of (numbers_of t) t s e i) given) t s e t' s' e'
   state_given {t'} {s'} {e'} c b =
-      subst (λ (g : Given). BothBecome (numbers_of t) i (update p sh (ends_of (numbers_of t) t s e i) g) t s e t' s' e')
+      subst (λ (y : Given). BothBecome (numbers_of t) i (update p sh (ends_of (numbers_of t) t s e i) y) t s e t' s' e')
       (sym (given_state_lem x.given c)) b
 
   -- ---- the given texture is Many
-  module _ (c : get_or t₂ (from + i) 0 ≡ p.complex) where
+  module _ (c : word_of g ≡ p.complex) where
     -- and so is the end: it takes the pieces in turn
     module _ (m : get_or t (state_at end_half i) 0 ≡ p.complex) where
       start_tiled : HeldTiled (get_or t (layers_at i) 0) (held_of (numbers_of t) start_half t s i)
@@ -43,7 +46,7 @@ module _ {t s e : List ℕ} {i : ℕ} {sh : Extent} {from : ℕ} {t₂ r₂ : Li
           (λ k. subst (λ (y : Held). HeldTiled (get_or t (layers_at i) 0) y) (sym (cases.start_many any k)) (many_tiled (start_many any k)))
           (λ n. subst (λ (y : Held). HeldTiled (get_or t (layers_at i) 0) y) (sym (cases.start_single any n)) tt)
 
-      pub pieces_ready : PairReady t s e i p × GivenTexture t i sh.mips from t₂ r₂
+      pub pieces_ready : PairReady t s e i p × GivenTexture t sh.mips g
       pieces_ready = (
         record {
           starts = x.start.ready.measured;
@@ -73,7 +76,7 @@ module _ {t s e : List ℕ} {i : ℕ} {sh : Extent} {from : ℕ} {t₂ r₂ : Li
     module _ {cur : ℕ} (z : cur ≡ get_or t (state_at end_half i) 0) (n : cur ≡ p.complex → ⊥) {t₃ e₃ : List ℕ}
         (b : MipsBecome (numbers_of (set t (state_at end_half i) p.complex)) end_half i (replicate sh.mips (range 0 sh.layers cur ∷ []))
         (set t (state_at end_half i) p.complex) e t₃ e₃) where
-      pub cover_ready : ManyReady (numbers_of t₃) end_half t₃ e₃ i (get_or t₃ (layers_at i) 0) × GivenTexture t₃ i sh.mips from t₂ r₂
+      pub cover_ready : ManyReady (numbers_of t₃) end_half t₃ e₃ i (get_or t₃ (layers_at i) 0) × GivenTexture t₃ sh.mips g
       cover_ready = (break_many x.end.ready x.flags cur b, given_many_lem x.given c (break_texture x.end.ready x.flags cur b))
 
       pub cover_done : {y : Stopped} {t₄ e₄ : List ℕ}

@@ -1,17 +1,17 @@
 -- The loops over the ranges of a given mip, and over the given mips, on both halves: what each lap needs, and where it leaves the storage.
-use Rattle.model.specs.Prelude.{ℕ, suc, add-one, arith, refl, sym, ap, subst, ◌∙◌, List, [], map, length, get_or, drop}
+use Rattle.model.specs.Prelude.{ℕ, suc, add-one, arith, sym, ap, subst, ◌∙◌, List, [], map, get_or, drop}
 use Rattle.model.specs.{declared.{UsageFlags.UsageFlags, Range.Range}, Sets.Numbers, Representation.{Ends, select}, RangedStates.Tiles}
 use Rattle.model.specs.{Texture.{Held, pieces_of}, RangeLaws.tiles_le}
 use Rattle.std.specs.Prelude.{◌+◌, ◌≤◌, ◌<◌, ◌≡◌, ◌∷◌}
 use Rattle.range_states.specs.View.{view, blank, decode}
-use Rattle.set_storage.specs.declared.{Located.Located}
-use Rattle.set_storage.specs.Storage.{numbers_of, start_half, end_half, mips_of, ends_of, layers_at, layer_limit_at, textures_at}
-use Rattle.set_storage.specs.{Frames.{Measured, mips_top}, Locate.LocatedAt, Stays.{BothFrame, both_refl, both_then}}
+use Rattle.set_storage.specs.declared.stored.{Run.Run, Stored.Stored}
+use Rattle.set_storage.specs.Storage.{numbers_of, start_half, end_half, ends_of, layers_at, layer_limit_at, textures_at}
+use Rattle.set_storage.specs.{Frames.{Measured, mips_top}, Stays.{BothFrame, both_then}, Stored.{ranges_of, mips_stored}}
 use Rattle.set_storage.specs.Texture.{measured_low, numbers_low, flags_low}
-use Rattle.texture_merge.specs.{Ready.{Selects, lent_part}, Giving.{piece_on, pieces_from, GivenMip, GivenTexture}}
+use Rattle.texture_merge.specs.{Ready.Selects, Giving.{piece_on, pieces_from, GivenMip, GivenTexture}}
 use Rattle.texture_update.specs.{Both.{BothBecome, low_of}, Pieces.{updated, updates, updates_append, EndsTiled, updated_tiled, PairReady}}
 use Rattle.texture_merge.proofs.Given.{SameTexture, same_texture, range_none, range_next, range_inside, range_within, mips_none, mip_next}
-use Rattle.texture_merge.proofs.Given.{mip_within}
+use Rattle.texture_merge.proofs.Given.{mip_tiles, mip_within}
 
 -- ---- The storage on the way: `left` is what is still to be done
 pub record Taking (i : ℕ) (p : UsageFlags) (goal : Ends Held) (t₀ s₀ e₀ : List ℕ) (left : Ends Held → Ends Held)
@@ -19,10 +19,6 @@ pub record Taking (i : ℕ) (p : UsageFlags) (goal : Ends Held) (t₀ s₀ e₀ 
   pub ends : left (ends_of (numbers_of t₀) t s e i) ≡ goal
   pub frame : BothFrame (numbers_of t₀) i t₀ s₀ e₀ t s e
   pub ready : PairReady t s e i p
-
-taking_start : {t s e : List ℕ} {i : ℕ} {p : UsageFlags} → PairReady t s e i p → (left : Ends Held → Ends Held)
-    → Taking i p (left (ends_of (numbers_of t) t s e i)) t s e left t s e
-taking_start {t} {s} {e} {i} {p} x left = record { ends = refl; frame = both_refl t s e; ready = x }
 
 -- a change of the texture that keeps its halves tiled leaves it ready for the next
 module _ {t s e : List ℕ} {i : ℕ} {p : UsageFlags} {t' s' e' : List ℕ} (x : PairReady t s e i p)
@@ -69,32 +65,31 @@ module _ {i : ℕ} {p : UsageFlags} {goal : Ends Held} {t₀ s₀ e₀ : List �
   taking_end z = record { ends = sym (z (ends_of (numbers_of t₀) t s e i)) ∙ w.ends; frame = w.frame }
 
 -- ---- the ranges of one mip
-module _ {i : ℕ} {p : UsageFlags} {t₀ s₀ e₀ : List ℕ} (x : PairReady t₀ s₀ e₀ i p) {mip len : ℕ} {part : List ℕ}
-    (q : GivenMip t₀ i mip part len) where
+module _ {i : ℕ} {p : UsageFlags} {t₀ s₀ e₀ : List ℕ} (x : PairReady t₀ s₀ e₀ i p) {mip : ℕ} {run : Run}
+    (q : GivenMip t₀ i mip run) where
+  abbrev rs : List Range
+  rs = decode run.len run.records.now
+
   abbrev give : List Range → Ends Held → Ends Held
-  give rs = updates p.unknown (map (piece_on mip) rs)
+  give xs = updates p.unknown (map (piece_on mip) xs)
 
   abbrev pub RangeLap : ℕ → List ℕ → List ℕ → List ℕ → Type 0
-  RangeLap k t s e = Taking i p (give (decode len part) (ends_of (numbers_of t₀) t₀ s₀ e₀ i)) t₀ s₀ e₀
-      (give (drop k (decode len part))) t s e
-
-  pub range_start : RangeLap 0 t₀ s₀ e₀
-  range_start = taking_start x (give (decode len part))
+  RangeLap k t s e = Taking i p (give rs (ends_of (numbers_of t₀) t₀ s₀ e₀ i)) t₀ s₀ e₀ (give (drop k rs)) t s e
 
   pub range_small : mip < 16
   range_small = omega (arith, q.mip, mips_top (numbers_of t₀) t₀ i, x.starts.mips)
 
   module _ {k : ℕ} {t s e : List ℕ} (w : RangeLap k t s e) where
-    pub range_done : len ≤ k → BothBecome (numbers_of t₀) i (give (decode len part) (ends_of (numbers_of t₀) t₀ s₀ e₀ i)) t₀ s₀ e₀ t s e
+    pub range_done : run.len ≤ k → BothBecome (numbers_of t₀) i (give rs (ends_of (numbers_of t₀) t₀ s₀ e₀ i)) t₀ s₀ e₀ t s e
     unfolding updates
     range_done b = taking_end x w (λ y. rw (range_none q k b))
 
-    module _ (b : k < len) {r : Range} (z : r ≡ get_or (view part) k blank) where
+    module _ (b : k < run.len) {r : Range} (z : r ≡ get_or (view run.records.now) k blank) where
       pub range_selects : Selects (numbers_of t) t i (select mip (suc mip) r.start r.end)
       range_selects = range_within q k b z (same x w.frame)
 
       splits : (y : Ends Held)
-          → give (drop k (decode len part)) y ≡ give (drop (k + 1) (decode len part)) (updated p.unknown (piece_on mip r) y)
+          → give (drop k rs) y ≡ give (drop (k + 1) rs) (updated p.unknown (piece_on mip r) y)
       unfolding updates
       splits y = rw (range_next q k b z)
 
@@ -114,37 +109,34 @@ updates_tiled u m w (r ∷ rs) a y t k = updates_tiled u m w rs r.end (updated u
     (updated_tiled u (piece_on m r) w (omega arith) (tiles_le rs r.end w t.2) y k)
 
 -- ---- the mips of a texture
-module _ {i : ℕ} {p : UsageFlags} {t₀ s₀ e₀ : List ℕ} (x : PairReady t₀ s₀ e₀ i p) {mips from : ℕ} {t₂ r₂ : List ℕ}
-    (q : GivenTexture t₀ i mips from t₂ r₂) where
+module _ {t₀ s₀ e₀ : List ℕ} {p : UsageFlags} {mips : ℕ} {g : Stored} (x : PairReady t₀ s₀ e₀ g.i p) (q : GivenTexture t₀ mips g) where
   abbrev gs : List (List Range)
-  gs = mips_of (numbers_of t₂) from t₂ r₂ i
+  gs = mips_stored g
 
   abbrev pub MipLap : ℕ → List ℕ → List ℕ → List ℕ → Type 0
-  MipLap k t s e = Taking i p (updates p.unknown (pieces_of gs) (ends_of (numbers_of t₀) t₀ s₀ e₀ i)) t₀ s₀ e₀
+  MipLap k t s e = Taking g.i p (updates p.unknown (pieces_of gs) (ends_of (numbers_of t₀) t₀ s₀ e₀ g.i)) t₀ s₀ e₀
       (updates p.unknown (pieces_from k (drop k gs))) t s e
-
-  pub mip_start_lem : MipLap 0 t₀ s₀ e₀
-  mip_start_lem = taking_start x (updates p.unknown (pieces_from 0 gs))
 
   module _ {k : ℕ} {t s e : List ℕ} (w : MipLap k t s e) where
     pub mip_done : mips ≤ k
-        → BothBecome (numbers_of t₀) i (updates p.unknown (pieces_of gs) (ends_of (numbers_of t₀) t₀ s₀ e₀ i)) t₀ s₀ e₀ t s e
+        → BothBecome (numbers_of t₀) g.i (updates p.unknown (pieces_of gs) (ends_of (numbers_of t₀) t₀ s₀ e₀ g.i)) t₀ s₀ e₀ t s e
     unfolding updates
     mip_done b = taking_end x w (λ y. rw (mips_none q k b))
 
-    module _ (b : k < mips) {y : Located} (l : LocatedAt t₂ from i k (length r₂) y) where
-      pub mip_given : GivenMip t i k (lent_part y r₂) y.len
-      mip_given = mip_within q k b l (same x w.frame)
+    module _ (b : k < mips) where
+      pub mip_given : {run : Run} → decode run.len run.records.now ≡ ranges_of g k → GivenMip t g.i k run
+      mip_given l = mip_within q k b l (same x w.frame)
 
+    module _ (b : k < mips) {rs : List Range} (l : rs ≡ ranges_of g k) where
       abbrev one : Ends Held → Ends Held
-      one = updates p.unknown (map (piece_on k) (decode y.len (lent_part y r₂)))
+      one = updates p.unknown (map (piece_on k) rs)
 
       mip_splits : (v : Ends Held)
           → updates p.unknown (pieces_from k (drop k gs)) v ≡ updates p.unknown (pieces_from (k + 1) (drop (k + 1) gs)) (one v)
-      mip_splits v = rw (mip_next q k b l, add-one) (updates_append p.unknown (map (piece_on k) (decode y.len (lent_part y r₂)))
-          (pieces_from (suc k) (drop (suc k) gs)) v)
+      mip_splits v =
+          rw (mip_next q k b l, add-one) (updates_append p.unknown (map (piece_on k) rs) (pieces_from (suc k) (drop (suc k) gs)) v)
 
       pub mip_turn : {t' s' e' : List ℕ}
-          → BothBecome (numbers_of t) i (one (ends_of (numbers_of t) t s e i)) t s e t' s' e' → MipLap (k + 1) t' s' e'
-      mip_turn v = taking_turn x w one _ mip_splits v (λ z j. updates_tiled p.unknown k (get_or t (layers_at i) 0)
-          (decode y.len (lent_part y r₂)) 0 z mip_given.tiled j)
+          → BothBecome (numbers_of t) g.i (one (ends_of (numbers_of t) t s e g.i)) t s e t' s' e' → MipLap (k + 1) t' s' e'
+      mip_turn v = taking_turn x w one _ mip_splits v (λ z j. updates_tiled p.unknown k (get_or t (layers_at g.i) 0) rs 0 z
+          (rw (same x w.frame).layers (mip_tiles q k b l)) j)

@@ -11,8 +11,9 @@ use Rattle.texture_mips.specs.{Learn.LearnRoom, Kept.{learn_room, tiles_within}}
 use Rattle.set_storage.specs.declared.{Located.Located}
 use Rattle.set_storage.specs.Storage.{numbers_of, start_half, end_half, count_at, mips_in, mip_of, mips_of, layers_at, mips_at, state_at}
 use Rattle.set_storage.specs.{Frames.{MipReady, MipsBecome, half_of, mip_put, mips_long, mips_same, mips_top}, Slots.half_low}
-use Rattle.set_storage.specs.{Locate.LocatedAt, Stays.{BothFrame, both_refl, both_then}, Texture.{measured_low, numbers_low}}
-use Rattle.texture_merge.specs.Ready.{Selects, lent_part, put_back, mip_left, part_long, lent_is, lent_fits, lent_layers, lent_tiled}
+use Rattle.set_storage.specs.{Locate.LocatedAt, Stays.{BothFrame, both_refl, both_then}, Stored.lent_part, Uses.piece}
+use Rattle.set_storage.specs.Texture.{measured_low, numbers_low}
+use Rattle.texture_merge.specs.Ready.{Selects, put_back, mip_left, part_long, lent_is, lent_fits, lent_layers, lent_tiled}
 use Rattle.texture_merge.specs.Ready.{lent_room}
 use Rattle.texture_merge.specs.Walking.{InPlace, place_skip, walk_rest, walk_end, among, among_under, among_over, walk_edits}
 use Rattle.texture_merge.specs.Walks.{next_mip, next_turn}
@@ -70,7 +71,7 @@ module _ {t s e : List ℕ} {i m : ℕ} (q : PairTiled t s e i m) {x y : Located
 -- ---- every mip of a selector: m is the next one
 -- what the start's mip k learns by, of the end as it was
 abbrev pub taught : ℕ → ℕ → Selector → List ℕ → List ℕ → ℕ → ℕ → List Range → Stop InvalidUse (List Range)
-taught u new q t e i k x = fine (learn u new (met_by u (record { selector = q; state = new }) k (mip_of (numbers_of t) end_half t e i k)) x)
+taught u new q t e i k x = fine (learn u new (met_by u (piece q new) k (mip_of (numbers_of t) end_half t e i k)) x)
 
 abbrev pub given : ℕ → ℕ → Selector → List Range → List Range
 given u new q x = coalesce (paint u (layer_start q) (layer_end q) new x)
@@ -166,13 +167,13 @@ module _ (u new : ℕ) {q : Selector} {i : ℕ} {t₀ s₀ e₀ : List ℕ} (p :
         go false = refl
 
     pub turn_end : mip_end q ≤ m
-        → BothMips (numbers_of t₀) i (learn_all (met_by u (record { selector = q; state = new })) u new 0
+        → BothMips (numbers_of t₀) i (learn_all (met_by u (piece q new)) u new 0
         (mips_of (numbers_of t₀) end_half t₀ e₀ i) (mips_of (numbers_of t₀) start_half t₀ s₀ i))
         (on_mips q (given u new q) 0 (mips_of (numbers_of t₀) end_half t₀ e₀ i)) t₀ s₀ e₀ t s e
     turn_end b = record {
       starts = (walk_end (taught u new q t₀ e₀ i) w.starts.walking
           (walk_rest (taught u new q t₀ e₀ i) m _ (λ j x a. untaught j x (past j (omega arith))))).0
-          ∙ ap (λ (x : Stop InvalidUse (List (List Range))). x.value) (walk_learn (met_by u (record { selector = q; state = new })) u new
+          ∙ ap (λ (x : Stop InvalidUse (List (List Range))). x.value) (walk_learn (met_by u (piece q new)) u new
           (mip_of (numbers_of t₀) end_half t₀ e₀ i) (mip_of (numbers_of t₀) start_half t₀ s₀ i) 0 (mips_in (numbers_of t₀) t₀ i));
       ends = (walk_end (painting u new q) w.ends.walking
           (walk_rest (painting u new q) m _ (λ j x a. among_over q (λ k x. fine (given u new q x)) j x (omega arith)))).0

@@ -23,10 +23,10 @@ module _ {h : ℕ} {t₀ r₀ t r : List ℕ} (low : (x : ℕ) → x < start_hal
   pub tiled_low : (i m : ℕ) → ManyReady (numbers_of t₀) h t₀ r₀ i (get_or t₀ (layers_at i) 0) → m < mips_in (numbers_of t₀) t₀ i
       → mip_of (numbers_of t₀) h t r i m ≡ mip_of (numbers_of t₀) h t₀ r₀ i m → MipTiled (numbers_of t) h t r i m (get_or t (layers_at i) 0)
   tiled_low i m q b e =
-      let s = measured_low low long table q.measured in
       let l : get_or t (layers_at i) 0 ≡ get_or t₀ (layers_at i) 0 = low (layers_at i) (omega (arith, q.measured.textures, q.texture)) in
       let n : mips_in (numbers_of t₀) t i ≡ mips_in (numbers_of t₀) t₀ i =
       mips_same (numbers_of t₀) t₀ t i (low (mips_at i) (omega (arith, q.measured.textures, q.texture))) in
+      let s = measured_low low long table q.measured in
       subst (λ (x : Numbers). MipTiled x h t r i m (get_or t (layers_at i) 0)) (sym s.dims)
       (subst (λ (x : ℕ). MipTiled (numbers_of t₀) h t r i m x) (sym l)
       record {

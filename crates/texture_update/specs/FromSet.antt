@@ -3,21 +3,20 @@ use Rattle.model.specs.Prelude.{ℕ, refl, sym, List}
 use Rattle.model.specs.declared.{UsageFlags.UsageFlags, Extent.Extent, Range.Range}
 use Rattle.model.specs.Texture.{Held, single, many, given_many, Piece, fresh_mips, spread_end, update}
 use Rattle.std.specs.Prelude.{◌≡◌}
-use Rattle.set_storage.specs.{Storage.{numbers_of, flags_of, start_half, end_half}, Texture.TextureHeld}
+use Rattle.set_storage.specs.{declared.stored.Stored.Stored, Storage.{numbers_of, flags_of, start_half, end_half}, Texture.TextureHeld}
 use Rattle.texture_merge.specs.FromSet.{GivenReady}
 use Rattle.texture_update.specs.{Update.UpdateReady, Pieces.{updates, updates_are}}
 
--- texture i of a tracker, with the extent that it has in the given set
-pub record UpdateFromReady (t s e : List ℕ) (i : ℕ) (sh : Extent) (from : ℕ) (t₂ r₂ : List ℕ) (p : UsageFlags) : Type 0 where
-  pub start : TextureHeld (numbers_of t) start_half t s i sh
-  pub end : TextureHeld (numbers_of t) end_half t e i sh
+-- the texture of a tracker, with the extent that the given one has
+pub record UpdateFromReady (t s e : List ℕ) (sh : Extent) (g : Stored) (p : UsageFlags) : Type 0 where
+  pub start : TextureHeld (numbers_of t) start_half t s g.i sh
+  pub end : TextureHeld (numbers_of t) end_half t e g.i sh
   pub flags : p ≡ flags_of t
-  pub given : GivenReady from t₂ r₂ i sh p
+  pub given : GivenReady g sh p
 
 -- one state for all of the texture, as a use
-pub from_use_lem : {t s e : List ℕ} {i : ℕ} {sh : Extent} {from : ℕ} {t₂ r₂ : List ℕ} {p : UsageFlags}
-    → UpdateFromReady t s e i sh from t₂ r₂ p
-    → (new : ℕ) → (new ≡ p.complex → ⊥) → UpdateReady t s e i sh p new
+pub from_use_lem : {t s e : List ℕ} {sh : Extent} {g : Stored} {p : UsageFlags} → UpdateFromReady t s e sh g p
+    → (new : ℕ) → (new ≡ p.complex → ⊥) → UpdateReady t s e g.i sh p new
 from_use_lem x new c = record { start = x.start; end = x.end; flags = x.flags; plain = c }
 
 -- ---- The model's update by pieces: a Single end is broken up, a Many one takes them in turn

@@ -4,6 +4,7 @@ ghost use Rattle.model.specs.RangedStates.{isolate, coalesce, paint};
 ghost use Rattle.model.specs.Texture.{learn, learn_all, met_by};
 ghost use Rattle.set_storage.specs.Storage.{numbers_of, start_half, end_half, mips_in, mip_of, mips_of, layers_at};
 ghost use Rattle.set_storage.specs.Frames.{MipsBecome};
+ghost use Rattle.set_storage.specs.Uses.{piece};
 ghost use Rattle.texture_merge.specs.Ready.{updated_mips, Selects};
 ghost use Rattle.texture_update.specs.Both.{BothMips};
 ghost use Rattle.texture_update.specs.Learning.{PairTiled, BothReady};
@@ -114,7 +115,7 @@ pub fn update_both_mips(
     requires selects { Selects (numbers_of table.old) table.old i q }
     ensures { let t = table.old in let s = starts.old in let e = ends.old in let d = numbers_of t in
         BothMips d i
-        (learn_all (met_by unknown (record { selector = q; state = new })) unknown new 0
+        (learn_all (met_by unknown (piece q new)) unknown new 0
         (mips_of d end_half t e i) (mips_of d start_half t s i))
         (updated_mips unknown q new (mips_of d end_half t e i))
         t s e table.new starts.new ends.new }

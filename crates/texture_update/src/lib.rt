@@ -11,6 +11,8 @@
 // What holds: a half that is Many has ranges that tile the layers, and every function requires that (`TextureHeld` of each half, in
 // specs/Update: `UpdateReady` and specs/FromSet: `UpdateFromReady`). The texture becomes what the model's `update` gives, and nothing but
 // its states, counts and ranges changes (specs/Both: `BothBecome`, with set_storage's `BothFrame`).
+//
+// `(table, starts, ends, i)` stay parameters: of a struct with `&mut` fields, each method would have to promise them back (tried).
 #![tactic(auto)]
 
 pub mod both;

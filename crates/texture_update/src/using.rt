@@ -1,8 +1,8 @@
 // One use of a texture of a tracker: texture.rs, `update` where the state comes from a single use, for all of it or for a selector.
-ghost use Rattle.std.specs.Prelude.{false};
+ghost use Rattle.std.specs.Prelude.{Some};
 ghost use Rattle.model.specs.Texture.{given_single, update};
 ghost use Rattle.set_storage.specs.Storage.{numbers_of, ends_of};
-ghost use Rattle.texture_merge.specs.Uses.{use_of};
+ghost use Rattle.set_storage.specs.Uses.{use_of};
 ghost use Rattle.texture_update.specs.Both.{BothBecome};
 ghost use Rattle.texture_update.specs.Update.{UpdateReady, Selecting};
 
@@ -14,6 +14,7 @@ use texture_merge::mip::Update;
 use texture_merge::using::{break_up, set_state};
 
 // All of the texture takes a state; where its end was UNKNOWN, its start takes it too.
+#[inline(always)]
 pub fn update_state(
     table: &mut Table,
     starts: &mut [u32],
@@ -49,7 +50,7 @@ pub fn update_use(
     requires update_ready { UpdateReady table.old starts.old ends.old i extent p new }
     requires selecting { Selecting extent q p new }
     ensures { let t = table.old in let s = starts.old in let e = ends.old in let d = numbers_of t in
-        BothBecome d i (update p extent (ends_of d t s e i) (use_of false q new))
+        BothBecome d i (update p extent (ends_of d t s e i) (use_of (Some q) new))
         t s e table.new starts.new ends.new }
 {
     let cur = table[END + i];

@@ -4,19 +4,19 @@ use Rattle.texture_merge.proofs.from_set.insert_given.Goals as goal
 
 pub fresh_mips-requires : goal.fresh_mips-requires
 fresh_mips-requires c =
-    rw (c.set_state.ensures, c.if-word-p.true, c.wide-mips.ensures.0) (break_every c.requires.texture c.requires.flags)
+    rw (c.set_state.ensures, c.if-word-p.true) (break_every c.requires.texture c.requires.flags)
 
 pub give_mips-requires : goal.give_mips-requires
 give_mips-requires c =
-    rw c.wide-mips.ensures.0
-    (let w = (insert_ready c.requires c.if-word-p.true
-    (rw (c.set_state.ensures, c.if-word-p.true, c.wide-mips.ensures.0) at c.fresh_mips.ensures)) in
-    record { half_tiled = w.0; given_texture = w.1 })
+    let w = insert_ready c.requires (rw c.word-word.ensures at c.if-word-p.true)
+    (rw (c.set_state.ensures, c.if-word-p.true) at c.fresh_mips.ensures) in
+    record { half_tiled = w.0; given_texture = w.1 }
 
 pub returns-then-word-p : goal.returns-then-word-p
 returns-then-word-p c =
-    insert_many c.requires c.if-word-p.true (rw (c.set_state.ensures, c.if-word-p.true, c.wide-mips.ensures.0) at c.fresh_mips.ensures)
+    insert_many c.requires (rw c.word-word.ensures at c.if-word-p.true) (rw (c.set_state.ensures, c.if-word-p.true) at c.fresh_mips.ensures)
     c.give_mips.ensures
 
 pub returns-else-word-p : goal.returns-else-word-p
-returns-else-word-p c = rw c.set_state.ensures (insert_single c.requires c.if-word-p.false)
+returns-else-word-p c = rw (c.set_state.ensures, c.word-word.ensures)
+    (insert_single c.requires (rw c.word-word.ensures at c.if-word-p.false))

@@ -1,41 +1,16 @@
--- `merge_given`: each case is the model's; the word of a Single texture is written last, so that a conflict leaves it.
-use Rattle.std.specs.Prelude.{◌≡◌}
-use Rattle.std.proofs.Common.{rules}
-use Rattle.model.specs.Prelude.{refl, Err}
-use Rattle.texture_merge.specs.{Ready.texture_every}
-use Rattle.texture_merge.proofs.SetCases.{merge_single_lem, many_ready, many_many, spread_ready, spread_stop, spread_done}
+-- `merge_given`: where both are Single, their states are merged as those of a use of all of the texture.
+use Rattle.model.specs.Prelude.{refl, None}
+use Rattle.set_storage.specs.{Storage.numbers_of, Stored.word_of}
+use Rattle.texture_merge.specs.Uses.{UseReady, HeldReady}
+use Rattle.texture_merge.proofs.{SetCases.merge_single_lem, UseCases.single_merged}
 use Rattle.texture_merge.proofs.from_set.merge_given.Goals as goal
-
-pub returns-then-word-p : goal.returns-then-word-p
-returns-then-word-p c =
-    merge_single_lem c.requires.set_ready c.if-word-p.true c.merge_use.ensures
-
-pub give_mips-requires : goal.give_mips-requires
-give_mips-requires c =
-    rw c.wide-mips.ensures.0 (let w = (many_ready c.requires.set_ready c.if-word-p.false c.requires.merge_ready c.if-cur-p.true) in
-    record { half_tiled = w.0; given_texture = w.1 })
 
 pub returns-then-cur-p : goal.returns-then-cur-p
 returns-then-cur-p c =
-    many_many c.requires.set_ready c.if-word-p.false c.requires.merge_ready c.if-cur-p.true c.give_mips.ensures
-
-pub fresh_mips-requires : goal.fresh_mips-requires
-fresh_mips-requires c =
-    rw c.wide-mips.ensures.0 (texture_every c.requires.set_ready.texture)
-
-pub give_mips-requires-2 : goal.give_mips-requires-2
-give_mips-requires-2 c =
-    rw c.wide-mips.ensures.0
-    (let w = (spread_ready c.requires.set_ready c.if-word-p.false c.requires.merge_ready refl c.if-cur-p.false
-    (rw c.wide-mips.ensures.0 at c.fresh_mips.ensures)) in record { half_tiled = w.0; given_texture = w.1 })
-
-pub returns-in_err-give_mips : goal.returns-in_err-give_mips
-returns-in_err-give_mips c =
-    let e : c.from_residual.result ≡ Err c.in_err-give_mips.field-0.0 = search rules in
-    rw e (spread_stop c.requires.set_ready c.if-word-p.false c.requires.merge_ready refl c.if-cur-p.false
-    (rw c.wide-mips.ensures.0 at c.fresh_mips.ensures) c.give_mips-2.ensures _ c.in_err-give_mips.was)
-
-pub returns : goal.returns
-returns c =
-    rw c.set_state.ensures (spread_done c.requires.set_ready c.if-word-p.false c.requires.merge_ready refl c.if-cur-p.false
-    (rw c.wide-mips.ensures.0 at c.fresh_mips.ensures) c.give_mips-2.ensures c.in_ok-give_mips.was)
+    let a = c.args in let q = c.requires.set_ready in let m = c.requires.merge_ready in
+    let k = rw c.word-word.ensures at c.if-word-p.true in
+    let taken : UseReady (numbers_of a.table.now) a.half a.table.now a.ranges.now a.given.i a.extent None a.p (word_of a.given) =
+    record { texture = q.texture; within = tt; flags = q.flags; plain = k } in
+    let held : HeldReady a.half a.table.now a.ranges.now a.given.i a.extent (word_of a.given) =
+    record { tiled = m.tiled; plain = m.plain k } in
+    merge_single_lem q k (single_merged taken held _ refl c.if-cur-p.true (rw c.word-word.ensures at c.merge_single_use.ensures))

@@ -8,9 +8,6 @@ use Rattle.texture_merge.proofs.giving.give_mip.Goals as goal
 pub loop-k-init : goal.loop-k-init
 loop-k-init g c = let p = c.requires in range_start p.half_tiled p.given_mip _ (g.met.D.Doing.keeps_tiled _ _)
 
-pub overflow_cast-m : goal.overflow_cast-m
-overflow_cast-m g c = let p = c.requires in omega (arith, lap_small p.half_tiled p.given_mip.mip)
-
 pub on_mip-q-requires : goal.on_mip-q-requires
 on_mip-q-requires g c = let p = c.requires in omega (arith, lap_small p.half_tiled p.given_mip.mip)
 

@@ -8,6 +8,8 @@ use Rattle.texture_merge.proofs.giving.give_mip.Given as goal
 
 abbrev pub invariant-loop-k : goal.invariant-loop-k
 invariant-loop-k g l = Giving l.half l.i (get_or l.initial.table (layers_at l.i) 0) (passes (g.D.Doing.does l.doing l.p)
-    (map (piece_on l.m) (decode l.len l.part)) (mips_of (numbers_of l.initial.table) l.half l.initial.table l.initial.ranges l.i))
-    l.initial.table l.initial.ranges (passes (g.D.Doing.does l.doing l.p) (map (piece_on l.m) (drop l.k (decode l.len l.part)))) l.table
+    (map (piece_on l.m) (decode l.run.len l.run.records.now))
+    (mips_of (numbers_of l.initial.table) l.half l.initial.table l.initial.ranges l.i))
+    l.initial.table l.initial.ranges
+    (passes (g.D.Doing.does l.doing l.p) (map (piece_on l.m) (drop l.k (decode l.run.len l.run.records.now)))) l.table
     l.ranges

@@ -12,18 +12,18 @@ merge_every_mips-requires c =
     let p = c.requires in record {
       half_tiled = many_ready p.use_ready p.held_ready (c.if-cur-p.false);
       every_ready =
-          rw c.wide.ensures.0 (texture_every p.use_ready.texture);
+          texture_every p.use_ready.texture;
     }
 
-pub returns-then-all : goal.returns-then-all
-returns-then-all c = let p = c.requires in every_merged p.use_ready p.held_ready (c.if-cur-p.false) c.if-all.true c.merge_every_mips.ensures
+pub returns-in-None : goal.returns-in-None
+returns-in-None c = let p = c.requires in every_merged p.use_ready p.held_ready (c.if-cur-p.false) c.in-None.is c.merge_every_mips.ensures
 
 pub merge_mips-requires : goal.merge_mips-requires
 merge_mips-requires c =
     let p = c.requires in record {
       half_tiled = many_ready p.use_ready p.held_ready (c.if-cur-p.false);
-      selects = texture_selects p.use_ready.texture p.use_ready.selector;
+      selects = texture_selects p.use_ready.texture (rw c.in-Some.is at p.use_ready.within);
     }
 
-pub returns : goal.returns
-returns c = let p = c.requires in part_merged p.use_ready p.held_ready (c.if-cur-p.false) c.if-all.false c.merge_mips.ensures
+pub returns-in-Some : goal.returns-in-Some
+returns-in-Some c = let p = c.requires in part_merged p.use_ready p.held_ready (c.if-cur-p.false) c.in-Some.is c.merge_mips.ensures

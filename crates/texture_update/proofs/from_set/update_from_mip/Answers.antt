@@ -3,9 +3,6 @@ use Rattle.model.specs.Prelude.{arith}
 use Rattle.texture_update.proofs.Takes.{range_small, range_selects, range_turn, range_done}
 use Rattle.texture_update.proofs.from_set.update_from_mip.Goals as goal
 
-pub overflow_cast-m : goal.overflow_cast-m
-overflow_cast-m c = let p = c.requires in omega (arith, range_small p.pair_ready p.given_mip)
-
 pub on_mip-q-requires : goal.on_mip-q-requires
 on_mip-q-requires c = let p = c.requires in omega (arith, range_small p.pair_ready p.given_mip)
 

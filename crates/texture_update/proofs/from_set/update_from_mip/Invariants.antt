@@ -8,6 +8,6 @@ use Rattle.texture_update.proofs.Takes.{Taking}
 use Rattle.texture_update.proofs.from_set.update_from_mip.Given as goal
 
 abbrev pub invariant-loop-k : goal.invariant-loop-k
-invariant-loop-k l = Taking l.i l.p (updates l.p.unknown (map (piece_on l.m) (decode l.len l.part))
+invariant-loop-k l = Taking l.i l.p (updates l.p.unknown (map (piece_on l.m) (decode l.run.len l.run.records.now))
     (ends_of (numbers_of l.initial.table) l.initial.table l.initial.starts l.initial.ends l.i)) l.initial.table l.initial.starts
-    l.initial.ends (updates l.p.unknown (map (piece_on l.m) (drop l.k (decode l.len l.part)))) l.table l.starts l.ends
+    l.initial.ends (updates l.p.unknown (map (piece_on l.m) (drop l.k (decode l.run.len l.run.records.now)))) l.table l.starts l.ends

@@ -1,33 +1,10 @@
--- `update_given`: the words tell whether the given texture and the end are Single or Many, and each case is the model's.
-use Rattle.model.specs.Prelude.{refl}
-use Rattle.texture_update.proofs.SetCases.{state_given, pieces_ready, pieces_done, cover_ready, cover_done}
-use Rattle.texture_merge.proofs.Breaking.{break_every}
+-- `update_given`: where the given texture and the end are Single, the end takes the state.
+use Rattle.texture_update.specs.FromSet.{from_use_lem}
+use Rattle.texture_update.proofs.{Cases.all_single, SetCases.state_given}
 use Rattle.texture_update.proofs.from_set.update_given.Goals as goal
 
-pub returns-then-word-p : goal.returns-then-word-p
-returns-then-word-p c =
-    state_given c.requires c.if-word-p.true c.update_state.ensures
-
-pub update_from_mips-requires : goal.update_from_mips-requires
-update_from_mips-requires c =
-    rw c.wide-mips.ensures.0 (let w = (pieces_ready c.requires c.if-word-p.false c.if-cur-p.true) in
-    record { pair_ready = w.0; given_texture = w.1 })
-
-pub returns-then-cur-p : goal.returns-then-cur-p
-returns-then-cur-p c =
-    pieces_done c.requires c.if-word-p.false c.if-cur-p.true c.update_from_mips.ensures
-
-pub fresh_mips-requires : goal.fresh_mips-requires
-fresh_mips-requires c =
-    rw (c.set_state.ensures, c.wide-mips.ensures.0) (break_every c.requires.end.ready c.requires.flags)
-
-pub give_mips-requires : goal.give_mips-requires
-give_mips-requires c =
-    rw c.wide-mips.ensures.0
-    (let w = (cover_ready c.requires c.if-word-p.false refl c.if-cur-p.false
-    (rw (c.set_state.ensures, c.wide-mips.ensures.0) at c.fresh_mips.ensures)) in record { half_tiled = w.0; given_texture = w.1 })
-
-pub returns : goal.returns
-returns c =
-    cover_done c.requires c.if-word-p.false refl c.if-cur-p.false
-    (rw (c.set_state.ensures, c.wide-mips.ensures.0) at c.fresh_mips.ensures) c.give_mips.ensures
+pub returns-then-table-given : goal.returns-then-table-given
+returns-then-table-given c =
+    let k = rw c.word-word.ensures at c.if-word-p.true in
+    rw (c.set_state.ensures, c.word-word.ensures)
+    (state_given c.requires k (all_single (from_use_lem c.requires _ k) c.if-table-given.true))
