@@ -1,22 +1,18 @@
 -- The merge itself: an entry that moves, what is merged so far, and the loop's invariant with its turns and its ends.
 use Rattle.std.specs.Prelude.{◌+◌, ◌-◌, ◌*◌, ◌%◌, ◌≤◌, ◌<◌, ◌≡◌, ◌∷◌, ◌++◌}
-use Rattle.model.specs.Prelude.{ℕ, arith, refl, sym, ap, ◌∙◌, true, List, []}
+use Rattle.model.specs.Prelude.{ℕ, arith, refl, sym, ap, ◌∙◌, List, []}
 use Rattle.model.specs.Prelude.{append_assoc, append-nil, length, drop, get_or, length-append, length-drop, drop-cons}
 use Rattle.model.specs.{declared.PendingTransition.PendingTransition, BoolLaws.by_lt}
-use Rattle.texture_barrier.specs.Entries.{flatten, entries_of, entries_long, blank_entry, Added, PutEntry, get_entry_is, entries_drop}
-use Rattle.texture_barrier.specs.Adds.{Adds, adds_none, adds_then, adds_added}
+use Rattle.texture_barrier.specs.Entries.{entries_of, entries_long, blank_entry, Added, PutEntry, get_entry_is, entries_drop}
+use Rattle.texture_barrier.specs.Written.{Written, written_none, written_one, written_then, written_added}
 use Rattle.log_merge.specs.Merge.{index_of, Merge, put, merge, merge_of}
 use Rattle.log_merge.specs.{MergeLaws.{merge_second, merge_first, merge_no_first, merge_no_second}, Calls.rest_from}
 use Rattle.log_merge.specs.Weaves.{Weavable, Weaves}
 use Rattle.log_merge.specs.declared.Rest.TheVariants.{First, Second}
 use Rattle.log_merge.proofs.Needing.{no_entries}
 
--- ---- An entry that moves
-moved : {l l' : List ℕ} {n : ℕ} {e x : PendingTransition} → e ≡ x → PutEntry l n e l' → Adds 1 true l n (x ∷ []) 1 l'
-unfolding flatten
-moved q u = rw (← q) record { count = refl; few = omega arith; content = u.content; long = u.long }
-
--- the first entry of a log, and those behind it
+-- ---- The first entry of a log
+-- it, and those behind it
 entries_next : (a : List ℕ) → 7 ≤ length a → entries_of a ≡ get_or (entries_of a) 0 blank_entry ∷ entries_of (drop 7 a)
 entries_next a h =
     drop-cons (entries_of a) 0 blank_entry (rw (entries_long a) (omega arith))
@@ -40,28 +36,27 @@ module _ {s t : List PendingTransition} {a b : PendingTransition} {s' t' : List 
 -- ---- What is merged so far
 -- the entries `done` are written, and the merge of what is left of the two logs, a and b, gives the others
 pub record Woven (a₀ b₀ l₀ : List ℕ) (at : ℕ) (a b : List ℕ) (done : List PendingTransition) (l : List ℕ) : Type 0 where
-  pub written : Adds (length done) true l₀ at done (length done) l
+  pub written : Written l₀ at done l
   pub merged : (merge_of a₀ b₀).merged ≡ done ++ (merge_of a b).merged
   pub first : (merge_of a₀ b₀).first ≡ (merge_of a b).first
   pub second : (merge_of a₀ b₀).second ≡ (merge_of a b).second
 
 woven_start : (a b l : List ℕ) (at : ℕ) → Woven a b l at a b [] l
-woven_start a b l at = record { written = adds_none 0 true l at; merged = refl; first = refl; second = refl }
+woven_start a b l at = record { written = written_none l at; merged = refl; first = refl; second = refl }
 
 module _ {a₀ b₀ l₀ : List ℕ} {at : ℕ} {a b : List ℕ} {done : List PendingTransition} {l : List ℕ} (w : Woven a₀ b₀ l₀ at a b done l)
     (room : 7 * (at + length (merge_of a₀ b₀).merged) ≤ length l₀) where
   -- the next entry is e, and the merge goes on with a' and b'
   woven_on : (e : PendingTransition) (a' b' : List ℕ) {l' : List ℕ} → merge_of a b ≡ put e (merge_of a' b')
-      → Adds 1 true l (at + length done) (e ∷ []) 1 l' → Woven a₀ b₀ l₀ at a' b' (done ++ (e ∷ [])) l'
+      → Written l (at + length done) (e ∷ []) l' → Woven a₀ b₀ l₀ at a' b' (done ++ (e ∷ [])) l'
   woven_on e a' b' {l'} z u =
       let m = merge_of a' b' in
       let c : (merge_of a₀ b₀).merged ≡ (done ++ (e ∷ [])) ++ m.merged =
       w.merged ∙ ap (λ (x : Merge). done ++ x.merged) z ∙ sym (append_assoc done (e ∷ []) m.merged) in
       let n : length (merge_of a₀ b₀).merged ≡ length (done ++ (e ∷ [])) + length m.merged =
       ap length c ∙ length-append (done ++ (e ∷ [])) m.merged in
-      let o : length done + 1 ≡ length (done ++ (e ∷ [])) = sym (length-append done (e ∷ [])) in
       record {
-        written = rw (← o) (adds_then true (λ _. omega arith) (omega arith) w.written u);
+        written = written_then (omega arith) w.written u;
         merged = c;
         first = w.first ∙ ap (λ (x : Merge). x.first) z;
         second = w.second ∙ ap (λ (x : Merge). x.second) z;
@@ -130,7 +125,7 @@ module _ {a₀ b₀ l₀ : List ℕ} {at k : ℕ} {a b : List ℕ} {x y : ℕ} {
         let i : index_of B < index_of A =
         omega (arith, s.first_index, s.second_index, index_is a first_seven, index_is b second_seven) in
         woven_on s.woven s.fits.room B a (drop 7 b) (second_goes (entries_next a first_seven) (entries_next b second_seven) i)
-        (rw (← s.third_at) (moved v u))
+        (rw (← s.third_at, ← v) (written_one u))
 
     pub second_turn : (0 < length (drop 7 b)) → Weaving a₀ b₀ l₀ at (k + 1) a (drop 7 b) x (get_or (drop 7 b) 0 0) l'
     second_turn f =
@@ -158,7 +153,7 @@ module _ {a₀ b₀ l₀ : List ℕ} {at k : ℕ} {a b : List ℕ} {x y : ℕ} {
         let n : 7 * length (entries_of a) ≡ length a = rw (entries_long a) (omega (arith, s.first_whole)) in
         let o = some_left (entries_of a) (merge_of a₀ b₀).second a₀ b₀ (omega (arith, n, s.first_left.0)) in
         record {
-          added = rw c (adds_added (rw (← c) s.fits.room) second_woven.written);
+          added = rw c (written_added (rw (← c) s.fits.room) second_woven.written);
           rest = rw (r, o, n);
         }
 
@@ -169,7 +164,7 @@ module _ {a₀ b₀ l₀ : List ℕ} {at k : ℕ} {a b : List ℕ} {x y : ℕ} {
         let i : index_of A ≤ index_of B =
         omega (arith, s.first_index, s.second_index, index_is a first_seven, index_is b second_seven) in
         woven_on s.woven s.fits.room A (drop 7 a) b (first_goes (entries_next a first_seven) (entries_next b second_seven) i)
-        (rw (← s.third_at) (moved v u))
+        (rw (← s.third_at, ← v) (written_one u))
 
     pub first_turn : (0 < length (drop 7 a)) → Weaving a₀ b₀ l₀ at (k + 1) (drop 7 a) b (get_or (drop 7 a) 0 0) y l'
     first_turn f =
@@ -197,13 +192,13 @@ module _ {a₀ b₀ l₀ : List ℕ} {at k : ℕ} {a b : List ℕ} {x y : ℕ} {
         let t : (merge_of a₀ b₀).second ≡ entries_of b = first_woven.second ∙ ap (λ (o : Merge). o.second) z in
         let n : 7 * length (entries_of b) ≡ length b = rw (entries_long b) (omega (arith, s.second_whole)) in
         record {
-          added = rw c (adds_added (rw (← c) s.fits.room) first_woven.written);
+          added = rw c (written_added (rw (← c) s.fits.room) first_woven.written);
           rest = rw (r, t, n);
         }
 
 -- ---- One log is empty: nothing is merged
 nothing_added : {new : List PendingTransition} (l : List ℕ) (at : ℕ) → new ≡ [] → 7 * (at + length new) ≤ length l → Added l at new l
-nothing_added l at e h = rw e (adds_added (rw e at h) (adds_none 0 true l at))
+nothing_added l at e h = rw e (written_added (rw e at h) (written_none l at))
 
 module _ {a b l : List ℕ} {at : ℕ} (f : Weavable a b l at) where
   pub first_empty : length a ≡ 0 → Weaves a b l at (Second 0) l

@@ -1,78 +1,85 @@
 -- The model's `barrier` of a stored texture, by what its word tells: Many, or one state.
-use Rattle.model.specs.Prelude.{ℕ, arith, Option, None, Some, List, [], get_or}
+use Rattle.model.specs.Prelude.{ℕ, arith, ap, Option, None, Some, []}
 use Rattle.model.specs.{declared.{Selector.Selector, Extent.Extent, UsageFlags.UsageFlags}, StateRules.move_of, RangedStates.range}
 use Rattle.model.specs.{Representation.{full, mip_start, mip_end, layer_start, layer_end}, CheckLaws.SelectorWithin}
-use Rattle.model.specs.Texture.{given_single, given_many, from_held, many, entry, barrier}
+use Rattle.model.specs.Texture.{given_single, given_many, from_held, many, entry}
 use Rattle.std.specs.Option.{unwrap_or}
-use Rattle.std.specs.Prelude.{◌+◌, ◌-◌, ◌≡◌, ◌∷◌}
-use Rattle.set_storage.specs.{Storage.{numbers_of, mip_of, list_from, held_of, complex_at}, Slots.{held_many, held_single}}
-use Rattle.set_storage.specs.Texture.{TextureHeld, texture_mips}
-use Rattle.texture_barrier.specs.{Steps.{to_state, from_state, within, against, step_entries}, Ready.mips_entries}
-use Rattle.texture_barrier.specs.Textures.{piece, single_to_state, many_to_state, single_to_piece, many_to_piece, single_to_many}
-use Rattle.texture_barrier.specs.Textures.{many_to_many, given_part}
+use Rattle.std.specs.Prelude.{◌-◌, ◌≡◌, ◌∷◌}
+use Rattle.set_storage.specs.{declared.stored.Stored.Stored, Storage.{numbers_of, flags_of, list_from}, Slots.{held_many, held_single}}
+use Rattle.set_storage.specs.{Texture.texture_mips, Stored.{HeldAs, held_in, ranges_of, word_of}, Uses.{piece, use_of}}
+use Rattle.texture_barrier.specs.{declared.transition.Task.Task, Entries.entries_at, Mips.mips_entries}
+use Rattle.texture_barrier.specs.Steps.{to_state, from_state, within, against, step_entries}
+use Rattle.texture_barrier.specs.Textures.{barrier_at, task_of}
+use Rattle.texture_barrier.specs.Textures.{single_to_state, many_to_state, single_to_piece, many_to_piece, single_to_many, many_to_many}
 
--- its word w against COMPLEX, with the flags as the code read them
-module _ {f g : UsageFlags} {w : ℕ} (e : f ≡ g) where
-  pub told_many : w ≡ f.complex → w ≡ g.complex
-  told_many z = rw e at z
+-- its word against COMPLEX, and as the code read the two
+abbrev pub IsMany : Stored → Type 0
+IsMany s = word_of s ≡ (flags_of s.table.now).complex
 
-  pub told_single : (w ≡ f.complex → ⊥) → w ≡ g.complex → ⊥
-  told_single n z = n (rw e z)
+module _ (s : Stored) {f : UsageFlags} {w : ℕ} (e : f ≡ flags_of s.table.now) (v : w ≡ word_of s) where
+  pub told_many : w ≡ f.complex → IsMany s
+  told_many z = rw (e, v) at z
+
+  pub told_single : (w ≡ f.complex → ⊥) → IsMany s → ⊥
+  told_single n z = n (rw (e, v) z)
 
 -- the ranges of a Many texture, as many mips as its extent has
-is_many_lem : {h : ℕ} {t r : List ℕ} {i : ℕ} {sh : Extent} → TextureHeld (numbers_of t) h t r i sh
-    → get_or t (h + i) 0 ≡ get_or t complex_at 0
-    → held_of (numbers_of t) h t r i ≡ many (list_from (mip_of (numbers_of t) h t r i) 0 sh.mips)
-is_many_lem {h} {t} {r} {i} {sh} q c =
-    held_many (numbers_of t) h t r i (list_from (mip_of (numbers_of t) h t r i) 0 sh.mips) c (rw (texture_mips q.ready))
+is_many_lem : (s : Stored) {sh : Extent} → HeldAs s sh → IsMany s → held_in s ≡ many (list_from (ranges_of s) 0 sh.mips)
+is_many_lem s {sh} q c =
+    held_many (numbers_of s.table.now) s.half s.table.now s.ranges.now s.i (list_from (ranges_of s) 0 sh.mips) c
+    (rw (texture_mips q.ready))
 
-module _ {h : ℕ} {t r : List ℕ} {i : ℕ} {sh : Extent} (q : TextureHeld (numbers_of t) h t r i sh) where
-  module _ (p : UsageFlags) (mask : ℕ) where
-    -- ---- a state is given: of all of the texture, or of what a selector names
-    pub use_single : (part : Option Selector) (new : ℕ) → (get_or t (h + i) 0 ≡ get_or t complex_at 0 → ⊥)
-        → barrier p mask sh (held_of (numbers_of t) h t r i) (given_part part new)
-        ≡ entry (unwrap_or part (full sh)) (move_of p.unknown mask (get_or t (h + i) 0) new)
-    use_single None new c =
-        rw (held_single (numbers_of t) h t r i c) (single_to_state p mask sh (get_or t (h + i) 0) new)
-    use_single (Some s) new c =
-        rw (held_single (numbers_of t) h t r i c) (single_to_piece p mask sh (get_or t (h + i) 0) new s)
+-- s is held, and k is what stays the same while its transitions are logged
+module _ (s : Stored) {sh : Extent} (q : HeldAs s sh) (p : UsageFlags) (mask : ℕ) {k : Task} (same : k ≡ task_of s.i p mask) where
+  -- ---- a state is given: of all of the texture, or of what a selector names
+  pub use_single : (part : Option Selector) (new : ℕ) {w : ℕ} {x : Selector} → (IsMany s → ⊥) → w ≡ word_of s
+      → x ≡ unwrap_or part (full sh)
+      → barrier_at p mask sh s (use_of part new) ≡ entries_at k.index.0 (entry x (move_of k.unknown k.mask w new))
+  use_single part new c v y = rw (same, v, y) (go part)
+    where
+      go : (o : Option Selector) → barrier_at p mask sh s (use_of o new)
+          ≡ entries_at s.i (entry (unwrap_or o (full sh)) (move_of p.unknown mask (word_of s) new))
+      go None =
+          rw (held_single (numbers_of s.table.now) s.half s.table.now s.ranges.now s.i c)
+          (ap (entries_at s.i) (single_to_state p mask sh (word_of s) new))
+      go (Some z) =
+          rw (held_single (numbers_of s.table.now) s.half s.table.now s.ranges.now s.i c)
+          (ap (entries_at s.i) (single_to_piece p mask sh (word_of s) new z))
 
-    module _ (c : get_or t (h + i) 0 ≡ get_or t complex_at 0) (new : ℕ) where
-      pub all_many : barrier p mask sh (held_of (numbers_of t) h t r i) (given_single new)
-          ≡ mips_entries (step_entries (to_state new p.unknown mask)) (mip_of (numbers_of t) h t r i) 0 sh.mips
-      all_many =
-          let n : sh.mips - 0 ≡ sh.mips = omega arith in
-          rw (is_many_lem q c, n) (many_to_state p mask sh (list_from (mip_of (numbers_of t) h t r i) 0 sh.mips) new)
+  module _ (c : IsMany s) (new : ℕ) where
+    pub all_many : barrier_at p mask sh s (given_single new)
+        ≡ entries_at k.index.0 (mips_entries (step_entries (to_state new k.unknown k.mask)) (ranges_of s) 0 sh.mips)
+    all_many =
+        let n : sh.mips - 0 ≡ sh.mips = omega arith in
+        rw (same, is_many_lem s q c, n) (ap (entries_at s.i) (many_to_state p mask sh (list_from (ranges_of s) 0 sh.mips) new))
 
-      pub part_many : (s : Selector) → SelectorWithin sh s
-          → barrier p mask sh (held_of (numbers_of t) h t r i) (given_many (piece s new ∷ []))
-          ≡ mips_entries (step_entries (within (range (layer_start s) (layer_end s) new) p.unknown mask))
-          (mip_of (numbers_of t) h t r i) (mip_start s) (mip_end s)
-      part_many s w =
-          rw (is_many_lem q c) (many_to_piece p mask sh (mip_of (numbers_of t) h t r i) sh.mips new s (omega (arith, w.order)) w.in_mips)
+    pub part_many : (x : Selector) → SelectorWithin sh x
+        → barrier_at p mask sh s (given_many (piece x new ∷ []))
+        ≡ entries_at k.index.0 (mips_entries (step_entries (within (range (layer_start x) (layer_end x) new) k.unknown k.mask))
+        (ranges_of s) (mip_start x) (mip_end x))
+    part_many x w =
+        rw (same, is_many_lem s q c)
+        (ap (entries_at s.i) (many_to_piece p mask sh (ranges_of s) sh.mips new x (omega (arith, w.order)) w.in_mips))
 
-    -- ---- a given texture: g, u and v are its half, its table and its ranges
-    module _ {g : ℕ} {u v : List ℕ} (w : TextureHeld (numbers_of u) g u v i sh) where
-      pub given_single_lem : (get_or u (g + i) 0 ≡ get_or u complex_at 0 → ⊥)
-          → barrier p mask sh (held_of (numbers_of t) h t r i) (from_held (held_of (numbers_of u) g u v i))
-          ≡ barrier p mask sh (held_of (numbers_of t) h t r i) (given_single (get_or u (g + i) 0))
-      given_single_lem c = rw (held_single (numbers_of u) g u v i c)
+-- ---- a texture g is given
+module _ (s : Stored) {sh : Extent} (q : HeldAs s sh) (p : UsageFlags) (mask : ℕ) (g : Stored) (w : HeldAs g sh) where
+  pub given_single_lem : {new : ℕ} → (IsMany g → ⊥) → new ≡ word_of g
+      → barrier_at p mask sh s (from_held (held_in g)) ≡ barrier_at p mask sh s (given_single new)
+  given_single_lem c v = rw (held_single (numbers_of g.table.now) g.half g.table.now g.ranges.now g.i c, v)
 
-      module _ (c : get_or u (g + i) 0 ≡ get_or u complex_at 0) where
-        pub given_many_lem : get_or t (h + i) 0 ≡ get_or t complex_at 0
-            → barrier p mask sh (held_of (numbers_of t) h t r i) (from_held (held_of (numbers_of u) g u v i))
-            ≡ mips_entries (step_entries (against (mip_of (numbers_of t) h t r i) p.unknown mask))
-            (mip_of (numbers_of u) g u v i) 0 sh.mips
-        given_many_lem e =
-            let z : sh.mips - 0 ≡ sh.mips = omega arith in
-            rw (is_many_lem w c, is_many_lem q e, z)
-            (many_to_many p mask sh (mip_of (numbers_of t) h t r i) sh.mips (mip_of (numbers_of u) g u v i))
+  module _ {k : Task} (same : k ≡ task_of s.i p mask) (c : IsMany g) where
+    pub given_many_lem : IsMany s
+        → barrier_at p mask sh s (from_held (held_in g))
+        ≡ entries_at k.index.0 (mips_entries (step_entries (against (ranges_of s) k.unknown k.mask)) (ranges_of g) 0 sh.mips)
+    given_many_lem e =
+        let z : sh.mips - 0 ≡ sh.mips = omega arith in
+        rw (same, is_many_lem g w c, is_many_lem s q e, z)
+        (ap (entries_at s.i) (many_to_many p mask sh (ranges_of s) sh.mips (ranges_of g)))
 
-        pub given_from : (get_or t (h + i) 0 ≡ get_or t complex_at 0 → ⊥)
-            → barrier p mask sh (held_of (numbers_of t) h t r i) (from_held (held_of (numbers_of u) g u v i))
-            ≡ mips_entries (step_entries (from_state (get_or t (h + i) 0) p.unknown mask))
-            (mip_of (numbers_of u) g u v i) 0 sh.mips
-        given_from e =
-            let z : sh.mips - 0 ≡ sh.mips = omega arith in
-            rw (is_many_lem w c, held_single (numbers_of t) h t r i e, z)
-            (single_to_many p mask sh (get_or t (h + i) 0) (list_from (mip_of (numbers_of u) g u v i) 0 sh.mips))
+    pub given_from : {cur : ℕ} → (IsMany s → ⊥) → cur ≡ word_of s
+        → barrier_at p mask sh s (from_held (held_in g))
+        ≡ entries_at k.index.0 (mips_entries (step_entries (from_state cur k.unknown k.mask)) (ranges_of g) 0 sh.mips)
+    given_from e v =
+        let z : sh.mips - 0 ≡ sh.mips = omega arith in
+        rw (same, v, is_many_lem g w c, held_single (numbers_of s.table.now) s.half s.table.now s.ranges.now s.i e, z)
+        (ap (entries_at s.i) (single_to_many p mask sh (word_of s) (list_from (ranges_of g) 0 sh.mips)))

@@ -1,3 +1,2 @@
-pub mod Moving
 pub mod Remaining
 pub mod Holding

@@ -1,10 +1,10 @@
 -- What a loop has left of texture i: the entries of a run's ranges from the one at k on, and those of its mips from mip m on.
-use Rattle.model.specs.Prelude.{ℕ, suc, add-one, arith, List, length, get_or, drop, slice_empty}
+use Rattle.model.specs.Prelude.{ℕ, suc, add-one, arith, List, length, get_or, drop}
 use Rattle.model.specs.{declared.{PendingTransition.PendingTransition, Range.Range}, Base.{each, each_at}, Texture.Entry}
 use Rattle.std.specs.Prelude.{◌+◌, ◌*◌, ◌-◌, ◌≤◌, ◌<◌, ◌≡◌}
 use Rattle.range_states.specs.View.{view, blank, decode}
 use Rattle.set_storage.specs.Storage.{list_from}
-use Rattle.texture_barrier.specs.{Adds.{entries_at, entries_at_append, NextLeft, NoneLeft}, Mips.mips_next}
+use Rattle.texture_barrier.specs.{Entries.{entries_at, entries_at_append}, Taking.{NextLeft, NoneLeft}, Mips.mips_next}
 use Rattle.range_states.proofs.Inserting.{next_is}
 
 -- g tells the entries of a range
@@ -17,10 +17,6 @@ module _ (i : ℕ) (g : Range → List Entry) (run : List ℕ) (len : ℕ) where
       → NextLeft run_left k (entries_at i (g r))
   run_next {k} {r} fits t e =
       record { is = rw (next_is run len k r fits t e) (entries_at_append i (g r) (each g (drop (k + 1) (decode len run)))) }
-
-  -- none behind the last
-  pub run_done : NoneLeft run_left len
-  run_done = record { is = rw (slice_empty len (view run)) }
 
 -- F tells the entries of a mip with its ranges, which G tells
 module _ (i : ℕ) (F : ℕ → List Range → List Entry) (G : ℕ → List Range) (hi : ℕ) where

@@ -1,10 +1,10 @@
 -- A borrowed log as a list of entries: THE VIEW of the log, and what writing entries does to it.
-use Rattle.std.specs.Prelude.{◌+◌, ◌*◌, ◌-◌, ◌/◌, ◌≤◌, ◌<◌, ◌≡◌, ◌∷◌, ◌++◌}
-use Rattle.model.specs.Prelude.{ℕ, zero, suc, add-one, arith, refl, sym, ap, ◌∙◌, List, []}
-use Rattle.model.specs.Prelude.{append_assoc, length, get_or, take, drop, set, length-drop, take-append-drop, List_get_D_append, take-add}
-use Rattle.model.specs.Prelude.{drop_at, drop-drop, get_or-drop, length-take-le, set_split, sets, sets-eq}
+use Rattle.model.specs.Prelude.{ℕ, zero, suc, add-one, arith, refl, sym, ap, ◌∙◌, List, [], append_assoc, length, get_or, take, drop, set}
+use Rattle.model.specs.Prelude.{length-drop, map-append, take-append-drop, List_get_D_append, take-add, drop_at, drop-drop, get_or-drop}
+use Rattle.model.specs.Prelude.{length-take-le, set_split, sets, sets-eq}
 use Rattle.model.specs.{declared.PendingTransition.PendingTransition, Representation.{select, mip_start, mip_end, layer_start, layer_end}}
-use Rattle.model.specs.Refusals.{tracker_index}
+use Rattle.model.specs.{Refusals.tracker_index, Log.pending_of, Texture.Entry}
+use Rattle.std.specs.Prelude.{◌+◌, ◌*◌, ◌-◌, ◌/◌, ◌≤◌, ◌<◌, ◌≡◌, ◌∷◌, ◌++◌}
 use Rattle.texture_barrier.specs.Over.{over, over_long, over_past}
 
 -- ---- One entry: "seven numbers: index, mip start, mip end, layer start, layer end, old, new"
@@ -53,6 +53,14 @@ pub record PutEntry (l : List ℕ) (n : ℕ) (e : PendingTransition) (l' : List 
   pub seen : entries_of l' ≡ set (entries_of l) n e
   pub rest : unused l' ≡ unused l
   pub long : length l' ≡ length l
+
+-- ---- The transitions of texture i, as the log has them
+abbrev pub entries_at : ℕ → List Entry → List PendingTransition
+entries_at i es = pending_of (record { index = i; what = es })
+
+-- some after others
+pub entries_at_append : (i : ℕ) (xs ys : List Entry) → entries_at i (xs ++ ys) ≡ entries_at i xs ++ entries_at i ys
+entries_at_append i xs ys = map-append _ xs ys
 
 -- ---- Laws of `flatten`
 pub flatten_long : (es : List PendingTransition) → length (flatten es) ≡ 7 * length es

@@ -1,7 +1,8 @@
 pub mod Over
 pub mod Entries
-pub mod Adds
+pub mod Written
+pub mod Sinks
+pub mod Taking
 pub mod Steps
 pub mod Mips
 pub mod Textures
-pub mod Ready

@@ -1,8 +1,12 @@
 -- Lists made mip by mip: laws of the model's `each` and `each_at` over `list_from`.
 use Rattle.std.specs.Prelude.{◌+◌, ◌-◌, ◌≤◌, ◌<◌, ◌≡◌, ◌++◌}
 use Rattle.model.specs.Prelude.{ℕ, zero, suc, arith, refl, ap, ◌∙◌, List, [], append-nil}
-use Rattle.model.specs.Base.{each_at}
+use Rattle.model.specs.{declared.Range.Range, Base.each_at, Texture.Entry}
 use Rattle.set_storage.specs.Storage.{list_from}
+
+-- what f tells of the mips from lo up to, not including, hi, whose ranges G tells
+abbrev pub mips_entries : (ℕ → List Range → List Entry) → (ℕ → List Range) → ℕ → ℕ → List Entry
+mips_entries f G lo hi = each_at f lo (list_from G lo (hi - lo))
 
 module _ {A B : Type 0} (F : ℕ → A → List B) (G : ℕ → A) where
   -- the mip at k, and those behind it

@@ -1,38 +1,23 @@
 -- The model's `barrier` of one texture, by cases, as the code adds its entries mip by mip.
 use Rattle.std.specs.Prelude.{◌-◌, ◌≤◌, ◌<◌, ◌≡◌, ◌&&◌, ◌∷◌, if◌then◌else◌}
-use Rattle.model.specs.Prelude.{ℕ, suc, arith, refl, ◌∙◌, Bool, true, false, Option, None, Some, List, [], map, append-nil, leb}
+use Rattle.model.specs.Prelude.{ℕ, suc, arith, refl, ◌∙◌, Bool, true, false, List, [], map, append-nil, leb}
 use Rattle.model.specs.Prelude.{le-leb, lt-leb, lt-ltb, le-ltb}
 use Rattle.model.specs.declared.{PendingTransition.PendingTransition, Range.Range, Selector.Selector, Extent.Extent, UsageFlags.UsageFlags}
 use Rattle.model.specs.{Base.{each, each_at}, Refusals.tracker_index, RangedStates.range}
 use Rattle.model.specs.{Representation.{select, full, mip_start, mip_end, layer_start, layer_end, in_mips}, StateRules.move_of}
 use Rattle.model.specs.Texture.{single, many, Piece, Given, given_single, given_many, pieces_of, Entry, entry, barrier}
-use Rattle.model.specs.CheckLaws.{SelectorWithin}
 use Rattle.model.specs.ListLaws.{each_map, each_at_lem, each_ext, at_ext}
-use Rattle.set_storage.specs.Storage.{numbers_of, end_half, held_of, list_from}
-use Rattle.texture_barrier.specs.{declared.transition.Task.Task, Adds.entries_at, Mips.{mips_same, mips_only, mips_one}}
+use Rattle.set_storage.specs.{declared.stored.Stored.Stored, Storage.list_from, Stored.held_in, Uses.piece}
+use Rattle.texture_barrier.specs.{declared.transition.Task.Task, Entries.entries_at, Mips.{mips_same, mips_only, mips_one}}
 use Rattle.texture_barrier.specs.Steps.{to_state, from_state, within, against, step_entries, to_state_in, within_is}
 
--- a state of what a selector names, as it is given
-abbrev pub piece : Selector → ℕ → Piece
-piece q st = record { selector = q; state = st }
-
--- a state of all of a texture, or of the part that a selector names
-abbrev pub given_part : Option Selector → ℕ → Given
-given_part None new = given_single new
-given_part (Some q) new = given_many (piece q new ∷ [])
-
--- the part lies within the texture
-abbrev pub PartWithin : Extent → Option Selector → Type 0
-PartWithin sh None = Unit {0}
-PartWithin sh (Some q) = SelectorWithin sh q
-
--- the transitions from a tracker's end of texture i to what is given
-abbrev pub barrier_at : UsageFlags → ℕ → Extent → List ℕ → List ℕ → ℕ → Given → List PendingTransition
-barrier_at p mask sh t e i g = entries_at i (barrier p mask sh (held_of (numbers_of t) end_half t e i) g)
+-- the transitions from a tracker's end of a stored texture to what is given
+abbrev pub barrier_at : UsageFlags → ℕ → Extent → Stored → Given → List PendingTransition
+barrier_at p mask sh s g = entries_at s.i (barrier p mask sh (held_in s) g)
 
 -- what stays the same while the transitions of texture i are logged
-abbrev pub task_of : ℕ → UsageFlags → ℕ → Bool → Task
-task_of i p mask write = record { index = tracker_index i; unknown = p.unknown; mask = mask; write = write }
+abbrev pub task_of : ℕ → UsageFlags → ℕ → Task
+task_of i p mask = record { index = tracker_index i; unknown = p.unknown; mask = mask }
 
 -- a range of mip k, handed on
 abbrev range_piece : ℕ → Range → Piece

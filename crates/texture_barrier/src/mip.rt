@@ -1,38 +1,33 @@
 // The transitions of one mip: what is added for each of its ranges.
-ghost use Rattle.std.specs.Prelude.{◌≡◌, ℕ, List, ◌+◌, ◌*◌, ◌^◌, ◌<◌, ◌≤◌, suc, length};
+ghost use Rattle.std.specs.Prelude.{◌≡◌, ℕ, List, ◌<◌};
 ghost use Rattle.model.specs.declared.Range.{Range};
 ghost use Rattle.model.specs.Base.{each};
 ghost use Rattle.model.specs.Texture.{Entry};
 ghost use Rattle.range_states.specs.View.{decode};
 ghost use Rattle.texture_barrier.specs.declared.transition.Task.{Task};
-ghost use Rattle.texture_barrier.specs.Adds.{RoomFor, Adds, entries_at};
+ghost use Rattle.texture_barrier.specs.Entries.{entries_at};
 ghost use Rattle.texture_barrier.specs.Steps.{to_state, from_state, within};
-ghost use Rattle.std.proofs.Common.{rules};
 
+use crate::sink::Sink;
 use crate::transition::Task;
 use model::{Range, Selector};
 use range_states::filtering::{clipped, overlap};
 use range_states::get;
+use set_storage::Run;
 
 // What is added for each range of a texture that is Many.
 pub trait Step {
     // what is added for a range of a mip
     ghost entries: { Self → Task → ℕ → Range → List Entry };
 
-    // what is counted on at a mip
+    // what is required at a mip
     ghost usable: { Self → ℕ → Type 0 };
 
-    // at most so many entries are added for a range
-    ghost most: { ℕ };
-
-    // Adds what is added for one range.
-    fn log(&self, r: Range, mip: u32, t: Task, log: &mut [u32], at: usize) -> usize
+    // Hands a sink what is added for one range.
+    fn log<K: Sink>(&self, r: Range, mip: u32, t: Task, sink: &mut K)
         requires usable_there { usable self.now mip }
-        requires no_overflow { at + most < 2 ^ 64 }
-        requires room_for { RoomFor t.write log.old at (entries_at t.index.0 (entries self.now t mip r)) }
-        ensures { Adds most t.write log.old at (entries_at t.index.0 (entries self.now t mip r)) result log.new };
-
-    ghost few: { most ≤ 256 };
+        requires room_for { K.room sink.old (entries_at t.index.0 (entries self.now t mip r)) }
+        ensures { K.takes sink.old (entries_at t.index.0 (entries self.now t mip r)) sink.new };
 }
 
 // It goes to one state.
@@ -44,14 +39,9 @@ impl Step for ToState {
 
     ghost usable = { λ _ m. m < 16 };
 
-    ghost most = { 1 };
-
-    fn log(&self, r: Range, mip: u32, t: Task, log: &mut [u32], at: usize) -> usize {
-        let q = Selector::on_mip(mip, r.start, r.end);
-        t.log_move(q, r.state, self.0, log, at)
+    fn log<K: Sink>(&self, r: Range, mip: u32, t: Task, sink: &mut K) {
+        t.log_move(Selector::on_mip(mip, r.start, r.end), r.state, self.0, sink)
     }
-
-    ghost few = { Prim.search rules };
 }
 
 // It is given, and one state goes to its state.
@@ -63,14 +53,9 @@ impl Step for FromState {
 
     ghost usable = { λ _ m. m < 16 };
 
-    ghost most = { 1 };
-
-    fn log(&self, r: Range, mip: u32, t: Task, log: &mut [u32], at: usize) -> usize {
-        let q = Selector::on_mip(mip, r.start, r.end);
-        t.log_move(q, self.0, r.state, log, at)
+    fn log<K: Sink>(&self, r: Range, mip: u32, t: Task, sink: &mut K) {
+        t.log_move(Selector::on_mip(mip, r.start, r.end), self.0, r.state, sink)
     }
-
-    ghost few = { Prim.search rules };
 }
 
 // What of it lies within a range goes to that range's state.
@@ -82,51 +67,28 @@ impl Step for Within {
 
     ghost usable = { λ _ m. m < 16 };
 
-    ghost most = { 1 };
-
-    fn log(&self, r: Range, mip: u32, t: Task, log: &mut [u32], at: usize) -> usize {
+    fn log<K: Sink>(&self, r: Range, mip: u32, t: Task, sink: &mut K) {
         let to = self.0;
-        if !overlap(r, to.start, to.end) {
-            return 0;
+        if overlap(r, to.start, to.end) {
+            let part = clipped(r, to.start, to.end);
+            t.log_move(
+                Selector::on_mip(mip, part.start, part.end),
+                part.state,
+                to.state,
+                sink,
+            )
         }
-        let part = clipped(r, to.start, to.end);
-        let q = Selector::on_mip(mip, part.start, part.end);
-        t.log_move(q, part.state, to.state, log, at)
     }
-
-    ghost few = { Prim.search rules };
 }
 
-// The ranges of a mip: the first `len` of a borrowed run.
-#[derive(Clone, Copy)]
-pub struct Run<'a> {
-    pub records: &'a [u32],
-    pub len: usize,
-    ghost inside: { 3 * len ≤ length records.now },
-    ghost few: { len ≤ 256 },
-}
-
-impl Run<'_> {
-    // A step's transitions of the ranges.
-    pub fn log_each<S: Step>(
-        &self,
-        step: &S,
-        mip: u32,
-        t: Task,
-        log: &mut [u32],
-        at: usize,
-    ) -> usize
-        requires usable { S.usable step.now mip }
-        requires no_overflow { at + 256 * S.most < 2 ^ 64 }
-        requires room_for { let es = each (S.entries step.now t mip) (decode self.now.len self.now.records.now) in
-            RoomFor t.write log.old at (entries_at t.index.0 es) }
-        ensures { let es = each (S.entries step.now t mip) (decode self.now.len self.now.records.now) in
-            Adds (256 * S.most) t.write log.old at (entries_at t.index.0 es) result log.new }
-    {
-        let mut added = 0;
-        for k in 0..self.len {
-            added += step.log(get(self.records, k), mip, t, log, at + added);
-        }
-        added
+// A step's transitions of the ranges of a mip.
+pub fn log_each<S: Step, K: Sink>(run: Run<'_>, step: &S, mip: u32, t: Task, sink: &mut K)
+    requires usable { S.usable step.now mip }
+    requires room_for { K.room sink.old (entries_at t.index.0 (each (S.entries step.now t mip) (decode run.len run.records.now))) }
+    ensures { let es = each (S.entries step.now t mip) (decode run.entry.len run.entry.records.now) in
+        K.takes sink.old (entries_at t.index.0 es) sink.new }
+{
+    for k in 0..run.len {
+        step.log(get(run.records, k), mip, t, sink);
     }
 }

@@ -2,145 +2,102 @@
 //
 // A texture is held as Many where its word tells COMPLEX (the tracker's table and the given one each have the word), otherwise the word
 // is its one state.
-ghost use Rattle.std.specs.Prelude.{◌≡◌, ◌≤◌, ◌<◌};
-ghost use Rattle.model.specs.CheckLaws.{SelectorWithin};
-ghost use Rattle.model.specs.Representation.{full as full_of};
-ghost use Rattle.model.specs.StateRules.{move_of};
-ghost use Rattle.model.specs.Texture.{from_held, entry};
-ghost use Rattle.set_storage.specs.Storage.{numbers_of, end_half, held_of};
-ghost use Rattle.texture_barrier.specs.Adds.{RoomFor, Adds, entries_at};
-ghost use Rattle.set_storage.specs.Texture.{TextureHeld};
-ghost use Rattle.texture_barrier.specs.Steps.{log_top};
-ghost use Rattle.texture_barrier.specs.Textures.{given_part, task_of, barrier_at, PartWithin};
+ghost use Rattle.model.specs.Texture.{from_held};
+ghost use Rattle.set_storage.specs.Stored.{HeldAs, held_in};
+ghost use Rattle.set_storage.specs.Uses.{PartWithin, use_of};
+ghost use Rattle.texture_barrier.specs.Textures.{barrier_at};
 
-use crate::many::Stored;
+use crate::many::log_mips;
 use crate::mip::{FromState, ToState, Within};
+use crate::sink::Sink;
 use crate::transition::Task;
-use model::{Extent, Range, Selector, TrackerIndex, UsageFlags};
-use set_storage::{END, Table, flags_of};
-
-// What stays the same during one `barrier` of texture i.
-fn task_of(i: usize, p: UsageFlags, mask: u32, write: bool) -> Task
-    requires { i < 64 }
-    ensures { result ≡ task_of i p mask write }
-{
-    Task {
-        index: TrackerIndex(i as u32),
-        unknown: p.unknown,
-        mask,
-        write,
-    }
-}
-
-// The transition of all of a texture that is held as one state to another.
-pub fn barrier_single(
-    i: usize,
-    extent: Extent,
-    p: UsageFlags,
-    mask: u32,
-    cur: u32,
-    new: u32,
-    log: &mut [u32],
-    at: usize,
-    write: bool,
-) -> usize
-    requires i_bound { i < 64 }
-    requires room_for { RoomFor write log.old at (entries_at i (entry (full_of extent) (move_of p.unknown mask cur new))) }
-    ensures { let es = entries_at i (entry (full_of extent) (move_of p.unknown mask cur new)) in
-        Adds 1 write log.old at es result log.new }
-{
-    task_of(i, p, mask, write).log_move(extent.full(), cur, new, log, at)
-}
+use model::{Extent, Range, Selector, UsageFlags};
+use set_storage::{Stored, flags_of};
 
 // The transitions to one state, of all of the texture or of the part that a selector names. A Single texture makes one entry over all the
 // mips of the part.
-pub fn barrier_use(
-    table: &Table,
-    ends: &[u32],
-    i: usize,
+#[inline(always)]
+pub fn barrier_use<K: Sink>(
+    held: Stored<'_>,
     extent: Extent,
     part: Option<Selector>,
     p: UsageFlags,
     mask: u32,
     new: u32,
-    log: &mut [u32],
-    at: usize,
-    write: bool,
-) -> usize
-    requires texture_held { TextureHeld (numbers_of table.now) end_half table.now ends.now i extent }
+    sink: &mut K,
+)
+    requires texture_held { HeldAs held extent }
     requires part_within { PartWithin extent part }
-    requires at_le_log_top { at ≤ log_top }
-    requires room_for { RoomFor write log.old at (barrier_at p mask extent table.now ends.now i (given_part part new)) }
-    ensures { Adds 4096 write log.old at (barrier_at p mask extent table.now ends.now i (given_part part new)) result log.new }
+    requires room_for { K.room sink.old (barrier_at p mask extent held (use_of part new)) }
+    ensures { K.takes sink.old (barrier_at p mask extent held.entry (use_of part new)) sink.new }
 {
-    let t = task_of(i, p, mask, write);
-    let cur = table[END + i];
-    if cur != flags_of(table).complex {
-        return t.log_move(part.unwrap_or(extent.full()), cur, new, log, at);
+    let t = Task::of(held.i, p, mask);
+    let cur = held.word();
+    if cur != flags_of(held.table).complex {
+        return t.log_move(part.unwrap_or(extent.full()), cur, new, sink);
     }
-    let held = Stored {
-        table,
-        ranges: ends,
-        half: END,
-        i,
-    };
     match part {
-        None => held.log_mips(0, extent.mips, &ToState(new), t, log, at),
+        None => log_mips(held, 0, extent.mips, &ToState(new), t, sink),
         Some(q) => {
             let to = Range {
                 start: q.layers.start.0,
                 end: q.layers.end.0,
                 state: new,
             };
-            held.log_mips(q.mips.start.0, q.mips.end.0, &Within(to), t, log, at)
+            log_mips(held, q.mips.start.0, q.mips.end.0, &Within(to), t, sink)
         }
     }
 }
 
-// The transitions to what texture i of another set holds, in the half of `given` that begins at `side`, with its ranges in `pieces`.
-pub fn barrier_texture(
-    table: &Table,
-    ends: &[u32],
-    i: usize,
+// The transitions to what a texture of another set holds. Single to Single, which most are, by a short way.
+#[inline(always)]
+pub fn barrier_texture<K: Sink>(
+    held: Stored<'_>,
     extent: Extent,
     p: UsageFlags,
     mask: u32,
-    given: &Table,
-    pieces: &[u32],
-    side: usize,
-    log: &mut [u32],
-    at: usize,
-    write: bool,
-) -> usize
-    requires texture_held { TextureHeld (numbers_of table.now) end_half table.now ends.now i extent }
-    requires given_held { TextureHeld (numbers_of given.now) side given.now pieces.now i extent }
-    requires at_le_log_top { at ≤ log_top }
-    requires room_for { let x = held_of (numbers_of given.now) side given.now pieces.now i in
-        RoomFor write log.old at (barrier_at p mask extent table.now ends.now i (from_held x)) }
-    ensures { let t = table.now in let e = ends.now in let g = given.now in let r = pieces.now in
-        Adds 1048576 write log.old at (barrier_at p mask extent t e i (from_held (held_of (numbers_of g) side g r i))) result
-        log.new }
+    given: Stored<'_>,
+    sink: &mut K,
+)
+    requires texture_held { HeldAs held extent }
+    requires given_held { HeldAs given extent }
+    requires room_for { K.room sink.old (barrier_at p mask extent held (from_held (held_in given))) }
+    ensures { K.takes sink.old (barrier_at p mask extent held.entry (from_held (held_in given.entry))) sink.new }
 {
-    let new = given[side + i];
-    if new != flags_of(given).complex {
-        return barrier_use(table, ends, i, extent, None, p, mask, new, log, at, write);
+    let new = given.word();
+    if new != flags_of(given.table).complex {
+        let cur = held.word();
+        if cur != flags_of(held.table).complex {
+            let t = Task::of(held.i, p, mask);
+            return t.log_move(extent.full(), cur, new, sink);
+        }
     }
-    let t = task_of(i, p, mask, write);
-    let cur = table[END + i];
-    let to = Stored {
-        table: given,
-        ranges: pieces,
-        half: side,
-        i,
-    };
-    if cur == flags_of(table).complex {
-        let held = Stored {
-            table,
-            ranges: ends,
-            half: END,
-            i,
-        };
-        return to.log_mips(0, extent.mips, &held, t, log, at);
+    barrier_any(held, extent, p, mask, given, sink)
+}
+
+// The same in every case; out of line, so that the short way is small.
+#[cold]
+fn barrier_any<K: Sink>(
+    held: Stored<'_>,
+    extent: Extent,
+    p: UsageFlags,
+    mask: u32,
+    given: Stored<'_>,
+    sink: &mut K,
+)
+    requires texture_held { HeldAs held extent }
+    requires given_held { HeldAs given extent }
+    requires room_for { K.room sink.old (barrier_at p mask extent held (from_held (held_in given))) }
+    ensures { K.takes sink.old (barrier_at p mask extent held.entry (from_held (held_in given.entry))) sink.new }
+{
+    let new = given.word();
+    if new != flags_of(given.table).complex {
+        return barrier_use(held, extent, None, p, mask, new, sink);
     }
-    to.log_mips(0, extent.mips, &FromState(cur), t, log, at)
+    let t = Task::of(held.i, p, mask);
+    let cur = held.word();
+    if cur == flags_of(held.table).complex {
+        return log_mips(given, 0, extent.mips, &held, t, sink);
+    }
+    log_mips(given, 0, extent.mips, &FromState(cur), t, sink)
 }
