@@ -1,9 +1,9 @@
--- `log_set`: what the loop asks for, and that the entries of every index are the model's.
+-- The log of a joined set: what the loop asks for, and that the entries of every index are the model's.
 use Rattle.model.specs.Prelude.{ℕ, arith, refl, Bool, true, false, List, get_or, []}
 use Rattle.model.specs.{Base.each_at₂, Calls.{log_given, log_slot}, Log.{pending, pending_of}, Texture.ranged}
 use Rattle.std.specs.Prelude.{◌≤◌, ◌<◌, ◌≡◌, if◌then◌else◌}
 use Rattle.set_storage.specs.Storage.{flags_of, extent_of, owned_of, slot_with, tracker_of, mask_at, textures_at, tracker_slot}
-use Rattle.texture_barrier.specs.Adds.{entries_at}
+use Rattle.texture_barrier.specs.Entries.{entries_at}
 use Rattle.set_ready.specs.{Half.tracker_texture, Given.given_at}
 use Rattle.texture_track.specs.{Slot.slot_pending, GivenSlot.{pair_of, pass_start, pass_end, end_entries, given_entries}}
 use Rattle.call_join.specs.{Join.{Joins, LogsSet, given_of, joined_entries, start_given}, Lists.each_list}

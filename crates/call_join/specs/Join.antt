@@ -6,12 +6,13 @@ use Rattle.model.specs.Texture.{Held, Entry, ranged}
 use Rattle.std.specs.Prelude.{◌≤◌, ◌<◌, ◌≡◌}
 use Rattle.set_storage.specs.Storage.{numbers_of, flags_of, extent_of, owned_of, start_half, end_half, set_with, tracker_of, mask_at}
 use Rattle.set_storage.specs.{Storage.{textures_at, table_indices}, Stays.{OwnedBy, TrackerFrame}, Frames.Measured}
-use Rattle.texture_barrier.specs.Adds.{entries_at}
+use Rattle.texture_barrier.specs.Entries.{entries_at}
 use Rattle.set_checks.specs.Passed.{SetPassed}
 use Rattle.agreement.specs.Fits.{ExtentFits}
 use Rattle.set_ready.specs.{Named.Within, Tested.{HalfFits, half_fits, ScopeTested, TrackerTested}, Given.HalfGiven}
 use Rattle.texture_track.specs.GivenSlot.{LogsAt, pair_of, pass_start, pass_end, given_entries}
 use Rattle.log_head.specs.UpTo.{up_to}
+use Rattle.call_join.specs.declared.every.Joining.{Joining}
 
 -- ---- The given set: its halves `from` and `to`, with the ranges a and b, are given as start and end
 abbrev pub given_of : ℕ → ℕ → List ℕ → List ℕ → List ℕ → Set (Ends Held)
@@ -82,6 +83,10 @@ pub record LogsSet (t e : List ℕ) (from : ℕ) (g a : List ℕ) (n : ℕ) : Ty
 -- the entries of the first n indices, in their order
 abbrev pub entries_to : UsageFlags → ℕ → List ℕ → List ℕ → ℕ → List ℕ → List ℕ → ℕ → List PendingTransition
 entries_to p mask t e from g a n = up_to (λ (i : ℕ). entries_at i (given_entries p mask t e from g a i)) n
+
+-- those of a set as it is logged
+abbrev pub joining_entries : Joining → List PendingTransition
+joining_entries j = entries_to j.p j.mask j.table.now j.ends.now j.given.from j.given.table.now j.given.first.now j.n
 
 -- those of the whole set
 abbrev pub joined_entries : List ℕ → List ℕ → ℕ → List ℕ → List ℕ → List PendingTransition

@@ -10,12 +10,13 @@ ghost use Rattle.texture_track.specs.Tracked.{Tracked, Changes};
 ghost use Rattle.call_join.specs.Join.{GivenTested, Joins, join_call, joined_entries, joined_tracker};
 ghost use Rattle.call_join.specs.Contract.{SetFromUsageScope, SetFromTracker};
 
-use crate::every::{log_set, set_slots};
-use log_head::{check_head, moved_on, subresources};
+use crate::every::{Joining, set_slots};
+use log_head::{check_head, log_all, subresources};
 use model::{LogHead, Refusal};
 use set_checks::check_set;
 use set_storage::{END, MASK, START, TEXTURES, Table, flags_of, wide};
 use set_wellformed::{scope_fits, tracker_fits};
+use texture_track::given::GivenSet;
 
 // The set, once the checks passed: its entries are written, if they fit, and the textures change. Where there is a free entry for every
 // subresource they fit, and nothing is counted.
@@ -23,36 +24,34 @@ fn set_checked(
     table: &mut Table,
     starts: &mut [u32],
     ends: &mut [u32],
-    given: &Table,
-    first: &[u32],
-    from: usize,
-    last: &[u32],
-    to: usize,
+    given: GivenSet<'_>,
     log: &mut [u32],
     head: LogHead,
 ) -> Result<LogHead, Refusal>
-    requires joins { Joins table.old starts.old ends.old from to given.now first.now last.now }
-    requires first_len_bound { length (joined_entries table.old ends.old from given.now first.now) ≤ capacity (numbers_of table.old) }
+    requires joins { Joins table.old starts.old ends.old given.from given.to given.table.now given.first.now given.last.now }
+    requires first_len_bound { let t = table.old in
+        length (joined_entries t ends.old given.from given.table.now given.first.now) ≤ capacity (numbers_of t) }
     requires head_value { head_within (length log.old / 7) head ≡ true }
-    requires log_len_bound { length log.old < 18446744073709551616 }
     ensures { let t = table.old in let s = starts.old in let e = ends.old in
-        let g = given.now in let a = first.now in let b = last.now in
-        Changes (OwnedBy g) (joined_entries t e from g a) (joined_tracker t s e from to g a b) head
+        let x = given.entry in let g = x.table.now in let a = x.first.now in let b = x.last.now in
+        Changes (OwnedBy g) (joined_entries t e x.from g a) (joined_tracker t s e x.from x.to g a b) head
         t s e log.old (answered head result) table.new starts.new ends.new log.new }
 {
     let p = flags_of(table);
     let mask = table[MASK];
-    let n = wide(given[TEXTURES]);
-    if head.free < subresources(table) {
-        let x = log_set(table, ends, p, mask, given, first, from, n, log, 0, false);
-        if head.free < x {
-            return Err(Refusal::NoFreeEntry);
-        }
-    }
-    let at = head.written;
-    let x = log_set(table, ends, p, mask, given, first, from, n, log, at, true);
-    set_slots(table, starts, ends, given, first, from, last, to, n, p);
-    Ok(moved_on(head, x))
+    let n = wide(given.table[TEXTURES]);
+    let most = subresources(table);
+    let joining = Joining {
+        table,
+        ends,
+        given,
+        n,
+        p,
+        mask,
+    };
+    let after = log_all(&joining, most, log, head)?;
+    set_slots(table, starts, ends, given, n, p);
+    Ok(after)
 }
 
 // The set, once both sets passed the test: the log's head and the checks of 01's table come first.
@@ -60,26 +59,23 @@ fn set_from(
     table: &mut Table,
     starts: &mut [u32],
     ends: &mut [u32],
-    given: &Table,
-    first: &[u32],
-    from: usize,
-    last: &[u32],
-    to: usize,
+    given: GivenSet<'_>,
     log: &mut [u32],
     head: LogHead,
 ) -> Result<LogHead, Refusal>
     requires tracker_tested { TrackerTested table.old starts.old ends.old }
-    requires given_tested { GivenTested from to given.now first.now last.now }
-    requires last_len_bound { length (pending (join_call table.old starts.old ends.old from to given.now first.now last.now).log)
-        ≤ capacity (numbers_of table.old) }
+    requires given_tested { GivenTested given.from given.to given.table.now given.first.now given.last.now }
+    requires last_len_bound { let t = table.old in let g = given.table.now in
+        length (pending (join_call t starts.old ends.old given.from given.to g given.first.now given.last.now).log)
+        ≤ capacity (numbers_of t) }
     ensures { let t = table.old in let s = starts.old in let e = ends.old in
-        let g = given.now in let a = first.now in let b = last.now in
-        Tracked (OwnedBy g) true (join_call t s e from to g a b) head t s e log.old
+        let x = given.entry in let g = x.table.now in
+        Tracked (OwnedBy g) true (join_call t s e x.from x.to g x.first.now x.last.now) head t s e log.old
         (answered head result) table.new starts.new ends.new log.new }
 {
     check_head(log, head)?;
-    check_set(table, given)?;
-    set_checked(table, starts, ends, given, first, from, last, to, log, head)
+    check_set(table, given.table)?;
+    set_checked(table, starts, ends, given, log, head)
 }
 
 // Sets what a scope holds in a tracker, and logs the transitions.
@@ -103,9 +99,14 @@ pub fn set_from_usage_scope(
     if !scope_fits(given, lent) {
         return Err(Refusal::NotWellFormed);
     }
-    set_from(
-        table, starts, ends, given, lent, START, lent, START, log, head,
-    )
+    let set = GivenSet {
+        table: given,
+        first: lent,
+        from: START,
+        last: lent,
+        to: START,
+    };
+    set_from(table, starts, ends, set, log, head)
 }
 
 // Sets what another tracker holds in a tracker: the transitions go to its start, and the textures take its end.
@@ -130,7 +131,12 @@ pub fn set_from_tracker(
     if !tracker_fits(given, first, last) {
         return Err(Refusal::NotWellFormed);
     }
-    set_from(
-        table, starts, ends, given, first, START, last, END, log, head,
-    )
+    let set = GivenSet {
+        table: given,
+        first,
+        from: START,
+        last,
+        to: END,
+    };
+    set_from(table, starts, ends, set, log, head)
 }

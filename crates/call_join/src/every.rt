@@ -1,52 +1,39 @@
 // Every texture that a given set owns: its transitions, and what it becomes.
-ghost use Rattle.std.specs.Prelude.{◌≡◌, ◌+◌, ◌≤◌, get_or};
+ghost use Rattle.std.specs.Prelude.{◌≡◌, get_or};
 ghost use Rattle.set_storage.specs.Storage.{flags_of, textures_at};
-ghost use Rattle.texture_barrier.specs.Steps.{log_top};
-ghost use Rattle.texture_barrier.specs.Adds.{RoomFor, Adds};
-ghost use Rattle.log_head.specs.UpTo.{set_top};
-ghost use Rattle.call_join.specs.Join.{Joins, LogsSet, SetsAll, entries_to};
+ghost use Rattle.call_join.specs.Join.{Joins, LogsSet, SetsAll, joining_entries};
 
+use log_head::Transitions;
 use model::UsageFlags;
 use set_storage::Table;
-use texture_track::given::{log_at, set_at};
+use texture_barrier::Sink;
+use texture_track::given::{GivenSet, log_at, set_at};
 
-// The transitions by ascending index, counted, or written after the first `at` entries of the log. n is the given set's N.
-pub fn log_set(
-    table: &Table,
-    ends: &[u32],
-    p: UsageFlags,
-    mask: u32,
-    given: &Table,
-    first: &[u32],
-    from: usize,
-    n: usize,
-    log: &mut [u32],
-    at: usize,
-    write: bool,
-) -> usize
-    requires logs_set { LogsSet table.now ends.now from given.now first.now n }
-    requires set_top_bound { at + set_top ≤ log_top }
-    requires room_for { RoomFor write log.old at (entries_to p mask table.now ends.now from given.now first.now n) }
-    ensures { let t = table.now in let e = ends.now in let g = given.now in let a = first.now in
-        Adds set_top write log.old at (entries_to p mask t e from g a n) result log.new }
-{
-    let mut x = 0;
-    for k in 0..n {
-        x += log_at(
-            table,
-            ends,
-            k,
-            p,
-            mask,
-            given,
-            first,
-            from,
-            log,
-            at + x,
-            write,
-        );
+// What a given set adds to the log.
+#[derive(Clone, Copy)]
+pub struct Joining<'a> {
+    pub table: &'a Table,
+    pub ends: &'a [u32],
+    pub given: GivenSet<'a>,
+    // the given set's N
+    pub n: usize,
+    pub p: UsageFlags,
+    pub mask: u32,
+}
+
+// The transitions by ascending index.
+impl Transitions for Joining<'_> {
+    ghost entries = { joining_entries };
+
+    ghost ready = { λ j. LogsSet j.table.now j.ends.now j.given.from j.given.table.now j.given.first.now j.n };
+
+    fn log<K: Sink>(&self, sink: &mut K) {
+        for k in 0..self.n {
+            log_at(
+                self.table, self.ends, k, self.p, self.mask, self.given, sink,
+            );
+        }
     }
-    x
 }
 
 // What the textures become.
@@ -54,21 +41,16 @@ pub fn set_slots(
     table: &mut Table,
     starts: &mut [u32],
     ends: &mut [u32],
-    given: &Table,
-    first: &[u32],
-    from: usize,
-    last: &[u32],
-    to: usize,
+    given: GivenSet<'_>,
     n: usize,
     p: UsageFlags,
 )
-    requires joins { Joins table.old starts.old ends.old from to given.now first.now last.now }
-    requires n_value { (n ≡ get_or given.now textures_at 0) × (p ≡ flags_of table.old) }
-    ensures { let t = table.old in let s = starts.old in let e = ends.old in let g = given.now in
-        let a = first.now in let b = last.now in
-        SetsAll t s e from to g a b table.new starts.new ends.new }
+    requires joins { Joins table.old starts.old ends.old given.from given.to given.table.now given.first.now given.last.now }
+    requires n_value { (n ≡ get_or given.table.now textures_at 0) × (p ≡ flags_of table.old) }
+    ensures { let t = table.old in let s = starts.old in let e = ends.old in let g = given.entry in
+        SetsAll t s e g.from g.to g.table.now g.first.now g.last.now table.new starts.new ends.new }
 {
     for k in 0..n {
-        set_at(table, starts, ends, k, given, first, from, last, to, p);
+        set_at(table, starts, ends, k, given, p);
     }
 }

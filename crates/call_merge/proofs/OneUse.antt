@@ -1,20 +1,19 @@
 -- `merge_single`, and any merge that is turned away: from what the code found to the contract.
-use Rattle.std.specs.Prelude.{◌<◌, ◌≡◌}
 use Rattle.model.specs.Prelude.{ℕ, refl, sym, ap, subst, ◌∙◌, Bool, true, false, false≢true, Option, None, Some, List, get_or, set, Ok, Err}
 use Rattle.model.specs.declared.Refusal.TheVariants.{NotWellFormed}
 use Rattle.model.specs.declared.{UsageFlags.UsageFlags, Extent.Extent, InvalidUse.InvalidUse, Refusal.Refusal, Selector.Selector}
-use Rattle.model.specs.declared.CallError.TheVariants.{Refused}
-use Rattle.model.specs.{Base.Stop, Sets.{Slot, Set, Head, slot_at, with_slots, empty_slot}}
+use Rattle.model.specs.{declared.CallError.TheVariants.Refused, Base.Stop, Sets.{Slot, Set, Head, slot_at, with_slots, empty_slot}}
 use Rattle.model.specs.{Refusals.{first_failing, single_refusal}, CheckLaws.StatePassed}
 use Rattle.model.specs.Calls.{Indexed, CallResult, answer, turned_away, unless, merge_slot, merge_single}
 use Rattle.model.specs.{Log.{Outcome, is_refused, outcome_of, merging}, Texture.{Held, single, Entry, from_use, ranged}}
+use Rattle.std.specs.Prelude.{◌<◌, ◌≡◌}
 use Rattle.set_storage.specs.{Storage.{flags_of, scope_of, start_half, textures_at, scope_slot}, Stays.{Only, keeps_refl, keeps_more}}
 use Rattle.set_storage.specs.Lists.{list_at}
 use Rattle.texture_merge.specs.Walks.{Stopped}
 use Rattle.set_checks.specs.{Head.{use_refusal, scope_head, UseTold}, Passed.{use_passed, texture_passed, state_passed}}
 use Rattle.set_ready.specs.{Tested.ScopeTested, Half.{HalfReady, scope_texture}, Named.Within, Checked.TakenUse}
-use Rattle.call_merge.specs.{declared.single.Use.Use, Met.told_of, Merged.Merged, Slot.{SlotMerged, scope_view}, Single.UseIs}
-use Rattle.call_merge.specs.Scope.{SlotsMerged}
+use Rattle.set_ready.specs.Parts.{part_named, part_within}
+use Rattle.call_merge.specs.{Met.told_of, Merged.Merged, Slot.{SlotMerged, scope_view}, Scope.SlotsMerged}
 
 -- ---- The test of the sets comes first
 abbrev pub ScopeResult : Type 0
@@ -107,12 +106,11 @@ module _ {t : List ℕ} {i : ℕ} {sh : Extent} {s : Option Selector} {st : ℕ}
   pub single_ready : {r : List ℕ} → ScopeTested t r → HalfReady start_half t r i sh
   single_ready k = scope_texture k (texture_passed t i sh (use_passed t i sh s st z.is).0)
 
-  pub single_use : {u : Use} {p : UsageFlags} → UseIs sh s u → p ≡ flags_of t → TakenUse t sh u.all u.selector p st
-  single_use {u} {p} y e =
-      let a = use_passed t i sh s st z.is in let x = texture_passed t i sh a.0 in
+  pub single_use : {part : Option Selector} {p : UsageFlags} → part ≡ part_named sh s → p ≡ flags_of t → TakenUse t sh part p st
+  single_use {p = p} y e =
+      let a = use_passed t i sh s st z.is in
       record {
         flags = e;
-        selector = y.passed x.mip x.some a.1.0;
-        whole = y.whole;
+        within = rw y (part_within sh s a.1.0);
         state = subst (λ (f : UsageFlags). StatePassed f st) (sym e) (state_passed (flags_of t) st a.1.1);
       }

@@ -1,6 +1,5 @@
 pub mod Merged
 pub mod Met
 pub mod Slot
-pub mod Single
 pub mod Scope
 pub mod Contract

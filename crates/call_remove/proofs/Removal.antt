@@ -1,38 +1,21 @@
 -- The sparse call: from what the code found and changed to the contract.
-use Rattle.model.specs.Prelude.{ℕ, mul-le-mul, arith, refl, sym, ap, subst, ◌∙◌, Bool, true, and-eq-true_iff, [], Option, None, Some, List}
+use Rattle.model.specs.Prelude.{ℕ, arith, refl, sym, ap, subst, ◌∙◌, Bool, true, and-eq-true_iff, [], Option, None, Some, List}
 use Rattle.model.specs.Prelude.{length, Err, Ok}
-use Rattle.model.specs.declared.Refusal.TheVariants.{NoFreeEntry}
 use Rattle.model.specs.declared.{InvalidUse.InvalidUse, LogHead.LogHead, Refusal.Refusal}
 use Rattle.model.specs.{Sets.{capacity, Head, Set, Tracker, head_of}, Refusals.sparse_refusal}
 use Rattle.model.specs.{Calls.{CallResult, unless, sparse_all, set_and_remove_sparse}, Log.pending, Texture.{Held, Entry, ranged}}
 use Rattle.model.specs.WellFormed.{scope_fits, tracker_fits, well_formed_scope, well_formed_tracker}
-use Rattle.std.specs.Prelude.{◌*◌, ◌/◌, ◌≤◌, ◌<◌, ◌≡◌, ◌∷◌}
-use Rattle.set_storage.specs.{Storage.{numbers_of, scope_of, tracker_of}, Stays.both_refl}
+use Rattle.std.specs.Prelude.{◌/◌, ◌≤◌, ◌≡◌, ◌∷◌}
+use Rattle.set_storage.specs.{Storage.{numbers_of, scope_of, tracker_of}}
 use Rattle.agreement.specs.LogBound.{entries}
 use Rattle.agreement.proofs.{LogRoom.entries_written, EachCall.sparse_room}
 use Rattle.set_checks.specs.{Head.{head_in, tracker_head, scope_head}, Sets.SparseTold, Passed.sparse_passed}
 use Rattle.set_ready.specs.Tested.{ScopeTested, TrackerTested}
-use Rattle.log_head.specs.{Log.{head_within, refused_with, moved_on}, Called.{Wrote, not_enough, written}}
+use Rattle.log_head.specs.{Log.{head_within, refused_with}}
 use Rattle.call_remove.specs.Removed.{Both, sets_of, Removed, Removes, away_own, removes_removed}
-use Rattle.call_remove.specs.{Logs.{most_entries, removed_entries, entries_model}, Taken.{Listing, Takes, sets_after}}
+use Rattle.call_remove.specs.{Logs.{removed_entries, entries_model}, Taken.{Listing, sets_after}}
 use Rattle.model.specs.Calls as calls
 use Rattle.model.specs.Log.{Answered}
-
--- ---- `remove_checked`
-module _ {t s e g r is l : List ℕ} {h : LogHead} where
-  -- 15
-  pub none_removed : h.free < length (removed_entries t e g r is)
-      → Removes is (removed_entries t e g r is) (sets_after t s e g r is) h t s e g r l (refused_with NoFreeEntry h) t s e g l
-  none_removed k = record {
-    change = not_enough refl (refl, (refl, (refl, refl))) k;
-    gone = λ q. absurd (omega arith);
-    frame = both_refl t s e;
-  }
-
-  -- written, and the textures changed
-  pub all_removed : {k : ℕ} {t' s' e' g' l₂ : List ℕ} → Wrote (removed_entries t e g r is) h l k l₂ → Takes t s e g r is t' s' e' g'
-      → Removes is (removed_entries t e g r is) (sets_after t s e g r is) h t s e g r l (moved_on h k) t' s' e' g' l₂
-  all_removed w q = record { change = written w (λ j. (q.tracker j, q.scope j)); gone = λ z. q.gone; frame = q.frame }
 
 -- ---- The call
 abbrev BothResult : Type 0
@@ -76,15 +59,6 @@ module _ {t s e g r is : List ℕ} (tracker : TrackerTested t s e) (scope : Scop
       ap (λ (x : BothResult). entries x.log) (call_is t s e g r is None told.is)
       ∙ sym (entries_written (sparse_all ranged is (sets_of t s e g r)).log) ∙ ap length model_entries in
       omega arith
-
-  -- and that is no more than the largest tracker has
-  pub most_entries_lem : tracker_fits (tracker_of t s e) ≡ true → scope_fits (scope_of g r) ≡ true
-      → length (removed_entries t e g r is) ≤ most_entries
-  most_entries_lem a b =
-      let m = tracker.starts in
-      let c : (numbers_of t).textures * (numbers_of t).mips * (numbers_of t).layers ≤ 64 * 16 * 256 =
-      mul-le-mul (mul-le-mul m.textures m.mips) m.layers in
-      omega (arith, few_entries a b)
 
   -- 15, or done
   pub call_done : {fits : Bool} {h : LogHead} {l : List ℕ} {x : Answered} {t' s' e' g' l' : List ℕ} → fits ≡ true

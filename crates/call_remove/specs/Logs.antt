@@ -5,25 +5,18 @@ use Rattle.model.specs.{Calls.{no_ends, log_slot, sparse_all}, Log.{pending, pen
 use Rattle.std.specs.Prelude.{◌<◌, ◌≡◌, if◌then◌else◌}
 use Rattle.set_storage.specs.Storage.{flags_of, extent_of, owned_of, start_half, scope_of, tracker_of, mask_at, textures_at, tracker_slot}
 use Rattle.set_storage.specs.{Storage.scope_slot, Lists.list_at}
-use Rattle.texture_barrier.specs.Adds.{entries_at}
+use Rattle.texture_barrier.specs.Entries.{entries_at}
 use Rattle.agreement.specs.LogBound.{listed}
 use Rattle.set_checks.specs.Passed.{SparsePassed}
 use Rattle.set_ready.specs.{Tested.{ScopeTested, TrackerTested}, Half.tracker_texture, Given.{given_at, owned_given}}
 use Rattle.texture_track.specs.{Slot.slot_pending, GivenSlot.{LogsAt, end_entries, given_entries}}
 use Rattle.log_head.specs.UpTo.{up_to}
+use Rattle.call_remove.specs.declared.logged.Listed.{Listed}
 use Rattle.call_remove.specs.{Once.{once_at, once_up, once_each, up_ext}, Removed.sets_of, Sparse.{into, given, taken_log, sparse_log}}
 
 -- what is asked of the loop: every listed index is ready
 pub record LogsListed (t e g r is : List ℕ) : Type 0 where
   pub each : (k : ℕ) → k < length is → LogsAt t e (get_or is k 0) start_half g r
-
--- as many as a call adds at most: N × M × W
-abbrev pub most_entries : ℕ
-most_entries = 262144
-
--- the transitions of an index, none where it is listed again
-abbrev pub once_entries : Bool → UsageFlags → ℕ → List ℕ → List ℕ → List ℕ → List ℕ → ℕ → List Entry
-once_entries again p mask t e g r i = if again then [] else given_entries p mask t e start_half g r i
 
 -- the transitions of the index at position k
 abbrev pub listed_entries : UsageFlags → ℕ → List ℕ → List ℕ → List ℕ → List ℕ → List ℕ → ℕ → List Entry
@@ -32,6 +25,10 @@ listed_entries p mask t e g r is k = once_at (given_entries p mask t e start_hal
 -- the entries of the first n positions, in their order
 abbrev pub entries_to : UsageFlags → ℕ → List ℕ → List ℕ → List ℕ → List ℕ → List ℕ → ℕ → List PendingTransition
 entries_to p mask t e g r is n = up_to (λ (k : ℕ). entries_at (get_or is k 0) (listed_entries p mask t e g r is k)) n
+
+-- those of a list as it is logged
+abbrev pub listing_entries : Listed → List PendingTransition
+listing_entries x = entries_to x.p x.mask x.table.now x.ends.now x.given.now x.lent.now x.indices.now (length x.indices.now)
 
 -- those of all that is listed
 abbrev pub removed_entries : List ℕ → List ℕ → List ℕ → List ℕ → List ℕ → List PendingTransition

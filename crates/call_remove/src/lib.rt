@@ -7,7 +7,7 @@
 // entries (15), on unchanged storage; then the entries are written and the textures change, and nothing can fail.
 //
 //     sparse   the call
-//     logged   the transitions of the listed textures, counted or written
+//     logged   the transitions of the listed textures, handed to a sink
 //     taken    the listed textures go into the tracker, and out of the scope
 //
 // An index that the scope does not own is passed over, and one that is listed twice counts once. The log is made before any texture

@@ -1,84 +1,48 @@
 // The transitions of the listed textures that a scope owns.
-ghost use Rattle.std.specs.Prelude.{◌+◌, ◌≤◌, length};
-ghost use Rattle.texture_barrier.specs.Steps.{log_top};
-ghost use Rattle.texture_barrier.specs.Adds.{RoomFor, Adds, entries_at};
-ghost use Rattle.call_remove.specs.Logs.{LogsListed, most_entries, once_entries, entries_to};
-ghost use Rattle.set_storage.specs.Storage.{start_half};
-ghost use Rattle.texture_track.specs.GivenSlot.{LogsAt};
+ghost use Rattle.call_remove.specs.Logs.{LogsListed, listing_entries};
 
+use log_head::Transitions;
 use model::UsageFlags;
 use set_storage::{START, Table, wide};
-use texture_track::given::log_at;
+use texture_barrier::Sink;
+use texture_track::given::{GivenSet, log_at};
 
-// Those of index i, counted, or written after the first `at` entries of the log: none if the scope does not own it, or if it was listed
-// before.
-pub fn log_listed_at(
-    table: &Table,
-    ends: &[u32],
-    i: usize,
-    again: bool,
-    p: UsageFlags,
-    mask: u32,
-    given: &Table,
-    lent: &[u32],
-    log: &mut [u32],
-    at: usize,
-    write: bool,
-) -> usize
-    requires logs_at { LogsAt table.now ends.now i start_half given.now lent.now }
-    requires at_le_log_top { at ≤ log_top }
-    requires room_for { RoomFor write log.old at (entries_at i (once_entries again p mask table.now ends.now given.now lent.now i)) }
-    ensures { let t = table.now in let e = ends.now in let g = given.now in let r = lent.now in
-        Adds 1048576 write log.old at (entries_at i (once_entries again p mask t e g r i)) result log.new }
-{
-    if again {
-        return 0;
-    }
-    log_at(table, ends, i, p, mask, given, lent, START, log, at, write)
+// What the listed textures add to the log.
+#[derive(Clone, Copy)]
+pub struct Listed<'a> {
+    pub table: &'a Table,
+    pub ends: &'a [u32],
+    pub given: &'a Table,
+    pub lent: &'a [u32],
+    pub indices: &'a [u32],
+    pub p: UsageFlags,
+    pub mask: u32,
 }
 
-// Those of all, in list order. `seen` is true at each index that was listed so far.
-pub fn log_listed(
-    table: &Table,
-    ends: &[u32],
-    p: UsageFlags,
-    mask: u32,
-    given: &Table,
-    lent: &[u32],
-    indices: &[u32],
-    log: &mut [u32],
-    at: usize,
-    write: bool,
-) -> usize
-    requires logs_listed { LogsListed table.now ends.now given.now lent.now indices.now }
-    requires few { let is = indices.now in
-        length (entries_to p mask table.now ends.now given.now lent.now is (length is)) ≤ most_entries }
-    requires most_entries_bound { at + most_entries ≤ log_top }
-    requires room_for { let is = indices.now in
-        RoomFor write log.old at (entries_to p mask table.now ends.now given.now lent.now is (length is)) }
-    ensures { let t = table.now in let e = ends.now in let g = given.now in let is = indices.now in
-        let r = lent.now in
-        Adds most_entries write log.old at (entries_to p mask t e g r is (length is)) result log.new }
-{
-    let mut seen = [false; 64];
-    let mut x = 0;
-    for &index in indices {
-        let i = wide(index);
-        let again = seen[i];
-        x += log_listed_at(
-            table,
-            ends,
-            i,
-            again,
-            p,
-            mask,
-            given,
-            lent,
-            log,
-            at + x,
-            write,
-        );
-        seen[i] = true;
+// Those of all, in list order: none of an index that the scope does not own, nor of one that was listed before. `seen` is true at each
+// index that was listed so far.
+impl Transitions for Listed<'_> {
+    ghost entries = { listing_entries };
+
+    ghost ready = { λ x. LogsListed x.table.now x.ends.now x.given.now x.lent.now x.indices.now };
+
+    fn log<K: Sink>(&self, sink: &mut K) {
+        let set = GivenSet {
+            table: self.given,
+            first: self.lent,
+            from: START,
+            last: self.lent,
+            to: START,
+        };
+        let mut seen = [false; 64];
+        for &index in self.indices {
+            let i = wide(index);
+            let again = seen[i];
+            seen[i] = true;
+            if again {
+                continue;
+            }
+            log_at(self.table, self.ends, i, self.p, self.mask, set, sink);
+        }
     }
-    x
 }

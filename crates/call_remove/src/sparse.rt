@@ -4,13 +4,13 @@ ghost use Rattle.model.specs.{Log.{answered}, Sets.{capacity}};
 ghost use Rattle.set_storage.specs.Storage.{numbers_of};
 ghost use Rattle.set_storage.specs.Lent.{LentScope, LentTracker};
 ghost use Rattle.log_head.specs.Log.{head_within};
-ghost use Rattle.call_remove.specs.Logs.{most_entries, removed_entries};
+ghost use Rattle.call_remove.specs.Logs.{removed_entries};
 ghost use Rattle.call_remove.specs.Taken.{Listing, sets_after};
 ghost use Rattle.call_remove.specs.Removed.{Removes, SetAndRemoveSparse};
 
-use crate::logged::log_listed;
+use crate::logged::Listed;
 use crate::taken::set_listed;
-use log_head::{check_head, moved_on, subresources};
+use log_head::{check_head, log_all, subresources};
 use model::{LogHead, Refusal};
 use set_checks::check_sparse;
 use set_storage::{MASK, Table, flags_of};
@@ -31,9 +31,7 @@ pub fn remove_checked(
     requires listing { Listing table.old starts.old ends.old given.old lent.now indices.now }
     requires indices_len_bound { length (removed_entries table.old ends.old given.old lent.now indices.now)
         ≤ capacity (numbers_of table.old) }
-    requires indices_len_bound_2 { length (removed_entries table.old ends.old given.old lent.now indices.now) ≤ most_entries }
     requires head_value { head_within (length log.old / 7) head ≡ true }
-    requires log_len_bound { length log.old < 18446744073709551616 }
     ensures { let t = table.old in let s = starts.old in let e = ends.old in
         let g = given.old in let r = lent.now in let is = indices.now in
         Removes is (removed_entries t e g r is) (sets_after t s e g r is) head t s e g r log.old
@@ -41,16 +39,19 @@ pub fn remove_checked(
 {
     let p = flags_of(table);
     let mask = table[MASK];
-    if head.free < subresources(table) {
-        let n = log_listed(table, ends, p, mask, given, lent, indices, log, 0, false);
-        if head.free < n {
-            return Err(Refusal::NoFreeEntry);
-        }
-    }
-    let at = head.written;
-    let n = log_listed(table, ends, p, mask, given, lent, indices, log, at, true);
+    let most = subresources(table);
+    let listed = Listed {
+        table,
+        ends,
+        given,
+        lent,
+        indices,
+        p,
+        mask,
+    };
+    let after = log_all(&listed, most, log, head)?;
     set_listed(table, starts, ends, given, lent, indices, p);
-    Ok(moved_on(head, n))
+    Ok(after)
 }
 
 // Sets the listed textures of a scope in a tracker, logs the transitions, and removes them from the scope.

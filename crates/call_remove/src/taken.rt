@@ -6,7 +6,7 @@ ghost use Rattle.call_remove.specs.Taken.{Listing, TakenAt, Takes};
 
 use model::UsageFlags;
 use set_storage::{OWNED, START, Table, wide};
-use texture_track::given::set_at;
+use texture_track::given::{GivenSet, set_at};
 
 // Texture i, if the scope owns it.
 pub fn take_at(
@@ -26,7 +26,14 @@ pub fn take_at(
     if given[OWNED + i] == 0 {
         return;
     }
-    set_at(table, starts, ends, i, given, lent, START, lent, START, p);
+    let set = GivenSet {
+        table: given,
+        first: lent,
+        from: START,
+        last: lent,
+        to: START,
+    };
+    set_at(table, starts, ends, i, set, p);
     given[OWNED + i] = 0;
 }
 

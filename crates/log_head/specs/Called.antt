@@ -1,13 +1,13 @@
 -- THE CONTRACT of a call that logs, over any view X of the sets that it is lent; and what it is check by check.
-use Rattle.model.specs.Prelude.{ℕ, arith, refl, sym, ap, ◌∙◌, Bool, true, false, false≢true, List, length}
+use Rattle.model.specs.Prelude.{ℕ, arith, refl, sym, ap, ◌∙◌, Bool, true, false, false≢true, Ok, List, length}
 use Rattle.model.specs.declared.Refusal.TheVariants.{NotWellFormed, LogTooShort, NoFreeEntry}
-use Rattle.model.specs.declared.{InvalidUse.InvalidUse, LogHead.LogHead, PendingTransition.PendingTransition}
-use Rattle.model.specs.{declared.Refusal.Refusal, Calls.{done, CallResult}, Log.{Answered, Logged, is_refused, added, pending, logging}}
-use Rattle.model.specs.{Texture.Entry, BoolLaws.by_lt}
+use Rattle.model.specs.declared.{InvalidUse.InvalidUse, LogHead.LogHead, PendingTransition.PendingTransition, Refusal.Refusal}
+use Rattle.model.specs.{Calls.{done, CallResult}, Log.{Answered, Logged, answered, is_refused, added, pending, logging}, Texture.Entry}
+use Rattle.model.specs.BoolLaws.{by_lt}
 use Rattle.std.specs.Prelude.{◌+◌, ◌*◌, ◌/◌, ◌≤◌, ◌<◌, ◌≡◌}
-use Rattle.texture_barrier.specs.{Entries.Added, Adds.{Adds, adds_added}}
-use Rattle.log_head.specs.Log.{log_of, Logs, head_within, refused_with, moved_on, head_le, lent_is, staying, unfit, too_short, own_refusal}
-use Rattle.log_head.specs.Log.{too_few, logged_on, log_stays, log_moves}
+use Rattle.texture_barrier.specs.{Entries.Added, Written.{Written, written_added}}
+use Rattle.log_head.specs.Log.{log_of, Logs, head_within, head_after, refused_with, moved_on, head_le, lent_is, staying, unfit, too_short}
+use Rattle.log_head.specs.Log.{own_refusal, too_few, logged_on, log_stays, log_moves}
 use Rattle.model.specs.Calls as calls
 
 -- `fits` says whether every set that was handed in is well formed, m is the model's call, and `same` says that every number of the sets
@@ -80,37 +80,16 @@ pub room_for : (h : LogHead) (l : List ℕ) (new : List PendingTransition) → h
     → 7 * (h.written + length new) ≤ length l
 room_for h l new f k = omega (arith, head_le (length l / 7) h f)
 
--- they fit: they are counted, unless there is a free entry for every subresource
-pub record Fitting (new : List PendingTransition) (free : ℕ) (l l₁ : List ℕ) : Type 0 where
-  pub fits : length new ≤ free
-  pub same : l₁ ≡ l
-
-module _ {new : List PendingTransition} {free : ℕ} {l l₁ : List ℕ} where
-  -- by the count
-  pub counted_fits : {top n k : ℕ} {l₂ : List ℕ} → Adds top false l n new k l₂ → k ≤ free → l₁ ≡ l₂ → Fitting new free l l₁
-  counted_fits a le e = record { fits = omega (arith, a.count); same = e ∙ a.content }
-
-  -- without one: there is a free entry for every subresource
-  pub all_fit : {top k : ℕ} → length new ≤ top → k ≡ top → k ≤ free → l₁ ≡ l → Fitting new free l l₁
-  all_fit a e le s = record { fits = omega arith; same = s }
-
--- they fit and are written: k is how many, and the head can move on by as many
-pub record Wrote (new : List PendingTransition) (h : LogHead) (l : List ℕ) (k : ℕ) (l' : List ℕ) : Type 0 where
+-- they fit and are written; h' is the head then
+pub record Wrote (new : List PendingTransition) (h : LogHead) (l : List ℕ) (h' : LogHead) (l' : List ℕ) : Type 0 where
   pub fits : length new ≤ h.free
-  pub count : k ≡ length new
+  pub head : h' ≡ head_after h (length new)
   pub into : Added l h.written new l'
-  pub moves : (k ≤ h.free) × (h.written + h.free < 18446744073709551616)
 
--- as the code finds it: the head fits, the entries fit, and they are added
-pub wrote : {new : List PendingTransition} {h : LogHead} {l : List ℕ} {top k : ℕ} {l' : List ℕ}
-    → (head_within (length l / 7) h ≡ true) × (length l < 18446744073709551616) → length new ≤ h.free
-    → Adds top true l h.written new k l' → Wrote new h l k l'
-wrote {new} {h} {l} f le w = record {
-  fits = le;
-  count = w.count;
-  into = adds_added (room_for h l new f.0 le) w;
-  moves = (omega (arith, w.count), omega (arith, head_le (length l / 7) h f.0, f.1));
-}
+-- as the code finds it: the head fits, the entries fit, and they are written
+pub wrote : {new : List PendingTransition} {h : LogHead} {l : List ℕ} {h' : LogHead} {l₁ l' : List ℕ} → head_within (length l / 7) h ≡ true
+    → length new ≤ h.free → Written l h.written new l₁ → l' ≡ l₁ → h' ≡ head_after h (length new) → Wrote new h l h' l'
+wrote {new} {h} {l} f le w same e = record { fits = le; head = e; into = rw same (written_added (room_for h l new f le) w) }
 
 module _ {X : Type 0} {before after : X} {same : Type 0} {new : List PendingTransition} {become : X} {h : LogHead} {l : List ℕ} where
   -- they do not fit
@@ -118,5 +97,10 @@ module _ {X : Type 0} {before after : X} {same : Type 0} {new : List PendingTran
   not_enough e s k = record { few = λ q. (refl, (e, (s, refl))); enough = λ q. absurd (omega arith) }
 
   -- they are written, and the sets change
-  pub written : {k : ℕ} {l' : List ℕ} → Wrote new h l k l' → after ≡ become → Changed before after same new become h l (moved_on h k) l'
-  written w q = record { few = λ z. absurd (omega (arith, w.fits)); enough = λ z. (ap (moved_on h) w.count, (w.into, q)) }
+  pub written : {h' : LogHead} {l' : List ℕ} → Wrote new h l h' l' → after ≡ become
+      → Changed before after same new become h l (answered h (Ok h')) l'
+  written w q = record {
+    few = λ z. absurd (omega (arith, w.fits));
+    enough =
+        λ z. (ap (λ (x : LogHead). answered h (Ok x)) w.head, (w.into, q));
+  }

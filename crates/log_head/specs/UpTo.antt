@@ -2,11 +2,7 @@
 use Rattle.std.specs.Prelude.{◌+◌, ◌-◌, ◌<◌, ◌≡◌, ◌++◌}
 use Rattle.model.specs.Prelude.{ℕ, zero, suc, add-one, arith, sym, ◌∙◌, List, [], append_assoc, append-nil}
 use Rattle.model.specs.declared.{PendingTransition.PendingTransition}
-use Rattle.texture_barrier.specs.Adds.{NextLeft, NoneLeft}
-
--- more than the transitions of 64 textures come to, at most 2^20 each
-abbrev pub set_top : ℕ
-set_top = 67108864
+use Rattle.texture_barrier.specs.Taking.{NextLeft, NoneLeft}
 
 -- what f makes at 0, 1 and so on, n of them
 unfoldable pub up_to : {A : Type 0} → (ℕ → List A) → ℕ → List A

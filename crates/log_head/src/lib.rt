@@ -1,7 +1,10 @@
 // Log head: the head of the log, what is written and what is free, and what every call that logs answers.
 //
 // Place in the picture: over `set_storage` and `texture_barrier`, whose entries the log holds, and under the calls of a tracker, which
-// check the head (5), count their entries against what is free (15) and move it on; so does `log_merge`. `empty_log` is a public call.
+// check the head (5), count their entries against what is free (15), write them and move it on; so does `log_merge`. `empty_log` is a
+// public call.
+//
+//     adding   what a call adds: a `Transitions` hands it to a sink, and `log_all` counts it and writes it
 //
 // What holds: each answer is the model's (model/specs/Log), and a refusal leaves the head as it was. specs/Called is the contract of a call
 // that logs, over any view of the sets that it is lent, check by check; specs/UpTo what a loop over textures adds.
@@ -14,6 +17,9 @@ ghost use Rattle.model.specs.declared.Refusal.TheVariants.{LogTooShort};
 ghost use Rattle.set_storage.specs.Storage.{numbers_of, layer_limit_at, mip_limit_at, textures_at};
 ghost use Rattle.log_head.specs.Log.{Emptying, head_within, head_after};
 
+pub mod adding;
+
+pub use adding::{Transitions, log_all};
 use model::{LogHead, Refusal};
 use set_storage::{LAYER_LIMIT, MIP_LIMIT, TEXTURES, Table};
 
@@ -34,7 +40,7 @@ pub fn check_head(log: &[u32], head: LogHead) -> Result<(), Refusal>
 pub fn subresources(table: &Table) -> usize
     requires { (get_or table.now textures_at 0 ≤ 64)
         × ((get_or table.now mip_limit_at 0 ≤ 16) × (get_or table.now layer_limit_at 0 ≤ 256)) }
-    ensures { result ≡ capacity (numbers_of table.now) }
+    ensures { (result ≡ capacity (numbers_of table.now)) × (result ≤ 262144) }
 {
     table[TEXTURES] as usize * table[MIP_LIMIT] as usize * table[LAYER_LIMIT] as usize
 }

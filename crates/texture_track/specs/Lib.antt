@@ -1,3 +1,4 @@
 pub mod Tracked
 pub mod Slot
 pub mod GivenSlot
+pub mod Used

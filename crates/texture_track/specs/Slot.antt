@@ -1,15 +1,13 @@
 -- One texture of a tracker: the contracts of its change and of its transitions.
+use Rattle.model.specs.Prelude.{ℕ, arith, refl, subst, Bool, true, false, List, [], append-nil, get_or, set, ne_eqb, eq-eqb}
+use Rattle.model.specs.{declared.{UsageFlags.UsageFlags, Extent.Extent}, Representation.Ends, Sets.{Numbers, Slot, with_tracker}}
+use Rattle.model.specs.{Calls.{set_slot, log_slot}, Log.pending, Texture.{Held, Given, Entry, insert, update, barrier, ranged}}
 use Rattle.std.specs.Prelude.{◌≡◌, ◌∷◌, if◌then◌else◌}
-use Rattle.model.specs.Prelude.{ℕ, arith, refl, subst, Bool, true, false, Option, None, Some, List, [], append-nil, get_or, set, ne_eqb}
-use Rattle.model.specs.Prelude.{eq-eqb}
-use Rattle.model.specs.{declared.{UsageFlags.UsageFlags, Extent.Extent, Selector.Selector}, Representation.Ends}
-use Rattle.model.specs.{Sets.{Numbers, Slot, with_tracker}, Calls.{set_slot, log_slot}, Log.pending}
-use Rattle.model.specs.Texture.{Held, Given, Entry, insert, update, barrier, ranged}
 use Rattle.set_storage.specs.Storage.{numbers_of, start_half, end_half, ends_of, slot_with, tracker_of, mask_at, owned_at, tracker_slot}
 use Rattle.set_storage.specs.{Frames.Measured, Stays.{Only, both_refl, both_then, both_more, TrackerFrame}}
 use Rattle.set_storage.specs.Slots.{HalfBecomes, own_words, tracker_own, tracker_both, tracker_slots}
 use Rattle.texture_update.specs.Both.{BothBecome, low_of, start_then_end}
-use Rattle.texture_barrier.specs.Adds.{entries_at}
+use Rattle.texture_barrier.specs.Entries.{entries_at}
 use Rattle.set_ready.specs.Half.{BothReady, half_held}
 use Rattle.set_ready.specs.Owned.{own_numbers, own_textured, now_owned, end_numbers, owned_reads, slot_becomes}
 
@@ -65,11 +63,7 @@ tracker_view {t} {s} {e} {t'} {s'} {e'} m q =
     rw (f.head mask_at (omega arith), slot_becomes (λ n. ends_of n t s e) (λ n. ends_of n t' s' e') f q.slot)
 
 -- ---- Its transitions: none where it is not owned
--- the selector of a part, or none for all of the texture
-abbrev pub part_of : Bool → Selector → Option Selector
-part_of all q = if all then None else Some q
-
-abbrev pub slot_entries : UsageFlags → ℕ → Extent → Given → Slot (Ends Held) → List Entry
+abbrev slot_entries : UsageFlags → ℕ → Extent → Given → Slot (Ends Held) → List Entry
 slot_entries p mask sh from x = if x.owned then barrier p mask sh x.held.end from else []
 
 -- they are the model's

@@ -1,235 +1,112 @@
 // A texture of a tracker takes what a given set holds at the same index.
-ghost use Rattle.std.specs.Prelude.{◌≡◌, ◌≤◌, ◌<◌};
-ghost use Rattle.model.specs.Calls.{set_slot};
-ghost use Rattle.model.specs.Texture.{ranged};
-ghost use Rattle.texture_barrier.specs.Steps.{log_top};
-ghost use Rattle.texture_barrier.specs.Adds.{RoomFor, Adds, entries_at};
+ghost use Rattle.std.specs.Prelude.{◌≡◌};
+ghost use Rattle.set_storage.specs.Stays.{OnlyOwned};
+ghost use Rattle.set_storage.specs.Storage.{tracker_slot};
+ghost use Rattle.texture_barrier.specs.Entries.{entries_at};
 ghost use Rattle.texture_track.specs.Slot.{SlotSet};
-ghost use Rattle.set_storage.specs.Stays.{Only, OnlyOwned};
-ghost use Rattle.set_ready.specs.Given.{given_at, HalfGiven};
-ghost use Rattle.texture_track.specs.GivenSlot.{BothGiven, SetsAt, LogsAt, slot_after};
-ghost use Rattle.texture_track.specs.GivenSlot.{both_single, end_entries, given_entries, single_entry};
-ghost use Rattle.set_storage.specs.Storage.{end_half, tracker_slot};
-ghost use Rattle.set_ready.specs.Half.{HalfReady, BothReady};
+ghost use Rattle.texture_track.specs.GivenSlot.{SetsBy, LogsBy, start_of, end_of, set_by, entries_by};
 
-use model::{Extent, UsageFlags};
-use set_storage::{COMPLEX, END, OWNED, START, Table, extent_of};
-use texture_barrier::{barrier_single, barrier_texture};
+use model::UsageFlags;
+use set_storage::{END, OWNED, START, Stored, Table, extent_of};
+use texture_barrier::{Sink, barrier_texture};
 use texture_merge::from_set::insert_given;
-use texture_merge::using::{own, set_state};
+use texture_merge::using::own;
 use texture_update::from_set::update_given;
 
-// What the texture becomes, by the start and the end that the set holds.
-pub fn set_given_at(
-    table: &mut Table,
-    starts: &mut [u32],
-    ends: &mut [u32],
-    i: usize,
-    extent: Extent,
-    given: &Table,
-    first: &[u32],
-    from: usize,
-    last: &[u32],
-    to: usize,
-    p: UsageFlags,
-)
-    requires both_ready { BothReady table.old starts.old ends.old i extent }
-    requires both_given { BothGiven table.old i extent from to given.now first.now last.now p }
-    ensures { let t = table.old in let s = starts.old in let e = ends.old in let g = given.now in
-        let a = first.now in let b = last.now in
-        SlotSet (Only i) t s e i (set_slot ranged p extent (given_at from g a i) (given_at to g b i) (tracker_slot t s e i))
-        table.new starts.new ends.new }
-{
-    if table[OWNED + i] == 0 {
-        own(table, i, extent);
-        insert_given(table, starts, START, i, extent, given, first, from, p);
-        insert_given(table, ends, END, i, extent, given, last, to, p);
-        return;
-    }
-    update_given(table, starts, ends, i, extent, given, last, to, p);
+// A given set: its table, with the halves and the ranges of what it gives as start and as end. A scope's states are both; a tracker gives
+// its start and its end.
+#[derive(Clone, Copy)]
+pub struct GivenSet<'a> {
+    pub table: &'a Table,
+    pub first: &'a [u32],
+    pub from: usize,
+    pub last: &'a [u32],
+    pub to: usize,
 }
 
-// Its transitions to the given start, counted, or written after the first `at` entries of the log: none where it is not owned.
-pub fn log_given_at(
-    table: &Table,
-    ends: &[u32],
-    i: usize,
-    extent: Extent,
-    p: UsageFlags,
-    mask: u32,
-    given: &Table,
-    first: &[u32],
-    from: usize,
-    log: &mut [u32],
-    at: usize,
-    write: bool,
-) -> usize
-    requires half_ready { HalfReady end_half table.now ends.now i extent }
-    requires half_given { HalfGiven table.now i extent from given.now first.now }
-    requires at_le_log_top { at ≤ log_top }
-    requires room_for { let es = end_entries p mask extent (given_at from given.now first.now i) table.now ends.now i in
-        RoomFor write log.old at (entries_at i es) }
-    ensures { let t = table.now in let e = ends.now in let g = given.now in let a = first.now in
-        let es = end_entries p mask extent (given_at from g a i) t e i in
-        Adds 1048576 write log.old at (entries_at i es) result log.new }
-{
-    if table[OWNED + i] == 0 {
-        return 0;
+impl<'a> GivenSet<'a> {
+    // What it gives as the start of texture i.
+    #[inline(always)]
+    fn start(&self, i: usize) -> Stored<'a>
+        ensures { result ≡ start_of self.now i }
+    {
+        Stored {
+            table: self.table,
+            ranges: self.first,
+            half: self.from,
+            i,
+        }
     }
-    barrier_texture(
-        table, ends, i, extent, p, mask, given, first, from, log, at, write,
-    )
+
+    // And as its end.
+    #[inline(always)]
+    fn end(&self, i: usize) -> Stored<'a>
+        ensures { result ≡ end_of self.now i }
+    {
+        Stored {
+            table: self.table,
+            ranges: self.last,
+            half: self.to,
+            i,
+        }
+    }
 }
 
-// What the texture becomes, if the set owns index i.
-pub fn set_owned_at(
-    table: &mut Table,
-    starts: &mut [u32],
-    ends: &mut [u32],
-    i: usize,
-    given: &Table,
-    first: &[u32],
-    from: usize,
-    last: &[u32],
-    to: usize,
-    p: UsageFlags,
-)
-    requires { SetsAt table.old starts.old ends.old i from to given.now first.now last.now p }
-    ensures { let t = table.old in let s = starts.old in let e = ends.old in let g = given.now in
-        let a = first.now in let b = last.now in
-        SlotSet (OnlyOwned g i) t s e i (slot_after p from to g a b i (tracker_slot t s e i)) table.new starts.new
-        ends.new }
-{
-    if given[OWNED + i] == 0 {
-        return;
-    }
-    let extent = extent_of(given, i);
-    set_given_at(
-        table, starts, ends, i, extent, given, first, from, last, to, p,
-    );
-}
-
-// Its transitions, if the set owns index i.
-pub fn log_owned_at(
-    table: &Table,
-    ends: &[u32],
-    i: usize,
-    p: UsageFlags,
-    mask: u32,
-    given: &Table,
-    first: &[u32],
-    from: usize,
-    log: &mut [u32],
-    at: usize,
-    write: bool,
-) -> usize
-    requires logs_at { LogsAt table.now ends.now i from given.now first.now }
-    requires at_le_log_top { at ≤ log_top }
-    requires room_for { RoomFor write log.old at (entries_at i (given_entries p mask table.now ends.now from given.now first.now i)) }
-    ensures { let t = table.now in let e = ends.now in let g = given.now in let a = first.now in
-        Adds 1048576 write log.old at (entries_at i (given_entries p mask t e from g a i)) result log.new }
-{
-    if given[OWNED + i] == 0 {
-        return 0;
-    }
-    let extent = extent_of(given, i);
-    log_given_at(
-        table, ends, i, extent, p, mask, given, first, from, log, at, write,
-    )
-}
-
-// Whether the tracker's end and the half of the given set that begins at `from` hold index i as Single.
-pub fn both_single(table: &Table, given: &Table, from: usize, i: usize) -> bool
-    requires { (i < 64) × (from ≤ end_half) }
-    ensures { result ≡ both_single table.now given.now from i }
-{
-    (given[from + i] != given[COMPLEX]) & (table[END + i] != table[COMPLEX])
-}
-
-// The transition of a texture that both hold as Single.
-pub fn log_single(
-    table: &Table,
-    given: &Table,
-    from: usize,
-    i: usize,
-    p: UsageFlags,
-    mask: u32,
-    log: &mut [u32],
-    at: usize,
-    write: bool,
-) -> usize
-    requires i_bound { (i < 64) × (from ≤ end_half) }
-    requires room_for { RoomFor write log.old at (entries_at i (single_entry p mask table.now from given.now i)) }
-    ensures { let t = table.now in let g = given.now in
-        Adds 1 write log.old at (entries_at i (single_entry p mask t from g i)) result log.new }
-{
-    let extent = extent_of(given, i);
-    let cur = table[END + i];
-    let new = given[from + i];
-    barrier_single(i, extent, p, mask, cur, new, log, at, write)
-}
-
-// The transitions of `log_owned_at`, by the short way where both are Single.
-pub fn log_at(
-    table: &Table,
-    ends: &[u32],
-    i: usize,
-    p: UsageFlags,
-    mask: u32,
-    given: &Table,
-    first: &[u32],
-    from: usize,
-    log: &mut [u32],
-    at: usize,
-    write: bool,
-) -> usize
-    requires logs_at { LogsAt table.now ends.now i from given.now first.now }
-    requires at_le_log_top { at ≤ log_top }
-    requires room_for { RoomFor write log.old at (entries_at i (given_entries p mask table.now ends.now from given.now first.now i)) }
-    ensures { let t = table.now in let e = ends.now in let g = given.now in let a = first.now in
-        Adds 1048576 write log.old at (entries_at i (given_entries p mask t e from g a i)) result log.new }
-{
-    if given[OWNED + i] == 0 {
-        return 0;
-    }
-    if table[OWNED + i] == 0 {
-        return 0;
-    }
-    if both_single(table, given, from, i) {
-        return log_single(table, given, from, i, p, mask, log, at, write);
-    }
-    log_owned_at(table, ends, i, p, mask, given, first, from, log, at, write)
-}
-
-// What `set_owned_at` makes of the texture, by the short way where both are Single.
+// What the texture becomes, if the set owns index i: one that is not owned is owned and takes the given start and end, an owned one is
+// updated by the given end.
+#[inline(always)]
 pub fn set_at(
     table: &mut Table,
     starts: &mut [u32],
     ends: &mut [u32],
     i: usize,
-    given: &Table,
-    first: &[u32],
-    from: usize,
-    last: &[u32],
-    to: usize,
+    given: GivenSet<'_>,
     p: UsageFlags,
 )
-    requires { SetsAt table.old starts.old ends.old i from to given.now first.now last.now p }
-    ensures { let t = table.old in let s = starts.old in let e = ends.old in let g = given.now in
-        let a = first.now in let b = last.now in
-        SlotSet (OnlyOwned g i) t s e i (slot_after p from to g a b i (tracker_slot t s e i)) table.new starts.new
-        ends.new }
+    requires { SetsBy table.old starts.old ends.old i given p }
+    ensures { let t = table.old in let s = starts.old in let e = ends.old in let g = given.entry in
+        SlotSet (OnlyOwned g.table.now i) t s e i (set_by p g i (tracker_slot t s e i)) table.new starts.new ends.new }
 {
-    if given[OWNED + i] == 0 {
+    if given.table[OWNED + i] == 0 {
+        return;
+    }
+    let extent = extent_of(given.table, i);
+    if table[OWNED + i] == 0 {
+        own(table, i, extent);
+        insert_given(table, starts, START, extent, given.start(i), p);
+        insert_given(table, ends, END, extent, given.end(i), p);
+        return;
+    }
+    update_given(table, starts, ends, extent, given.end(i), p);
+}
+
+// Its transitions to the given start, if the set owns index i: none where it is not owned.
+#[inline(always)]
+pub fn log_at<K: Sink>(
+    table: &Table,
+    ends: &[u32],
+    i: usize,
+    p: UsageFlags,
+    mask: u32,
+    given: GivenSet<'_>,
+    sink: &mut K,
+)
+    requires logs_by { LogsBy table.now ends.now i given }
+    requires room { K.room sink.old (entries_at i (entries_by p mask table.now ends.now given i)) }
+    ensures { K.takes sink.old (entries_at i (entries_by p mask table.now ends.now given.entry i)) sink.new }
+{
+    if given.table[OWNED + i] == 0 {
         return;
     }
     if table[OWNED + i] == 0 {
-        set_owned_at(table, starts, ends, i, given, first, from, last, to, p);
         return;
     }
-    if both_single(table, given, to, i) {
-        set_state(table, END, i, given[to + i]);
-        return;
-    }
-    set_owned_at(table, starts, ends, i, given, first, from, last, to, p);
+    let held = Stored {
+        table,
+        ranges: ends,
+        half: END,
+        i,
+    };
+    let extent = extent_of(given.table, i);
+    barrier_texture(held, extent, p, mask, given.start(i), sink);
 }

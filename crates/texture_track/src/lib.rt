@@ -7,8 +7,8 @@
 //     using   a use of it: `set_single`
 //     given   what a given set holds at its index: `set_from_usage_scope`, `set_from_tracker`, the sparse call
 //
-// A given set is read by two halves of its table, with their ranges: `from` is what it gives as start and `to` what it gives as end. A
-// scope's states are both; a tracker gives its start and its end.
+// A given set is a `GivenSet`: its table, with the halves and the ranges of what it gives as start and as end. Transitions go into a sink,
+// which counts or writes them.
 //
 // What holds: the transitions and the texture are the model's (model/specs/Calls: `log_slot`, `set_slot`), and all else that is lent stays
 // (specs/Slot: `SlotSet`). specs/Tracked is the contract of the calls above.

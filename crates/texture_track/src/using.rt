@@ -1,28 +1,20 @@
 // A texture of a tracker, for one use of it.
-ghost use Rattle.std.specs.Prelude.{◌≡◌, ◌≤◌};
 ghost use Rattle.model.specs.Calls.{set_slot};
 ghost use Rattle.model.specs.Texture.{ranged};
 ghost use Rattle.set_storage.specs.Stays.{Only};
-ghost use Rattle.texture_merge.specs.Uses.{use_of};
-ghost use Rattle.texture_barrier.specs.Steps.{log_top};
-ghost use Rattle.texture_barrier.specs.Adds.{RoomFor, Adds, entries_at};
-ghost use Rattle.texture_track.specs.Slot.{part_of, slot_entries, SlotSet};
-ghost use Rattle.set_ready.specs.Half.{BothReady};
 ghost use Rattle.set_storage.specs.Storage.{tracker_slot};
+ghost use Rattle.set_storage.specs.Uses.{use_of};
+ghost use Rattle.texture_track.specs.Slot.{SlotSet};
+ghost use Rattle.texture_track.specs.Used.{using_entries, UsingReady};
+ghost use Rattle.set_ready.specs.Half.{BothReady};
 ghost use Rattle.set_ready.specs.Checked.{TakenUse};
 
+use log_head::Transitions;
 use model::{Extent, Selector, UsageFlags};
-use set_storage::{END, OWNED, START, Table};
-use texture_barrier::barrier_use;
+use set_storage::{END, OWNED, START, Stored, Table};
+use texture_barrier::{Sink, barrier_use};
 use texture_merge::using::{insert_use, own};
 use texture_update::using::{update_state, update_use};
-
-// The selector of a part of a texture, or none for all of it.
-fn part_of(all: bool, q: Selector) -> Option<Selector>
-    ensures { result ≡ part_of all q }
-{
-    if all { None } else { Some(q) }
-}
 
 // What the texture becomes.
 pub fn set_use_at(
@@ -31,58 +23,66 @@ pub fn set_use_at(
     ends: &mut [u32],
     i: usize,
     extent: Extent,
-    all: bool,
-    q: Selector,
+    part: Option<Selector>,
     p: UsageFlags,
     new: u32,
 )
     requires both_ready { BothReady table.old starts.old ends.old i extent }
-    requires taken_use { TakenUse table.old extent all q p new }
+    requires taken_use { TakenUse table.old extent part p new }
     ensures { let t = table.old in let s = starts.old in let e = ends.old in
-        SlotSet (Only i) t s e i (set_slot ranged p extent (use_of all q new) (use_of all q new) (tracker_slot t s e i)) table.new
+        SlotSet (Only i) t s e i (set_slot ranged p extent (use_of part new) (use_of part new) (tracker_slot t s e i)) table.new
         starts.new ends.new }
 {
     if table[OWNED + i] == 0 {
         own(table, i, extent);
-        insert_use(table, starts, START, i, extent, all, q, p, new);
-        insert_use(table, ends, END, i, extent, all, q, p, new);
+        insert_use(table, starts, START, i, extent, part, p, new);
+        insert_use(table, ends, END, i, extent, part, p, new);
         return;
     }
-    if all {
-        update_state(table, starts, ends, i, extent, p, new);
-        return;
+    match part {
+        None => update_state(table, starts, ends, i, extent, p, new),
+        Some(q) => update_use(table, starts, ends, i, extent, q, p, new),
     }
-    update_use(table, starts, ends, i, extent, q, p, new);
 }
 
-// Its transitions, counted, or written after the first `at` entries of the log: none where it is not owned.
-pub fn log_use_at(
-    table: &Table,
-    starts: &[u32],
-    ends: &[u32],
-    i: usize,
-    extent: Extent,
-    all: bool,
-    q: Selector,
-    p: UsageFlags,
-    mask: u32,
-    new: u32,
-    log: &mut [u32],
-    at: usize,
-    write: bool,
-) -> usize
-    requires both_ready { BothReady table.now starts.now ends.now i extent }
-    requires taken_use { TakenUse table.now extent all q p new }
-    requires at_le_log_top { at ≤ log_top }
-    requires room_for { let es = slot_entries p mask extent (use_of all q new) (tracker_slot table.now starts.now ends.now i) in
-        RoomFor write log.old at (entries_at i es) }
-    ensures { let t = table.now in let s = starts.now in let e = ends.now in
-        let es = slot_entries p mask extent (use_of all q new) (tracker_slot t s e i) in
-        Adds 4096 write log.old at (entries_at i es) result log.new }
-{
-    if table[OWNED + i] == 0 {
-        return 0;
+// What a use of texture i adds to the log.
+#[derive(Clone, Copy)]
+pub struct Using<'a> {
+    pub table: &'a Table,
+    pub ends: &'a [u32],
+    pub i: usize,
+    pub extent: Extent,
+    pub part: Option<Selector>,
+    pub p: UsageFlags,
+    pub mask: u32,
+    pub new: u32,
+}
+
+// Its transitions: none where the texture is not owned.
+impl Transitions for Using<'_> {
+    ghost entries = { using_entries };
+
+    ghost ready = { UsingReady };
+
+    #[inline(always)]
+    fn log<K: Sink>(&self, sink: &mut K) {
+        if self.table[OWNED + self.i] == 0 {
+            return;
+        }
+        let held = Stored {
+            table: self.table,
+            ranges: self.ends,
+            half: END,
+            i: self.i,
+        };
+        barrier_use(
+            held,
+            self.extent,
+            self.part,
+            self.p,
+            self.mask,
+            self.new,
+            sink,
+        );
     }
-    let part = part_of(all, q);
-    barrier_use(table, ends, i, extent, part, p, mask, new, log, at, write)
 }

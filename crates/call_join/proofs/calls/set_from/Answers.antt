@@ -15,7 +15,6 @@ set_checked-requires c =
       joins = joins p.tracker_tested p.given_tested z;
       first_len_bound = joined_few p.tracker_tested p.given_tested z p.last_len_bound;
       head_value = c.in_ok-check_head.ensures.fits;
-      log_len_bound = c.check_head.ensures.countable;
     }
 
 pub returns : goal.returns

@@ -1,21 +1,11 @@
 -- `merge_slots`: each lap merges one texture, and those to come read as at entry.
-use Rattle.model.specs.Prelude.{◌∙◌}
-use Rattle.call_merge.proofs.Slots.{start, lap_ready, turn, stop, finish}
-use Rattle.std.proofs.Common.{rules}
+use Rattle.call_merge.proofs.Slots.{lap_ready, turn, stop, finish}
 use Rattle.call_merge.proofs.scope.merge_slots.Goals as goal
-
-pub loop-k-init : goal.loop-k-init
-loop-k-init c = start _ _ _ _ _
 
 pub merge_owned_at-requires : goal.merge_owned_at-requires
 merge_owned_at-requires c =
     rw c.wide.ensures.0 (let w = (lap_ready c.loop-k.invariant c.requires c.loop-k-test.true) in
     record { owned_ready = w.0; p_value = w.1 })
-
-pub shape_of-ranges-in-Err : goal.shape_of-ranges-in-Err
-shape_of-ranges-in-Err c = let e = c.merge_owned_at.ensures.frame.ranges.long
-    ∙ c.loop-k.invariant.frame.ranges.long in
-    search (rules, e)
 
 pub returns-in-Err : goal.returns-in-Err
 returns-in-Err c =

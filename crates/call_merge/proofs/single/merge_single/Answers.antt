@@ -1,6 +1,7 @@
 -- `merge_single`: the test, the checks, then the merge of one texture.
-use Rattle.model.specs.{Errors.passed_on, Prelude.{ap, not}}
-use Rattle.set_ready.specs.Tested.{scope_tested}
+use Rattle.model.specs.Prelude.{ap, not}
+use Rattle.model.specs.Errors.{passed_on}
+use Rattle.set_ready.specs.{Tested.scope_tested, Parts.part_use}
 use Rattle.set_wellformed.specs.Whole.{scope_unfit, scope_fit}
 use Rattle.call_merge.proofs.OneUse.{not_fitting, single_away, single_done, single_ready, single_use}
 use Rattle.call_merge.proofs.single.merge_single.Goals as goal
@@ -18,18 +19,18 @@ merge_use_at-requires c =
     let z = c.in_ok-check_single.ensures in
     let k = scope_tested _ _ c.scope_fits.ensures.long
     (scope_fit c.scope_fits.ensures (ap not c.if-not-scope_fits.false)) in
-    rw c.wide-i.ensures.0 (record { half_ready = single_ready z k; taken_use = single_use z c.use_of-u.ensures c.flags_of-p.ensures })
+    rw c.wide.ensures.0 (record { half_ready = single_ready z k; taken_use = single_use z c.part_named-part.ensures c.flags_of-p.ensures })
 
 pub returns-in-Ok : goal.returns-in-Ok
 returns-in-Ok c =
     let fit = scope_fit c.scope_fits.ensures (ap not c.if-not-scope_fits.false) in
-    let m = (rw (c.wide-i.ensures.0, c.flags_of-p.ensures, ← c.use_of-u.ensures.given _) at c.in-Ok.ensures) in
+    let m = (rw (c.wide.ensures.0, c.flags_of-p.ensures, c.part_named-part.ensures, ← part_use _ _ _) at c.in-Ok.ensures) in
     single_done fit (scope_tested _ _ c.scope_fits.ensures.long fit) c.in_ok-check_single.ensures m
 
 pub returns-in-Err : goal.returns-in-Err
 returns-in-Err c =
     let fit = scope_fit c.scope_fits.ensures (ap not c.if-not-scope_fits.false) in
-    let m = (rw (c.wide-i.ensures.0, c.flags_of-p.ensures, ← c.use_of-u.ensures.given _) at c.in-Err.ensures) in
+    let m = (rw (c.wide.ensures.0, c.flags_of-p.ensures, c.part_named-part.ensures, ← part_use _ _ _) at c.in-Err.ensures) in
     single_done fit (scope_tested _ _ c.scope_fits.ensures.long fit) c.in_ok-check_single.ensures m
 
 pub returns-in_err-check_single : goal.returns-in_err-check_single

@@ -1,13 +1,8 @@
 -- `merge_use_at`: an unowned texture is owned and inserted, an owned one merged.
 use Rattle.model.specs.Prelude.{refl}
-use Rattle.set_ready.specs.{Checked.{use_ready, held_ready}, Half.half_held, Owned.{own_flags, own_ready}}
+use Rattle.set_ready.specs.{Checked.{use_ready, held_ready}, Half.half_held}
 use Rattle.call_merge.specs.Slot.{scope_new, scope_old}
 use Rattle.call_merge.proofs.slot.merge_use_at.Goals as goal
-
-pub insert_use-requires : goal.insert_use-requires
-insert_use-requires c =
-    let p = c.requires in
-    rw c.own.ensures (use_ready p.taken_use (own_ready p.half_ready) (own_flags p.half_ready))
 
 pub returns-then-table-i-eq0 : goal.returns-then-table-i-eq0
 returns-then-table-i-eq0 c =

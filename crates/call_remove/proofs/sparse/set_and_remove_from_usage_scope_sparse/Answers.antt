@@ -4,7 +4,7 @@ use Rattle.model.specs.{Errors.passed_on, Prelude.{ap, not}}
 use Rattle.set_ready.specs.Tested.{tracker_tested, scope_tested}
 use Rattle.set_wellformed.specs.Whole.{scope_unfit, scope_fit, tracker_unfit, tracker_fit, first_unfit, second_unfit, both_fit}
 use Rattle.call_remove.specs.Removed.{away_unfit, away_short}
-use Rattle.call_remove.proofs.Removal.{removes, few_entries, most_entries_lem, tracker_part, scope_part, call_done, call_away}
+use Rattle.call_remove.proofs.Removal.{removes, few_entries, tracker_part, scope_part, call_done, call_away}
 use Rattle.call_remove.proofs.sparse.set_and_remove_from_usage_scope_sparse.Goals as goal
 
 pub returns-then-not-tracker_fits : goal.returns-then-not-tracker_fits
@@ -43,9 +43,7 @@ remove_checked-requires c =
     record {
       listing = removes t g z;
       indices_len_bound = few_entries t g z a b;
-      indices_len_bound_2 = most_entries_lem t g z a b;
       head_value = k;
-      log_len_bound = c.check_head.ensures.countable;
     }
 
 pub returns : goal.returns

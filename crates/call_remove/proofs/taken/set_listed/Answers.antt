@@ -1,5 +1,5 @@
 -- `set_listed`: what is left of the list makes of the sets what all of it makes at entry.
-use Rattle.call_remove.specs.Taken.{taking_start, taking_ready, taking_turn, taking_end}
+use Rattle.call_remove.specs.Taken.{taking_start, taking_ready, taking_turn}
 use Rattle.call_remove.proofs.taken.set_listed.Goals as goal
 
 pub loop-index-init : goal.loop-index-init
@@ -15,6 +15,3 @@ loop-index-preserved c =
     let p = c.requires in
     let z = (rw c.wide.ensures.0 at c.take_at.ensures) in
     taking_turn p.listing c.loop-index.invariant c.loop-index-test.true p.p_value z
-
-pub returns : goal.returns
-returns c = taking_end c.loop-index.invariant c.loop-index-test.false

@@ -1,5 +1,6 @@
 -- `set_single_lem`: the test, the log's head, the checks, and then the use.
-use Rattle.model.specs.{Errors.passed_on, Prelude.{ap, not}}
+use Rattle.model.specs.Prelude.{ap, not}
+use Rattle.model.specs.Errors.{passed_on}
 use Rattle.set_wellformed.specs.Whole.{tracker_unfit, tracker_fit}
 use Rattle.set_ready.specs.Tested.{tracker_tested}
 use Rattle.texture_track.specs.Tracked.{away_unfit, away_short}
@@ -28,11 +29,10 @@ set_checked-requires c =
     let fit = tracker_fit c.tracker_fits.ensures (ap not c.if-not-tracker_fits.false) in
     rw (c.wide-i.ensures.0, c.state_of-new.ensures.0) (record {
       both_ready = single_ready z (tracker_tested _ _ _ c.tracker_fits.ensures.long fit);
-      taken_use = single_use z c.is_full-all.ensures;
+      taken_use = single_use z c.part_named-part.ensures;
       len_bound = single_few a.table.now a.starts.now a.ends.now _ _ fit c.state_of-new.ensures.1 z _
-          (as_use_lem _ _ _ _ c.is_full-all.ensures);
+          (as_use_lem c.args.extent c.args.selector _ c.part_named-part.ensures);
       head_value = c.in_ok-check_head.ensures.fits;
-      log_len_bound = c.check_head.ensures.countable;
     })
 
 pub returns : goal.returns
@@ -40,7 +40,7 @@ returns c =
     let z = rw c.state_of-new.ensures.0 at c.in_ok-check_single.ensures in
     let k = c.in_ok-check_head.ensures.fits in
     single_done (tracker_fit c.tracker_fits.ensures (ap not c.if-not-tracker_fits.false)) k _ z
-    (as_use_lem _ _ _ _ c.is_full-all.ensures)
+    (as_use_lem c.args.extent c.args.selector _ c.part_named-part.ensures)
     (rw (c.wide-i.ensures.0, c.state_of-new.ensures.0) at
     c.set_checked.ensures)
 
@@ -48,4 +48,5 @@ pub returns-in_err-check_single : goal.returns-in_err-check_single
 returns-in_err-check_single c =
     let z = rw c.state_of-new.ensures.0 at c.in_err-check_single.ensures in
     let k = c.in_ok-check_head.ensures.fits in
-    rw (passed_on c.from_residual-in_err-check_single.ensures.1) (single_away (tracker_fit c.tracker_fits.ensures (ap not c.if-not-tracker_fits.false)) k z)
+    rw (passed_on c.from_residual-in_err-check_single.ensures.1)
+    (single_away (tracker_fit c.tracker_fits.ensures (ap not c.if-not-tracker_fits.false)) k z)

@@ -1,53 +1,35 @@
--- `set_at`: the texture stays where the given set does not own its index, and takes a state where both are Single; otherwise it is what
--- `set_owned_at` makes.
-use Rattle.model.specs.Prelude.{arith, sym, ◌∙◌, eq-eqb}
-use Rattle.set_ready.specs.Given.{where_owned}
-use Rattle.texture_track.specs.Slot.{tracker_kept}
-use Rattle.texture_track.proofs.{Plain.plain_set}
+-- `set_at`: the texture stays where the given set does not own its index; an unowned one is owned and takes the given start and end, an
+-- owned one is updated by the given end.
+use Rattle.model.specs.Prelude.{ne_eqb}
+use Rattle.set_ready.specs.{Half.half_held, Given.{set_ready, given_update, where_owned, only_owned_lem}}
+use Rattle.set_ready.specs.Owned.{end_flags, end_textured}
+use Rattle.texture_track.specs.{Slot.{tracker_new, tracker_old, tracker_named}, GivenSlot.{end_of}}
 use Rattle.texture_track.proofs.given.set_at.Goals as goal
 
-pub returns-then-given-i-eq0 : goal.returns-then-given-i-eq0
-returns-then-given-i-eq0 c = rw (eq-eqb _ _ c.if-given-i-eq0.true) (tracker_kept _ _ _ _)
-
-pub set_owned_at-requires : goal.set_owned_at-requires
-set_owned_at-requires c = c.requires
+pub insert_given-requires-then-table-i-eq0 : goal.insert_given-requires-then-table-i-eq0
+insert_given-requires-then-table-i-eq0 c =
+    let w = where_owned _ c.if-given-i-eq0.false c.requires in
+    let f = rw (c.own.ensures, c.extent_of-extent.ensures, c.start.ensures) at c.insert_given.ensures.frame in
+    rw (c.extent_of-extent.ensures, c.end.ensures) (set_ready (end_of c.args.given c.args.i) w.1.end w.1.flags
+    (end_textured w.0 f) (end_flags w.0 f))
 
 pub returns-then-table-i-eq0 : goal.returns-then-table-i-eq0
-returns-then-table-i-eq0 c = c.set_owned_at.ensures
+returns-then-table-i-eq0 c =
+    let theirs = c.if-given-i-eq0.false in let w = where_owned _ theirs c.requires in
+    rw (ne_eqb _ _ theirs)
+    (tracker_named (only_owned_lem _ theirs) (tracker_new w.0 _ _ _ c.if-table-i-eq0.true
+    (rw (c.own.ensures, c.extent_of-extent.ensures, c.start.ensures) at c.insert_given.ensures)
+    (rw (c.extent_of-extent.ensures, c.end.ensures) at c.insert_given-then-table-i-eq0.ensures)))
 
-pub both_single-requires : goal.both_single-requires
-both_single-requires c =
-    let p = c.requires in
-    (p.index, (where_owned _ c.if-given-i-eq0.false p).1.end.measured.half.1)
-
-pub overflow_add-to : goal.overflow_add-to
-overflow_add-to c =
-    let p = c.requires in
-    omega (arith, p.index, (where_owned _ c.if-given-i-eq0.false p).1.end.measured.half.1)
-
-pub offset_bounds-given-to : goal.offset_bounds-given-to
-offset_bounds-given-to c =
-    let p = c.requires in
-    omega (arith, p.index, (where_owned _ c.if-given-i-eq0.false p).1.end.measured.half.1)
-
-pub bounds-given-to : goal.bounds-given-to
-bounds-given-to c =
-    let p = c.requires in
-    omega (arith, p.index, (where_owned _ c.if-given-i-eq0.false p).1.end.measured.half.1)
-
-pub set_state-requires : goal.set_state-requires
-set_state-requires c =
-    (omega arith, c.requires.index)
-
-pub returns-then-both_single : goal.returns-then-both_single
-returns-then-both_single c =
-    let p = c.requires in
-    rw c.set_state.ensures (plain_set p c.if-given-i-eq0.false c.if-table-i-eq0.false
-    (sym c.both_single.ensures ∙ c.if-both_single.true))
-
-pub set_owned_at-requires-2 : goal.set_owned_at-requires-2
-set_owned_at-requires-2 c =
-    c.requires
+pub update_given-requires : goal.update_given-requires
+update_given-requires c =
+    let w = where_owned _ c.if-given-i-eq0.false c.requires in let own = c.if-table-i-eq0.false in
+    rw (c.extent_of-extent.ensures, c.end-2.ensures)
+    (given_update (end_of c.args.given c.args.i) w.1.end w.1.flags (half_held w.0.start own) (half_held w.0.end own))
 
 pub returns : goal.returns
-returns c = c.set_owned_at-2.ensures
+returns c =
+    let theirs = c.if-given-i-eq0.false in let w = where_owned _ theirs c.requires in
+    rw (ne_eqb _ _ theirs)
+    (tracker_named (only_owned_lem _ theirs) (tracker_old w.0 _ _ _ c.if-table-i-eq0.false
+    (rw (c.extent_of-extent.ensures, c.end-2.ensures) at c.update_given.ensures)))
