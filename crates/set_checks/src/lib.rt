@@ -125,6 +125,7 @@ pub fn check_state(p: UsageFlags, state: u32) -> Result<(), Refusal>
 
 // 7 to 13, 16 to 19 in 10's place: a use of one texture.
 #[tactic(auto, using(crate::specs::Head::use_splits))]
+#[inline(always)]
 pub fn check_single(
     table: &Table,
     index: TrackerIndex,

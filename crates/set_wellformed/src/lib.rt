@@ -90,6 +90,7 @@ pub fn room_fits(n: u32, m: u32, w: u32, room: usize) -> bool
 }
 
 // The opening checks, of a table that may hold anything: what they let pass can be indexed.
+#[inline(always)]
 fn head_fits(ones: &OnesTable, table: &Table, room: usize) -> bool
     ensures { result ≡ head_fits table.now room }
 {

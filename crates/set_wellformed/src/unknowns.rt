@@ -142,6 +142,7 @@ impl Ends<'_> {
     }
 
     // Every index of a tracker whose words fit.
+    #[inline(always)]
     fn slots_fit(&self) -> bool
         requires { let t = self.now.start.table.now in every (tracker_word_fits t) (list_from itself 0 (get_or t textures_at 0)) ≡ true }
         ensures { let t = self.now.start.table.now in
@@ -152,6 +153,7 @@ impl Ends<'_> {
 }
 
 // Every index of a tracker: the words first, and the ranges only if there are any.
+#[inline(always)]
 fn all_fit<'a>(start: &Half<'a>, end: &Half<'a>) -> bool
     requires one_table { end.now.table.now ≡ start.now.table.now }
     requires first { start.now.at ≡ start_half }
