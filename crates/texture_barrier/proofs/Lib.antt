@@ -1,2 +1,3 @@
 pub mod Remaining
+pub mod Few
 pub mod Holding

@@ -2,6 +2,7 @@
 //
 // A texture is held as Many where its word tells COMPLEX (the tracker's table and the given one each have the word), otherwise the word
 // is its one state.
+ghost use Rattle.std.specs.Prelude.{◌≤◌, length};
 ghost use Rattle.model.specs.Texture.{from_held};
 ghost use Rattle.set_storage.specs.Stored.{HeldAs, held_in};
 ghost use Rattle.set_storage.specs.Uses.{PartWithin, use_of};
@@ -16,6 +17,7 @@ use set_storage::{Stored, flags_of};
 
 // The transitions to one state, of all of the texture or of the part that a selector names. A Single texture makes one entry over all the
 // mips of the part.
+#[tactic(auto, using(crate::proofs::Few::use_few))]
 #[inline(always)]
 pub fn barrier_use<K: Sink>(
     held: Stored<'_>,
@@ -29,7 +31,8 @@ pub fn barrier_use<K: Sink>(
     requires texture_held { HeldAs held extent }
     requires part_within { PartWithin extent part }
     requires room_for { K.room sink.old (barrier_at p mask extent held (use_of part new)) }
-    ensures { K.takes sink.old (barrier_at p mask extent held.entry (use_of part new)) sink.new }
+    ensures taken { K.takes sink.old (barrier_at p mask extent held.entry (use_of part new)) sink.new }
+    ensures few { length (barrier_at p mask extent held.entry (use_of part new)) ≤ 4096 }
 {
     let t = Task::of(held.i, p, mask);
     let cur = held.word();
@@ -50,6 +53,7 @@ pub fn barrier_use<K: Sink>(
 }
 
 // The transitions to what a texture of another set holds. Single to Single, which most are, by a short way.
+#[tactic(auto, using(crate::proofs::Few::texture_adds_few))]
 #[inline(always)]
 pub fn barrier_texture<K: Sink>(
     held: Stored<'_>,
@@ -62,7 +66,8 @@ pub fn barrier_texture<K: Sink>(
     requires texture_held { HeldAs held extent }
     requires given_held { HeldAs given extent }
     requires room_for { K.room sink.old (barrier_at p mask extent held (from_held (held_in given))) }
-    ensures { K.takes sink.old (barrier_at p mask extent held.entry (from_held (held_in given.entry))) sink.new }
+    ensures taken { K.takes sink.old (barrier_at p mask extent held.entry (from_held (held_in given.entry))) sink.new }
+    ensures few { length (barrier_at p mask extent held.entry (from_held (held_in given.entry))) ≤ 1048576 }
 {
     let new = given.word();
     if new != flags_of(given.table).complex {

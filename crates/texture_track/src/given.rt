@@ -1,5 +1,5 @@
 // A texture of a tracker takes what a given set holds at the same index.
-ghost use Rattle.std.specs.Prelude.{◌≡◌};
+ghost use Rattle.std.specs.Prelude.{◌≡◌, ◌≤◌, length};
 ghost use Rattle.set_storage.specs.Stays.{OnlyOwned};
 ghost use Rattle.set_storage.specs.Storage.{tracker_slot};
 ghost use Rattle.texture_barrier.specs.Entries.{entries_at};
@@ -93,7 +93,8 @@ pub fn log_at<K: Sink>(
 )
     requires logs_by { LogsBy table.now ends.now i given }
     requires room { K.room sink.old (entries_at i (entries_by p mask table.now ends.now given i)) }
-    ensures { K.takes sink.old (entries_at i (entries_by p mask table.now ends.now given.entry i)) sink.new }
+    ensures taken { K.takes sink.old (entries_at i (entries_by p mask table.now ends.now given.entry i)) sink.new }
+    ensures few { length (entries_at i (entries_by p mask table.now ends.now given.entry i)) ≤ 1048576 }
 {
     if given.table[OWNED + i] == 0 {
         return;

@@ -16,7 +16,7 @@ returns-then-new-flags_of g c =
     let a = c.args in
     let p = c.requires in
     let single = told_single a.given c.flags_of.ensures c.word-new.ensures c.if-new-flags_of.true in
-    rw (given_single_lem a.held p.texture_held a.p a.mask a.given p.given_held single c.word-new.ensures) c.barrier_use.ensures
+    rw (given_single_lem a.held p.texture_held a.p a.mask a.given p.given_held single c.word-new.ensures) c.barrier_use.ensures.taken
 
 pub log_mips-requires-clause-ready : goal.log_mips-requires-clause-ready
 log_mips-requires-clause-ready g c =

@@ -13,8 +13,8 @@ log_move-requires g c =
       use_single a.held p.texture_held a.p a.mask c.of-t.ensures None _ held c.word-cur.ensures c.full.ensures,
     ) at p.room_for
 
-pub returns-then-cur-flags_of : goal.returns-then-cur-flags_of
-returns-then-cur-flags_of g c =
+pub returns-then-cur-flags_of-clause-taken : goal.returns-then-cur-flags_of-clause-taken
+returns-then-cur-flags_of-clause-taken g c =
     let a = c.args in let p = c.requires in
     let given = told_single a.given c.flags_of.ensures c.word-new.ensures c.if-new-flags_of.true in
     let held = told_single a.held c.flags_of-then-new-flags_of.ensures c.word-cur.ensures c.if-cur-flags_of.true in

@@ -11,8 +11,8 @@ log_move-requires g c =
     rw (use_single a.held c.requires.texture_held a.p a.mask c.of-t.ensures a.part a.new single c.word-cur.ensures
     (rw c.full.ensures at c.unwrap_or.ensures)) at c.requires.room_for
 
-pub returns-then-cur-flags_of : goal.returns-then-cur-flags_of
-returns-then-cur-flags_of g c =
+pub returns-then-cur-flags_of-clause-taken : goal.returns-then-cur-flags_of-clause-taken
+returns-then-cur-flags_of-clause-taken g c =
     let a = c.args in
     let single = told_single a.held c.flags_of.ensures c.word-cur.ensures c.if-cur-flags_of.true in
     rw (use_single a.held c.requires.texture_held a.p a.mask c.of-t.ensures a.part a.new single c.word-cur.ensures
@@ -29,8 +29,8 @@ log_mips-requires-clause-room_for g c =
     let many = told_many a.held c.flags_of.ensures c.word-cur.ensures c.if-cur-flags_of.false in
     rw (c.in-None.is, all_many a.held c.requires.texture_held a.p a.mask c.of-t.ensures many a.new) at c.requires.room_for
 
-pub returns-in-None : goal.returns-in-None
-returns-in-None g c =
+pub returns-in-None-clause-taken : goal.returns-in-None-clause-taken
+returns-in-None-clause-taken g c =
     let a = c.args in
     let many = told_many a.held c.flags_of.ensures c.word-cur.ensures c.if-cur-flags_of.false in
     rw (c.in-None.is, all_many a.held c.requires.texture_held a.p a.mask c.of-t.ensures many a.new) c.log_mips.ensures
@@ -49,8 +49,8 @@ log_mips-requires-in-Some-clause-room_for g c =
     rw (c.in-Some.is, part_many a.held c.requires.texture_held a.p a.mask c.of-t.ensures many a.new c.in-Some.q within)
     at c.requires.room_for
 
-pub returns-in-Some : goal.returns-in-Some
-returns-in-Some g c =
+pub returns-in-Some-clause-taken : goal.returns-in-Some-clause-taken
+returns-in-Some-clause-taken g c =
     let a = c.args in
     let within = rw c.in-Some.is at c.requires.part_within in
     let many = told_many a.held c.flags_of.ensures c.word-cur.ensures c.if-cur-flags_of.false in

@@ -15,7 +15,7 @@ log_at-requires g c =
 pub loop-k-preserved : goal.loop-k-preserved
 loop-k-preserved g c =
     let b = c.loop-k-test.true in
-    taking_turn g.met.K.Sink.laws c.loop-k.invariant c.requires.room (up_next _ _ b) b c.log_at.ensures
+    taking_turn g.met.K.Sink.laws c.loop-k.invariant c.requires.room (up_next _ _ b) b c.log_at.ensures.taken
 
 pub returns : goal.returns
 returns g c = taking_end g.met.K.Sink.laws c.loop-k.invariant c.loop-k-test.false (up_done _ _)

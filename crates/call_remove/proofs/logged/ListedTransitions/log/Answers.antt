@@ -27,7 +27,7 @@ loop-index-preserved g c =
     let a = c.args.self.now in let v = c.loop-index.invariant in let b = c.loop-index-test.true in
     let e = c.wide-i.ensures.0 in let low = (c.requires.ready.each _ b).index in
     let its = once_first v.1 e low a.p a.mask a.table.now a.ends.now a.given.now a.lent.now c.if-again.false in
-    (taking_turn g.met.K.Sink.laws v.0 c.requires.room (up_next _ _ b) b (rw its c.log_at.ensures), seen_next v.1 b e low)
+    (taking_turn g.met.K.Sink.laws v.0 c.requires.room (up_next _ _ b) b (rw its c.log_at.ensures.taken), seen_next v.1 b e low)
 
 pub returns : goal.returns
 returns g c = taking_end g.met.K.Sink.laws c.loop-index.invariant.0 c.loop-index-test.false (up_done _ _)
