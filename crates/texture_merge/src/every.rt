@@ -10,9 +10,9 @@ ghost use Rattle.set_storage.specs.Frames.{MipsBecome};
 ghost use Rattle.texture_merge.specs.Ready.{HalfTiled, Selects, EveryReady};
 ghost use Rattle.texture_merge.specs.Walks.{MipsWalked};
 
-use crate::mip::{Edit, conflict_on};
+use crate::mip::{Edit, conflict_on, edit_mip, fresh_mip, merge_every_mip, merge_mip};
 use model::{Extent, InvalidUse, Selector, UsageFlags};
-use set_storage::{Table, locate, set_count, wide};
+use set_storage::{Table, wide};
 
 // `ComplexTextureState::new`, in any state: each mip one range over all layers.
 pub fn fresh_mips(
@@ -29,9 +29,7 @@ pub fn fresh_mips(
         t ranges.old table.new ranges.new }
 {
     for m in 0..wide(extent.mips) {
-        let at = locate(table, ranges.len(), half, i, m);
-        texture_mips::fresh(&mut ranges[at.base..at.end], extent.layers, state);
-        set_count(table, half, i, m, 1);
+        fresh_mip(table, ranges, half, i, m, extent.layers, state);
     }
 }
 
@@ -51,12 +49,10 @@ pub fn edit_mips<E: Edit>(
         MipsBecome d half i (on_mips q (E.edit unknown (layer_start q) (layer_end q) state) 0 (mips_of d half t r i))
         t r table.new ranges.new }
 {
-    let layers = q.layers;
+    let start = q.layers.start.0;
+    let end = q.layers.end.0;
     for m in wide(q.mips.start.0)..wide(q.mips.end.0) {
-        let at = locate(table, ranges.len(), half, i, m);
-        let part = &mut ranges[at.base..at.end];
-        let n = E::edit(part, at.len, layers.start.0, layers.end.0, unknown, state);
-        set_count(table, half, i, m, n);
+        edit_mip::<E>(table, ranges, half, i, m, start, end, unknown, state);
     }
 }
 
@@ -76,13 +72,11 @@ pub fn merge_mips(
         MipsWalked d half i (walk (merge_mip p (piece q new)) 0 (mips_of d half t r i))
         t r result table.new ranges.new }
 {
-    let layers = q.layers;
+    let start = q.layers.start.0;
+    let end = q.layers.end.0;
     for m in wide(q.mips.start.0)..wide(q.mips.end.0) {
-        let at = locate(table, ranges.len(), half, i, m);
-        let part = &mut ranges[at.base..at.end];
-        let r = texture_mips::merge_piece(part, at.len, layers.start.0, layers.end.0, p, new);
-        set_count(table, half, i, m, r.len);
-        conflict_on(m, r.met, new)?;
+        let met = merge_mip(table, ranges, half, i, m, start, end, p, new);
+        conflict_on(m, met, new)?;
     }
     Ok(())
 }
@@ -104,10 +98,8 @@ pub fn merge_every_mips(
         MipsWalked d half i (walk (merge_every p new) 0 (mips_of d half t r i)) t r result table.new ranges.new }
 {
     for m in 0..wide(extent.mips) {
-        let at = locate(table, ranges.len(), half, i, m);
-        let r = texture_mips::merge_every(&mut ranges[at.base..at.end], at.len, p, new);
-        set_count(table, half, i, m, r.len);
-        conflict_on(m, r.met, new)?;
+        let met = merge_every_mip(table, ranges, half, i, m, p, new);
+        conflict_on(m, met, new)?;
     }
     Ok(())
 }

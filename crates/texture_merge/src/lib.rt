@@ -3,8 +3,8 @@
 // Place in the picture: over `set_storage`, which says where a texture lies, and `texture_mips`, which changes the ranges of one mip; under
 // `texture_update`, which changes both halves of a tracker's texture, and the public calls.
 //
-//     mip        one mip: how it takes a state, and the conflict that a merge tells
-//     every      every mip, or those of a selector: `texture_mips` is lent the ranges of each, and their new count is written
+//     mip        one mip: `texture_mips` is lent its ranges, and their new count is written; the conflict that a merge tells
+//     every      every mip, or those of a selector, up to the first conflict
 //     using      one use of the texture, of all of it or of the part that a selector names
 //     doing      what is done with a piece of another set's texture
 //     giving     the ranges of another set's texture, as it stands there (`Stored`), one after another
