@@ -1,14 +1,14 @@
 -- The reader's functions: an item written, a field split off, what is answered of a use, of a field and of a run.
-use Rattle.std.specs.Prelude.{◌+◌, ◌*◌, ◌-◌, ◌/◌, ◌<◌, ◌≤◌, ◌≡◌, ◌∷◌, Some, Result, Ok, Err}
-use Rattle.model.specs.Prelude.{ℕ, refl, true, ap, ◌∙◌, List, [], arith, length, take, drop}
-use Rattle.model.specs.Prelude.{length-take, length-drop, lt-ltb, le-ltb, eq-eqb, ne_eqb}
+use Rattle.std.specs.Prelude.{◌+◌, ◌*◌, ◌-◌, ◌/◌, ◌<◌, ◌≤◌, ◌≡◌, ◌∷◌, ◌++◌, Some, Result, Ok, Err}
+use Rattle.model.specs.Prelude.{ℕ, refl, true, ap, ◌∙◌, List, [], append_assoc, add-one, arith, length, take, drop, set, length-set, take_all}
+use Rattle.model.specs.Prelude.{take-suc-set, drop-set-lt, length-take, length-drop, lt-ltb, le-ltb, eq-eqb, ne_eqb}
 use Rattle.model.specs.declared.Refusal.{Refusal, TheVariants.{FieldCutShort}}
 use Rattle.plan_file.specs.declared.kinds.Tag.{TheVariants.{Group}}
 use Rattle.plan_file.specs.Plan.{opened, closed, content, cut_short, after, fields, run, item}
 use Rattle.plan_file.specs.Reading.{put_item, put_all, Came, FieldSplit, field_by, UseRead, FieldRead, GroupRead}
-use Rattle.plan_file.specs.{Kinds.tag_kind, Copies.copied}
+use Rattle.plan_file.specs.{Kinds.tag_kind, Copies.{copied, copied_over}}
 use Rattle.plan_file.proofs.ReadingLaws.{came_after, came_stop, came_around, run_step, field_cut, field_whole}
-use borrow.Rule.Slice.PartMut.{put_mid}
+use borrow.Rule.Slice.PartMut.{mid_of, put_mid}
 
 -- ---- An item is written
 pub put_is : (l it : List ℕ) (k : ℕ) {y : List ℕ} → k < length l / 16
@@ -19,6 +19,18 @@ put_is l it k h q e =
     let n : length it ≡ 16 =
     omega (arith, q, ap length e, length-take (16 * k + 16 - 16 * k) (drop (16 * k) l), length-drop (16 * k) l) in
     rw (lt-ltb k (length l / 16) h) (copied l it (16 * k) (16 * k + 16) (omega arith) (omega arith) e)
+
+-- the same of its kind and of the 15 bytes behind it, copied over what stood there
+pub put_behind : (l p y : List ℕ) (k x : ℕ) → k < length l / 16 → length p ≡ 15
+    → y ≡ take (length p) p ++ drop (length p) (mid_of (16 * k + 1) (16 * k + 16 - (16 * k + 1)) (set l (16 * k) x))
+    → put_mid (16 * k + 1) (16 * k + 16 - (16 * k + 1)) (set l (16 * k) x) y ≡ put_item k (x ∷ p) l
+unfolding put_item
+put_behind l p y k x h q e =
+    let room : 16 * k + 16 ≤ length l = omega arith in
+    let front : take (16 * k + 1) (set l (16 * k) x) ≡ take (16 * k) l ++ (x ∷ []) = rw add-one (take-suc-set l (16 * k) x (omega arith)) in
+    let back : drop (16 * k + 16) (set l (16 * k) x) ≡ drop (16 * k + 16) l = drop-set-lt (16 * k + 16) l (16 * k) x (omega arith) in
+    let whole = copied_over (set l (16 * k) x) p y (16 * k + 1) (16 * k + 16) (omega arith) (omega (arith, length-set l (16 * k) x)) e in
+    rw (lt-ltb k (length l / 16) h) (whole ∙ rw (front, back) (append_assoc (take (16 * k) l) (x ∷ []) (p ++ drop (16 * k + 16) l)))
 
 pub put_past : (l it : List ℕ) (k : ℕ) → length l / 16 ≤ k → l ≡ put_item k it l
 unfolding put_item
@@ -76,3 +88,10 @@ module _ {s : List ℕ} {d k : ℕ} {l rest : List ℕ} {count : ℕ} {m : List 
         came = g.on (Err e) z (rw step (came_stop (field_by (tag_kind tag) p d) (run d more) w.came));
         few = tt;
       }
+
+-- ---- What is left of a slice from `at` on
+pub tail_long : (s : List ℕ) (at : ℕ) → length (take (length s - at) (drop at s)) ≡ length s - at
+tail_long s at = omega (arith, length-take (length s - at) (drop at s), length-drop at s)
+
+pub tail_is : (s : List ℕ) (at : ℕ) → take (length s - at) (drop at s) ≡ drop at s
+tail_is s at = take_all (length s - at) (drop at s) (omega (arith, length-drop at s))

@@ -1,7 +1,7 @@
 -- The laws by which the reader's code is the definition: how many fields a run wants, how it goes on, and what each field is.
 use Rattle.std.specs.Prelude.{◌+◌, ◌-◌, ◌<◌, ◌≤◌, ◌≡◌, ◌∷◌, ◌++◌, Option, Result, Ok, Err}
 use Rattle.model.specs.Prelude.{ℕ, zero, suc, refl, ap, sym, ◌∙◌, Bool, true, false, List, [], add-one}
-use Rattle.model.specs.Prelude.{arith, length, drop, length-take, length-drop, length-append, ltb, eq-eqb, ne_eqb, ltb-false, true≢false}
+use Rattle.model.specs.Prelude.{arith, length, take, drop, length-take, length-drop, length-append, ltb, eq-eqb, ne_eqb, ltb-false, true≢false}
 use Rattle.model.specs.Prelude.{eqb, eqb-true}
 use Rattle.model.specs.declared.Refusal.{Refusal}
 use Rattle.model.specs.declared.Refusal.TheVariants.{FieldCutShort, UnknownTag, UseOfWrongSize, GroupsTooDeep}
@@ -59,6 +59,9 @@ put_then k (e ∷ x) y l = put_then (suc k) x y (put_item k (item e) l)
 pub undone : {n : ℕ} {r : Refusal} → Ok n ≡ Err r → ⊥
 undone e = let z : ◌≡◌ {A = ℕ} 0 1 = cc in omega arith
 
+pub unlike : {r : Refusal} → ◌≡◌ {A = Result (Unit {0}) Refusal} (Ok tt) (Err r) → ⊥
+unlike e = let z : ◌≡◌ {A = ℕ} 0 1 = cc in omega arith
+
 pub same_count : {n m : ℕ} → ◌≡◌ {A = Result ℕ Refusal} (Ok n) (Ok m) → n ≡ m
 same_count e = cc
 
@@ -113,6 +116,13 @@ uncut s e = go (ltb (length s) 3) refl
     go true p = absurd (true≢false (sym (rw p) ∙ e))
     go false p = (ltb-false (length s) 3 p, ltb-false (length s - 3) (length_of s) (sym (rw p) ∙ e))
 
+-- it takes three bytes at least, lies within s, and holds what is between its head and its end
+pub size_within : (s : List ℕ) → cut_short s ≡ false → (3 ≤ size_of s) × (size_of s ≤ length s)
+size_within s e = let u = uncut s e in (omega arith, omega (arith, u.0, u.1))
+
+pub part_long : (s : List ℕ) → cut_short s ≡ false → 3 + length (take (size_of s - 3) (drop 3 s)) ≡ size_of s
+part_long s e = let u = uncut s e in omega (arith, u.0, u.1, length-take (size_of s - 3) (drop 3 s), length-drop 3 s)
+
 -- ---- What each field is
 module _ (i : Read) (d : ℕ) (s : List ℕ) where
   pub field_cut : cut_short s ≡ true → field i d s ≡ no FieldCutShort
@@ -127,6 +137,14 @@ module _ (i : Read) (d : ℕ) (s : List ℕ) (cut : cut_short s ≡ false) where
   pub field_group : tag_of s ≡ 1 → (d ≡ 0 → ⊥) → field i d s ≡ around i
   unfolding field
   field_group t z = rw (cut, ne_eqb (tag_of s) 2 (λ u. omega arith), eq-eqb (tag_of s) 1 t, ne_eqb d 0 z)
+
+  pub field_unknown : (tag_of s ≡ 2 → ⊥) → (tag_of s ≡ 1 → ⊥) → field i d s ≡ no UnknownTag
+  unfolding field
+  field_unknown u t = rw (cut, ne_eqb (tag_of s) 2 u, ne_eqb (tag_of s) 1 t)
+
+  pub field_deep : tag_of s ≡ 1 → d ≡ 0 → field i d s ≡ no GroupsTooDeep
+  unfolding field
+  field_deep t z = rw (cut, ne_eqb (tag_of s) 2 (λ u. omega arith), eq-eqb (tag_of s) 1 t, eq-eqb d 0 z)
 
 -- as the code tells it
 pub field_whole : (d : ℕ) (s : List ℕ) → cut_short s ≡ false

@@ -72,6 +72,10 @@ narrow (other ∷ es) h w = absurd (omega arith)
 pub short_enough : (es : List Event) {total : ℕ} → Wide es → Fine es total → total ≤ 65538 → false ≡ ltb 65535 (widest es)
 short_enough es w f h = sym (le-ltb 65535 (widest es) (omega (arith, f.cost, narrow es (omega (arith, f.level)) w)))
 
+pub short_from : (t : List ℕ) (n : ℕ) {total : ℕ} → 16 * n ≤ length t → Fine (events_from t n 0) total → total ≤ 65538
+    → false ≡ ltb 65535 (widest (events_from t n 0))
+short_from t n r f h = short_enough (events_from t n 0) (wide_from t n 0 (omega arith)) f h
+
 -- ---- The answers
 -- a list that is judged well
 pub judged_fine : (es : List Event) (n : ℕ) → Ok n ≡ judged es → Fine es n

@@ -1,7 +1,7 @@
 -- Items as the code takes them, 16 bytes each: the event of one, and that those of a list are the events of its bytes.
-use Rattle.std.specs.Prelude.{◌≡◌, ◌+◌, ◌*◌, ◌/◌, ◌<◌, ◌∷◌, Option, Some, None}
+use Rattle.std.specs.Prelude.{◌≡◌, ◌+◌, ◌*◌, ◌-◌, ◌/◌, ◌<◌, ◌≤◌, ◌∷◌, Option, Some, None}
 use Rattle.std.specs.Simd.{first_chunks}
-use Rattle.model.specs.Prelude.{ℕ, zero, suc, refl, ap, ap₂, ◌∙◌, List, [], arith, length, take, drop, get_or}
+use Rattle.model.specs.Prelude.{ℕ, zero, suc, refl, ap, ap₂, ◌∙◌, List, [], add-one, arith, length, take, drop, get_or}
 use Rattle.model.specs.Prelude.{map, eqb, length-drop, drop-drop}
 use Rattle.model.specs.Prelude.{get_or-drop}
 use Rattle.model.specs.{BoolLaws.{by_test, by_test₂}}
@@ -76,3 +76,32 @@ events_chunks l (suc m) i =
 -- those of all items
 pub events_are : (l : List ℕ) {its : List (List ℕ)} → its ≡ first_chunks 16 (length l / 16) l → events_in its ≡ events_of l
 events_are l e = ap events_in e ∙ events_chunks l (length l / 16) 0
+
+-- ---- The events of items, one after another: n - i of them from the i-th on, up to the n-th
+pub next_event : (l : List ℕ) (n i : ℕ) → i < n → events_from l (n - i) i ≡ event_at l i ∷ events_from l (n - suc i) (suc i)
+unfolding events_from
+next_event l n i h = let a : n - i ≡ suc (n - suc i) = omega arith in ap (λ (m : ℕ). events_from l m i) a
+
+-- the same counted on
+pub following : (l : List ℕ) (n i : ℕ) → i < n → events_from l (n - i) i ≡ event_at l i ∷ events_from l (n - (i + 1)) (i + 1)
+following l n i h = rw (add-one i) (next_event l n i h)
+
+-- and counted back
+pub events_back : (l : List ℕ) (n i : ℕ) → 0 < i → i ≤ n
+    → events_from l (n - (i - 1)) (i - 1) ≡ event_at l (i - 1) ∷ events_from l (n - i) i
+events_back l n i h g =
+    let a : suc (i - 1) ≡ i = omega arith in
+    next_event l n (i - 1) (omega arith) ∙ ap (λ (j : ℕ). event_at l (i - 1) ∷ events_from l (n - j) j) a
+
+pub no_event : (l : List ℕ) (n i : ℕ) → n ≤ i → events_from l (n - i) i ≡ []
+unfolding events_from
+no_event l n i h = let a : n - i ≡ 0 = omega arith in rw a
+
+pub none_from : (l : List ℕ) (n : ℕ) → events_from l (n - n) n ≡ []
+none_from l n = no_event l n n (omega arith)
+
+pub all_left : (l : List ℕ) (n i : ℕ) → i ≤ 0 → events_from l (n - i) i ≡ events_from l n 0
+all_left l n i h =
+    let a : n - i ≡ n = omega arith in
+    let b : i ≡ 0 = omega arith in
+    ap (λ (m : ℕ). events_from l m i) a ∙ ap (λ (j : ℕ). events_from l n j) b

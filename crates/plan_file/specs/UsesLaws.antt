@@ -2,8 +2,8 @@
 use Rattle.std.specs.Prelude.{◌+◌, ◌*◌, ◌/◌, ◌<◌, ◌≤◌, ◌≡◌, ◌∷◌, ◌++◌, if◌then◌else◌, Ok, Err, count_by}
 use Rattle.model.specs.Prelude.{ℕ, zero, suc, true, false, arith, refl, sym, ap, ◌∙◌, List, []}
 use Rattle.model.specs.Prelude.{append_assoc, append-nil, length, take, drop, get_or, length-append, drop-length, drop_at, drop-cons}
-use Rattle.model.specs.Prelude.{drop-drop, drop_of_length-le, sets, sets-eq, take_at, true≢false, false≢true, eqb, add-one, lt-ltb, le-ltb}
-use Rattle.model.specs.{declared.Refusal.TheVariants.NoFreeEntry, BoolLaws.by_test}
+use Rattle.model.specs.Prelude.{drop-drop, drop_of_length-le, sets, sets-eq, take_at, true≢false, false≢true, eqb, add-one, lt-ltb, le-ltb, ne_eqb}
+use Rattle.model.specs.{declared.Refusal.TheVariants.NoFreeEntry, BoolLaws.{by_test, by_eq}}
 use Rattle.std.proofs.lemmas.List.Recursion.{is_count_by}
 use Rattle.plan_file.specs.Bytes.{low_first}
 use Rattle.plan_file.specs.{Plan.{Event, opened, used, closed, other}, Write.{event_of, events_of}}
@@ -34,7 +34,22 @@ eight_are it {index} {mips} {layers} {mip_start} {mip_end} {layer_start} {layer_
     let e' : mip_end ≡ low_first (get_or it 9 0 ∷ []) = omega arith in
     rw (a, b', c, d', e', f, g, i) (sym (ap numbers_of whole))
 
+-- the same of the 15 bytes of a use alone
+pub eight_of : (p : List ℕ) (index mips layers mip_start mip_end layer_start layer_end state : ℕ) → length p ≡ 15
+    → index ≡ low_first (get_or p 0 0 ∷ get_or p 1 0 ∷ get_or p 2 0 ∷ get_or p 3 0 ∷ []) → mips ≡ get_or p 4 0
+    → layers ≡ low_first (get_or p 5 0 ∷ get_or p 6 0 ∷ []) → mip_start ≡ get_or p 7 0 → mip_end ≡ get_or p 8 0
+    → layer_start ≡ low_first (get_or p 9 0 ∷ get_or p 10 0 ∷ []) → layer_end ≡ low_first (get_or p 11 0 ∷ get_or p 12 0 ∷ [])
+    → state ≡ low_first (get_or p 13 0 ∷ get_or p 14 0 ∷ [])
+    → index ∷ mips ∷ layers ∷ mip_start ∷ mip_end ∷ layer_start ∷ layer_end ∷ state ∷ [] ≡ numbers_of p
+eight_of p index mips layers mip_start mip_end layer_start layer_end state h a b c d e f g i =
+    eight_are (0 ∷ p) (omega arith) a b c d e f g i
+
 -- ---- An event that is a use, and one that is none
+-- what holds of every event but a use holds of an item whose kind is not 2
+pub no_use : (P : Event → Type 0) (kind : ℕ) (p : List ℕ) → (kind ≡ 2 → ⊥) → P opened → P closed → P other → P (event_of kind p)
+no_use P kind p h a b c = by_eq kind 1 (λ e. rw e a) (λ f. by_eq kind 3 (λ e. rw e b)
+    (λ g. rw (ne_eqb kind 1 f, ne_eqb kind 2 h, ne_eqb kind 3 g) c))
+
 count_first : (e : Event) (es : List Event) → count_of (e ∷ es) ≡ (if is_use e then 1 + count_of es else count_of es)
 unfolding count_of
 count_first opened es = refl

@@ -2,14 +2,15 @@
 use Rattle.std.specs.Prelude.{◌+◌, ◌*◌, ◌-◌, ◌<◌, ◌≤◌, ◌≡◌, ◌∷◌, ◌++◌, Some, None, Ok, Err}
 use Rattle.std.specs.List.{push}
 use Rattle.model.specs.Prelude.{ℕ, refl, ap, sym, ◌∙◌, List, [], arith, length, take, drop, get_or, drop_at}
-use Rattle.model.specs.Prelude.{length-take-le, le-leb, lt-leb, max}
+use Rattle.model.specs.Prelude.{length-take-le, le-leb, lt-leb, max, eqb}
 use Rattle.model.specs.Prelude.{append_assoc, append-nil, map-append, eq-eqb, ne_eqb, lt-ltb, le-ltb}
+use Rattle.model.specs.BoolLaws.{by_test}
 use Rattle.model.specs.declared.Refusal.{TheVariants.{GroupsTooDeep, PlanUnbalanced}}
 use Rattle.plan_file.specs.declared.kinds.ItemKind.{TheVariants.{Opened, Used, Closed}}
 use Rattle.plan_file.specs.{Kinds.kind_of, Plan.{Event, opened, used, closed, other}, Write.{level_at, levels, deepest}}
-use Rattle.plan_file.specs.{Writing.{costs, put_at, judged}, Items.{event_in, events_in, event_is}}
-use Rattle.plan_file.specs.{Levels.{level_closed, level_deep}, Copies.copied}
-use borrow.Rule.Slice.PartMut.{put_mid}
+use Rattle.plan_file.specs.{Writing.{cost, costs, put_at, judged}, Items.{event_in, events_in, event_is}}
+use Rattle.plan_file.specs.{Levels.{level_closed, level_deep}, Copies.{copied, copied_over}}
+use borrow.Rule.Slice.PartMut.{mid_of, put_mid}
 
 -- ---- Bytes put at p
 module _ (l x : List ℕ) (p : ℕ) where
@@ -25,6 +26,25 @@ module _ (l x : List ℕ) (p : ℕ) where
   unfolding put_at
   put_at_drop h = rw (le-leb (p + length x) (length l) h) (drop_at (take p l) (x ++ drop (p + length x) l) p
       (length-take-le p l (omega arith)))
+
+-- bytes copied there, as many, are put there
+pub put_at_over : (l x y : List ℕ) (p : ℕ) → p + length x ≤ length l
+    → y ≡ take (length x) x ++ drop (length x) (mid_of p (p + length x - p) l) → put_mid p (p + length x - p) l y ≡ put_at p x l
+unfolding put_at
+put_at_over l x y p h e = rw (le-leb (p + length x) (length l) h) (copied_over l x y p (p + length x) (omega arith) h e)
+
+-- ---- One event: the level rises by one at most, and it adds 18 bytes at most
+pub level_up : (e : Event) (k : ℕ) → level_at e k ≤ k + 1
+level_up opened k = omega arith
+level_up (used p) k = omega arith
+level_up closed k = by_test (λ (j : ℕ). j ≤ k + 1) (eqb k 0) (λ _. omega arith) (λ _. omega arith)
+level_up other k = omega arith
+
+pub cost_low : (e : Event) → cost e ≤ 18
+cost_low opened = omega arith
+cost_low (used p) = omega arith
+cost_low closed = omega arith
+cost_low other = omega arith
 
 -- ---- The list is judged
 -- what follows an event that is not balanced is not balanced
