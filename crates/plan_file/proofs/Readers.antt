@@ -1,12 +1,11 @@
 -- The reader's functions: an item written, a field split off, what is answered of a use, of a field and of a run.
+use Rattle.model.specs.Prelude.{ℕ, refl, true, ap, ◌∙◌, List, [], append_assoc, add-one, arith, length, take, drop, set, length-set}
+use Rattle.model.specs.Prelude.{take_all, take-suc-set, drop-set-lt, length-take, length-drop, lt-ltb, le-ltb, eq-eqb, ne_eqb}
+use Rattle.model.specs.{declared.Refusal.Refusal, declared.Refusal.TheVariants.FieldCutShort}
 use Rattle.std.specs.Prelude.{◌+◌, ◌*◌, ◌-◌, ◌/◌, ◌<◌, ◌≤◌, ◌≡◌, ◌∷◌, ◌++◌, Some, Result, Ok, Err}
-use Rattle.model.specs.Prelude.{ℕ, refl, true, ap, ◌∙◌, List, [], append_assoc, add-one, arith, length, take, drop, set, length-set, take_all}
-use Rattle.model.specs.Prelude.{take-suc-set, drop-set-lt, length-take, length-drop, lt-ltb, le-ltb, eq-eqb, ne_eqb}
-use Rattle.model.specs.declared.Refusal.{Refusal, TheVariants.{FieldCutShort}}
-use Rattle.plan_file.specs.declared.kinds.Tag.{TheVariants.{Group}}
-use Rattle.plan_file.specs.Plan.{opened, closed, content, cut_short, after, fields, run, item}
-use Rattle.plan_file.specs.Reading.{put_item, put_all, Came, FieldSplit, field_by, UseRead, FieldRead, GroupRead}
-use Rattle.plan_file.specs.{Kinds.tag_kind, Copies.{copied, copied_over}}
+use Rattle.plan_file.specs.{declared.kinds.Tag.TheVariants.Group, Plan.{opened, closed, content, cut_short, after, fields, run, item}}
+use Rattle.plan_file.specs.{Reading.{put_item, put_all, Came, FieldSplit, field_by, UseRead, FieldRead, GroupRead}, Kinds.tag_kind}
+use Rattle.plan_file.specs.Copies.{copied, copied_over}
 use Rattle.plan_file.proofs.ReadingLaws.{came_after, came_stop, came_around, run_step, field_cut, field_whole}
 use borrow.Rule.Slice.PartMut.{mid_of, put_mid}
 

@@ -1,14 +1,12 @@
 -- The laws by which the reader's code is the definition: how many fields a run wants, how it goes on, and what each field is.
+use Rattle.model.specs.Prelude.{ℕ, zero, suc, refl, ap, sym, ◌∙◌, Bool, true, false, List, [], add-one, arith, length, take, drop}
+use Rattle.model.specs.Prelude.{length-take, length-drop, length-append, ltb, eq-eqb, ne_eqb, ltb-false, true≢false, eqb, eqb-true}
+use Rattle.model.specs.{declared.Refusal.Refusal, declared.Refusal.TheVariants.{FieldCutShort, UnknownTag, UseOfWrongSize, GroupsTooDeep}}
+use Rattle.model.specs.BoolLaws.{by_test, by_test₂}
 use Rattle.std.specs.Prelude.{◌+◌, ◌-◌, ◌<◌, ◌≤◌, ◌≡◌, ◌∷◌, ◌++◌, Option, Result, Ok, Err}
-use Rattle.model.specs.Prelude.{ℕ, zero, suc, refl, ap, sym, ◌∙◌, Bool, true, false, List, [], add-one}
-use Rattle.model.specs.Prelude.{arith, length, take, drop, length-take, length-drop, length-append, ltb, eq-eqb, ne_eqb, ltb-false, true≢false}
-use Rattle.model.specs.Prelude.{eqb, eqb-true}
-use Rattle.model.specs.declared.Refusal.{Refusal}
-use Rattle.model.specs.declared.Refusal.TheVariants.{FieldCutShort, UnknownTag, UseOfWrongSize, GroupsTooDeep}
-use Rattle.model.specs.{BoolLaws.{by_test, by_test₂}}
+use Rattle.plan_file.specs.declared.kinds.Tag.{Tag}
 use Rattle.plan_file.specs.Plan.{used, Event, opened, closed, Read, took, no, tag_of, length_of, size_of, content, cut_short, as_use}
-use Rattle.plan_file.specs.{Plan.{around, after, field, fields, run, item}, Reading.{put_item, put_all, Came, field_by}}
-use Rattle.plan_file.specs.{Kinds.tag_kind, declared.kinds.Tag.Tag}
+use Rattle.plan_file.specs.{Plan.{around, after, field, fields, run, item}, Reading.{put_item, put_all, Came, field_by}, Kinds.tag_kind}
 
 -- ---- Fuel: as many fields as there are bytes are always enough
 content_short : (s : List ℕ) → length (content s) ≤ length s - 3

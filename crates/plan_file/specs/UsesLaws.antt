@@ -1,12 +1,11 @@
 -- The laws by which the lister's code is the definition: one use's bytes and numbers, the items that are uses, and the loop of `uses`.
-use Rattle.std.specs.Prelude.{◌+◌, ◌*◌, ◌/◌, ◌<◌, ◌≤◌, ◌≡◌, ◌∷◌, ◌++◌, if◌then◌else◌, Ok, Err, count_by}
-use Rattle.model.specs.Prelude.{ℕ, zero, suc, true, false, arith, refl, sym, ap, ◌∙◌, List, []}
-use Rattle.model.specs.Prelude.{append_assoc, append-nil, length, take, drop, get_or, length-append, drop-length, drop_at, drop-cons}
-use Rattle.model.specs.Prelude.{drop-drop, drop_of_length-le, sets, sets-eq, take_at, true≢false, false≢true, eqb, add-one, lt-ltb, le-ltb, ne_eqb}
+use Rattle.model.specs.Prelude.{ℕ, zero, suc, true, false, arith, refl, sym, ap, ◌∙◌, List, [], append_assoc, append-nil, length, take}
+use Rattle.model.specs.Prelude.{drop, get_or, length-append, drop-length, drop_at, drop-cons, drop-drop, drop_of_length-le, sets, sets-eq}
+use Rattle.model.specs.Prelude.{take_at, true≢false, false≢true, eqb, add-one, lt-ltb, le-ltb, ne_eqb}
 use Rattle.model.specs.{declared.Refusal.TheVariants.NoFreeEntry, BoolLaws.{by_test, by_eq}}
+use Rattle.std.specs.Prelude.{◌+◌, ◌*◌, ◌/◌, ◌<◌, ◌≤◌, ◌≡◌, ◌∷◌, ◌++◌, if◌then◌else◌, Ok, Err, count_by}
 use Rattle.std.proofs.lemmas.List.Recursion.{is_count_by}
-use Rattle.plan_file.specs.Bytes.{low_first}
-use Rattle.plan_file.specs.{Plan.{Event, opened, used, closed, other}, Write.{event_of, events_of}}
+use Rattle.plan_file.specs.{Bytes.low_first, Plan.{Event, opened, used, closed, other}, Write.{event_of, events_of}}
 use Rattle.plan_file.specs.{Uses.{numbers_by, numbers_of, uses_of, is_use, count_of, UsesListed}, Items.{event_in, events_in, use_bytes}}
 
 -- ---- One use, byte by byte

@@ -1,10 +1,11 @@
 -- Tests of every position of a list, as loops make them, and what the code needs of storage to make them.
-use Rattle.std.specs.Prelude.{◌+◌, ◌/◌, ◌≤◌, ◌<◌, ◌≡◌, ◌&&◌, ◌||◌}
-use Rattle.model.specs.Prelude.{ℕ, zero, suc, add-one, arith, refl, sym, Bool, true, not, and-true, and_assoc, List, leb, eqb, get_or}
+use Rattle.model.specs.Prelude.{ℕ, zero, suc, add-one, le_ind, arith, refl, sym, Bool, true, false, not, and-true, and_assoc, List, leb}
+use Rattle.model.specs.Prelude.{eqb, get_or}
 use Rattle.model.specs.{declared.UsageFlags.UsageFlags, BoolLaws.and_both as both, Base.every, Flags.flags_fit}
 use Rattle.model.specs.{Sets.{Numbers, outside, numbers_fit, capacity}, WellFormed.{held_fits, slot_fits, ranges_fit}}
-use Rattle.set_storage.specs.Storage.{numbers_of, flags_of, mips_of, list_from, scope_slot, count_at, state_at, complex_at}
-use Rattle.set_storage.specs.Storage.{textures_at, mips_at, layers_at, mip_limit_at, layer_limit_at}
+use Rattle.std.specs.Prelude.{◌+◌, ◌/◌, ◌≤◌, ◌<◌, ◌≡◌, ◌&&◌, ◌||◌}
+use Rattle.set_storage.specs.Storage.{numbers_of, flags_of, mips_of, list_from, scope_slot, count_at, state_at, complex_at, textures_at}
+use Rattle.set_storage.specs.Storage.{mips_at, layers_at, mip_limit_at, layer_limit_at}
 
 -- index i of a set, and its extent is within the set's
 pub record Sized (t : List ℕ) (i : ℕ) : Type 0 where
@@ -59,6 +60,15 @@ module _ {A : Type 0} (g : A → Bool) (f : ℕ → A) where
 
   pub every_next : (n : ℕ) → every g (list_from f 0 (n + 1)) ≡ every g (list_from f 0 n) && g (f n)
   every_next n = let e : 0 + n ≡ n = omega arith in rw (add-one, every_last 0 n, e)
+
+  -- position n passes after the first n did; or the first that does not pass decides
+  pub every_more : (n : ℕ) → every g (list_from f 0 n) ≡ true → g (f n) ≡ true → every g (list_from f 0 (n + 1)) ≡ true
+  every_more n a b = rw (every_next n, a, b)
+
+  pub every_stop : (k n : ℕ) → every g (list_from f 0 k) ≡ true → g (f k) ≡ false → k < n → every g (list_from f 0 n) ≡ false
+  every_stop k n a b h =
+      let e : 0 + k ≡ k = omega arith in
+      le_ind (λ (m : ℕ). every g (list_from f 0 m) ≡ false) (rw (every_last 0 k, e, a, b)) (λ m _ q. rw (every_last 0 m, q)) n h
 
   -- where every position passes, each does
   every_from : (j n k : ℕ) → every g (list_from f j n) ≡ true → k < n → g (f (j + k)) ≡ true

@@ -1,6 +1,6 @@
 -- The test of a state in two parts: all but EXCLUSIVE (proper), and EXCLUSIVE (compatible).
 use Rattle.std.specs.Prelude.{◌≤◌, ◌≡◌, ◌&&◌}
-use Rattle.model.specs.Prelude.{ℕ, refl, sym, Bool, true, false, not, and-false, ltb, eqb, bit_or, eqb-false}
+use Rattle.model.specs.Prelude.{ℕ, refl, sym, ◌∙◌, Bool, true, false, not, and-true, and-false, ltb, eqb, bit_or, eqb-false}
 use Rattle.model.specs.Prelude.{ltb-true, not-true}
 use Rattle.model.specs.{declared.UsageFlags.UsageFlags, BoolLaws.{and_both as both, and_left}, Flags.{meets, incompatible}}
 use Rattle.model.specs.WellFormed.{state_fits, single_fits}
@@ -28,6 +28,12 @@ swapped true true false = refl
 
 state_split : (p : UsageFlags) (s : ℕ) → state_fits p s ≡ (state_proper p s && compatible p s)
 state_split p s = swapped (not (eqb s 0) && ltb s 65536) (compatible p s) (not (meets s p.complex))
+
+pub state_unfit : (p : UsageFlags) (s : ℕ) → incompatible p s ≡ true → false ≡ state_fits p s
+state_unfit p s e = sym (state_split p s ∙ rw e (and-false (state_proper p s)))
+
+pub state_fit : (p : UsageFlags) (s : ℕ) → incompatible p s ≡ false → state_proper p s ≡ state_fits p s
+state_fit p s e = sym (state_split p s ∙ rw e (and-true (state_proper p s)))
 
 pub single_split : (p : UsageFlags) (s : ℕ) → single_fits p s ≡ (single_proper p s && compatible p s)
 single_split p s = rw (state_split p s) (swapped (state_proper p s) (compatible p s) (not (meets s p.unknown)))

@@ -32,6 +32,13 @@ module _ (q : Selector) (unknown mask old new : ℕ) where
       go true h = cc
       go false h = refl
 
+  pub entry_no : is_made (move_of unknown mask old new) ≡ false → entry q (move_of unknown mask old new) ≡ []
+  entry_no = go (move_of unknown mask old new)
+    where
+      go : (m : Option Move) → is_made m ≡ false → entry q m ≡ []
+      go None h = refl
+      go (Some m) h = cc
+
 -- ---- What is added for a range of mip k
 -- it goes to one state
 abbrev pub to_state : ℕ → ℕ → ℕ → ℕ → Range → List Entry

@@ -1,7 +1,6 @@
 -- The pieces of another texture, given one after another to the mips of a texture in storage: what is left to give decides.
 use Rattle.model.specs.Prelude.{ℕ, zero, suc, arith, refl, sym, ap, subst, ◌∙◌, Bool, true, false, Option, None, Some, option_map, List, []}
-use Rattle.model.specs.Prelude.{Ok, Err, result_err}
-use Rattle.model.specs.Prelude.{map, length, get_or}
+use Rattle.model.specs.Prelude.{Ok, Err, result_err, map, length, get_or}
 use Rattle.model.specs.declared.{UsageFlags.UsageFlags, Selector.Selector, Range.Range, InvalidUse.InvalidUse}
 use Rattle.model.specs.{Base.{each_at, Stop, fine, ruled, and_then, onward, passes, walk}, StateRules.{unite, end_after}, Sets.Numbers}
 use Rattle.model.specs.{Representation.{select, layer_start, layer_end, in_mips}, RangedStates.{paint, Tiles}}
@@ -10,11 +9,10 @@ use Rattle.model.specs.RangeLaws.{paint_tiles, tiles_le}
 use Rattle.std.specs.Prelude.{◌≤◌, ◌<◌, ◌≡◌, ◌∷◌, ◌++◌}
 use Rattle.range_states.specs.View.{decode}
 use Rattle.texture_mips.specs.{Merge.{merge_mip_lem, merge_other}, Kept.{run_tiles, update_tiles}}
-use Rattle.set_storage.specs.declared.stored.{Run.Run, Stored.Stored}
+use Rattle.set_storage.specs.{declared.stored.Run.Run, declared.stored.Stored.Stored}
 use Rattle.set_storage.specs.{Storage.{numbers_of, mips_in, mips_of, layers_at, start_half}, Stays.{Frame, keeps_refl, keeps_then}}
 use Rattle.set_storage.specs.Frames.{Measured, frame_below, measured_then, mip_at, mips_long}
-use Rattle.texture_merge.specs.Walks.{Stopped, MipsWalked}
-use Rattle.texture_merge.specs.Ready.{updated_mips, ManyReady}
+use Rattle.texture_merge.specs.{Walks.{Stopped, MipsWalked}, Ready.{updated_mips, ManyReady}}
 
 -- ---- What one piece does to the mips
 abbrev pub Does : Type 0
@@ -44,6 +42,10 @@ pub covers : (p : UsageFlags) (cur : ℕ) (qs : List Piece) (ss : List (List Ran
 unfolding covered spread_end
 covers p cur [] ss = refl
 covers p cur (q ∷ qs) ss = covers p cur qs (updated_mips p.unknown q.selector (end_after p.unknown cur q.state) ss)
+
+pub merges : (p : UsageFlags) (qs : List Piece) (ss : List (List Range))
+    → passes (merged p) qs ss ≡ passes (λ q. walk (merge_mip p q) 0) qs ss
+merges p qs ss = refl
 
 -- ---- Mips that tile their layers go on tiling them
 abbrev pub Tiled : ℕ → List (List Range) → Type 0

@@ -63,7 +63,7 @@ tracker_view {t} {s} {e} {t'} {s'} {e'} m q =
     rw (f.head mask_at (omega arith), slot_becomes (λ n. ends_of n t s e) (λ n. ends_of n t' s' e') f q.slot)
 
 -- ---- Its transitions: none where it is not owned
-abbrev slot_entries : UsageFlags → ℕ → Extent → Given → Slot (Ends Held) → List Entry
+abbrev pub slot_entries : UsageFlags → ℕ → Extent → Given → Slot (Ends Held) → List Entry
 slot_entries p mask sh from x = if x.owned then barrier p mask sh x.held.end from else []
 
 -- they are the model's

@@ -5,7 +5,7 @@ use Rattle.model.specs.{declared.{UsageFlags.UsageFlags, Extent.Extent, Selector
 use Rattle.model.specs.Texture.{Held, single, many, given_single, learn_all, met_by, spread_end, update_all, update}
 use Rattle.set_storage.specs.Storage.{numbers_of, flags_of, start_half, end_half, complex_at, state_at}
 use Rattle.set_storage.specs.{Texture.TextureHeld, Uses.{piece, use_of}}
-use Rattle.texture_merge.specs.{Ready.{updated_mips, HalfTiled, many_of}, Uses.broken_up}
+use Rattle.texture_merge.specs.{Ready.{updated_mips, HalfTiled, many_of}, Uses.{UseReady, broken_up}}
 use Rattle.texture_update.specs.Learning.{BothReady}
 
 -- ---- What the checks and the test of the set have shown
@@ -32,6 +32,9 @@ module _ {t s e : List ℕ} {i : ℕ} {sh : Extent} {p : UsageFlags} {new : ℕ}
 
   pub both_many : get_or t (state_at start_half i) 0 ≡ p.complex → get_or t (state_at end_half i) 0 ≡ p.complex → BothReady t s e i
   both_many a b = record { start = start_many a; end = end_many b }
+
+  pub end_use : {q : Selector} → Selecting sh q p new → UseReady (numbers_of t) end_half t e i sh (Some q) p new
+  end_use x = record { texture = r.end.ready; within = x.selector; flags = r.flags; plain = r.plain }
 
 -- ---- The model's update, case by case: one state for all
 module _ (p : UsageFlags) (sh : Extent) (new : ℕ) where
