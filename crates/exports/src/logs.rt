@@ -69,9 +69,6 @@ pub extern "C" fn track_merge_logs(
     let told = LogHead { written, free };
     match log_merge::merge_at(first, second, third, told) {
         Ok(x) => merged(Ok(()), x.head, x.rest, first.len(), second.len()),
-        Err(r) => {
-            let rest = Rest::Second(second.len());
-            merged(Err(r), told, rest, first.len(), second.len())
-        }
+        Err(x) => merged(Err(x.refusal), told, x.rest, first.len(), second.len()),
     }
 }

@@ -1,16 +1,15 @@
 // The calls that write a log, with its head lent by `&mut` (01: "the head of the log, entries written and entries free, is lent and moved
 // on by the call itself"). Each hands the head to `track`, or to `log_merge`, by value and stores the head of the answer; a refusal leaves
 // it. `log_merge::merge_logs` has this form of its own.
-ghost use Rattle.std.specs.Result.{result_unwrap_or};
 ghost use Rattle.model.specs.Log.{Answered, unless_refused};
 ghost use Rattle.set_storage.specs.Lent.{LentScope, LentTracker};
 ghost use Rattle.call_set.specs.Contract.{SetSingle};
 ghost use Rattle.call_join.specs.Contract.{SetFromUsageScope, SetFromTracker};
 ghost use Rattle.call_remove.specs.Removed.{SetAndRemoveSparse};
 ghost use Rattle.log_head.specs.Log.{Emptying};
-ghost use Rattle.log_merge.specs.Calls.{MergesLogs, end_of};
+ghost use Rattle.log_merge.specs.Calls.{MergesLogs, handed, rest_handed};
 
-use log_merge::Rest;
+use log_merge::{Rest, Unmerged};
 use model::{Extent, LogHead, Refusal, Selector, TrackerIndex};
 use set_storage::Table;
 
@@ -111,15 +110,16 @@ pub fn empty_log(log: &[u32], head: &mut LogHead) -> Result<(), Refusal>
     Ok(())
 }
 
-// Merges two logs, their written numbers alone, into a third until one is used up, and tells the rest of the other by its place.
+// Merges two logs, their written numbers alone, into a third until one is used up, and tells the rest of the other by its place: where it
+// is refused, the empty end of the second.
 pub fn merge_at(
     first: &[u32],
     second: &[u32],
     third: &mut [u32],
     head: &mut LogHead,
-) -> Result<Rest, Refusal>
-    ensures { let a : Answered = record { outcome = unless_refused result; head = head.new } in
-        MergesLogs first.now second.now head.old third.old a (result_unwrap_or result (end_of second.now)) third.new }
+) -> Result<Rest, Unmerged<Rest>>
+    ensures { let a : Answered = record { outcome = handed result; head = head.new } in
+        MergesLogs first.now second.now head.old third.old a (rest_handed result) third.new }
 {
     let merged = log_merge::merge_at(first, second, third, *head)?;
     *head = merged.head;

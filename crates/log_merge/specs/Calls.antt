@@ -1,14 +1,14 @@
 -- THE CONTRACTS: the call on borrowed numbers. `merging_logs` is what it answers, `MergesLogs` and `HandsOver` what becomes of what is
 -- borrowed.
-use Rattle.std.specs.Prelude.{◌+◌, ◌-◌, ◌*◌, ◌%◌, ◌≡◌, ◌&&◌, ◌∷◌, IfOk}
+use Rattle.std.specs.Prelude.{◌+◌, ◌-◌, ◌*◌, ◌/◌, ◌%◌, ◌≤◌, ◌≡◌, ◌&&◌, ◌∷◌}
 use Rattle.model.specs.Prelude.{ℕ, Bool, true, not, Result, Ok, Err, List, [], eqb, length, drop, min}
 use Rattle.model.specs.{declared.Refusal.TheVariants.LogOutOfOrder, declared.CallError.TheVariants.Refused}
-use Rattle.model.specs.declared.{LogHead.LogHead, PendingTransition.PendingTransition, Refusal.Refusal}
+use Rattle.model.specs.declared.{LogHead.LogHead, PendingTransition.PendingTransition}
 use Rattle.model.specs.{Refusals.{Check, check, first_failing}, Calls.done}
 use Rattle.model.specs.Log.{Answered, Log, Logged, Outcome, added, head_check, free_check, unless_logged, is_refused}
 use Rattle.texture_barrier.specs.Entries.{entries_of}
-use Rattle.log_head.specs.Log.{log_of, Logs}
-use Rattle.log_merge.specs.{declared.{Merged.Merged, Rest.Rest}, Merge.{Merge, merge_of, ascending}}
+use Rattle.log_head.specs.Log.{log_of, head_within, Logs}
+use Rattle.log_merge.specs.{declared.{Merged.Merged, Rest.Rest, Unmerged.Unmerged}, Merge.{Merge, merge_of, ascending}}
 use Rattle.log_merge.specs.declared.Rest.TheVariants.{First, Second}
 use Rattle.std.specs.Borrow.{Bor}
 
@@ -42,14 +42,21 @@ merging_logs a b third =
     (record { answer = done; log = added (merge_of a b).merged third; after = rest_at (merge_of a b) a b })
 
 -- as the code answers it, which was told the head h: turned away, the head stays
-abbrev pub told : LogHead → Result Merged Refusal → Answered
+abbrev pub told : LogHead → Result Merged (Unmerged Rest) → Answered
 told h (Ok m) = record { outcome = Ok tt; head = m.head }
-told h (Err r) = record { outcome = Err (Refused r); head = h }
+told h (Err u) = record { outcome = Err (Refused u.refusal); head = h }
 
--- and the rest that it tells: turned away, "the empty end of the second"
-abbrev pub rest_told : List ℕ → Result Merged Refusal → Rest
-rest_told b (Ok m) = m.rest
-rest_told b (Err r) = end_of b
+-- and the rest that it tells, turned away too
+abbrev pub rest_told : Result Merged (Unmerged Rest) → Rest
+rest_told (Ok m) = m.rest
+rest_told (Err u) = u.rest
+
+-- no check fails, and n entries are merged
+pub record Room (a b : List ℕ) (h : LogHead) (l : List ℕ) (n : ℕ) : Type 0 where
+  pub fits : head_within (length l / 7) h ≡ true
+  pub ordered : (in_order a && in_order b) ≡ true
+  pub needs : n ≡ length (merge_of a b).merged
+  pub free : n ≤ h.free
 
 -- THE CONTRACT of the call by value: a, b are the two logs, l the third's numbers and h its head
 pub record MergesLogs (a b : List ℕ) (h : LogHead) (l : List ℕ) (x : Answered) (r : Rest) (l' : List ℕ) : Type 0 where
@@ -80,17 +87,23 @@ abbrev pub RestOf : Bor (List ℕ) → Bor (List ℕ) → Rest → Bor (List ℕ
 RestOf a b x r = let s = which_of x a b in PartOf s (min (begins_at x) (length s.now)) r
 
 -- what a call that hands over a rest answers
-abbrev pub handed : {A : Type 0} → Result A Refusal → Outcome
+abbrev pub handed : {R : Type 0} → Result R (Unmerged R) → Outcome
 handed (Ok r) = Ok tt
-handed (Err r) = Err (Refused r)
+handed (Err u) = Err (Refused u.refusal)
+
+-- and the rest, turned away too
+abbrev pub rest_handed : {R : Type 0} → Result R (Unmerged R) → R
+rest_handed (Ok r) = r
+rest_handed (Err u) = u.rest
 
 -- what a call that comes to c hands over: h' is the third's head after it
-pub record HandedOver (c : Logged Rest) (a b : Bor (List ℕ)) (l : List ℕ) (h' : LogHead) (x : Result (Bor (List ℕ)) Refusal)
-    (l' : List ℕ) : Type 0 where
+pub record HandedOver (c : Logged Rest) (a b : Bor (List ℕ)) (l : List ℕ) (h' : LogHead)
+    (x : Result (Bor (List ℕ)) (Unmerged (Bor (List ℕ)))) (l' : List ℕ) : Type 0 where
   pub log : Logs c l (record { outcome = handed x; head = h' }) l'
   pub kept : is_refused (handed x) ≡ true → l' ≡ l
-  pub rest : IfOk x (PartOf (which_of c.after a b) (begins_at c.after))
+  pub rest : PartOf (which_of c.after a b) (begins_at c.after) (rest_handed x)
 
 -- THE CONTRACT of the call that hands over the rest itself
-abbrev pub HandsOver : Bor (List ℕ) → Bor (List ℕ) → LogHead → List ℕ → LogHead → Result (Bor (List ℕ)) Refusal → List ℕ → Type 0
+abbrev pub HandsOver : Bor (List ℕ) → Bor (List ℕ) → LogHead → List ℕ → LogHead → Result (Bor (List ℕ)) (Unmerged (Bor (List ℕ))) → List ℕ
+    → Type 0
 HandsOver a b h l = HandedOver (merging_logs a.now b.now (log_of l h)) a b l

@@ -17,7 +17,7 @@ mod order;
 mod weave;
 
 pub use calls::{merge_at, merge_logs, rest_of};
-use model::LogHead;
+use model::{LogHead, Refusal};
 
 // What is left of one of the two logs: its numbers from there on.
 #[derive(Clone, Copy)]
@@ -31,4 +31,11 @@ pub enum Rest {
 pub struct Merged {
     pub rest: Rest,
     pub head: LogHead,
+}
+
+// A merge that is refused: why, and the rest, which is the empty end of the second log.
+#[derive(Clone, Copy)]
+pub struct Unmerged<R> {
+    pub refusal: Refusal,
+    pub rest: R,
 }

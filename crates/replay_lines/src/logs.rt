@@ -69,9 +69,9 @@ pub fn merge_logs(mut words: Words, out: &mut Out, alloc: Global) -> io::Result<
             writeln!(out, "merged {} {}{numbers}", head.written, head.free)?;
             rest(out, first, second, x.rest)
         }
-        Err(r) => {
-            tell::refused(out, r, third.is_kept())?;
-            rest(out, first, second, Rest::Second(second.len()))
+        Err(u) => {
+            tell::refused(out, u.refusal, third.is_kept())?;
+            rest(out, first, second, u.rest)
         }
     }
 }
