@@ -21,7 +21,7 @@ ghost use Rattle.usage.specs.Gathered.{exclusive_part};
 
 pub use flags::{flags_fit, flags_fit_by, state_reserved};
 use model::UsageFlags;
-pub use table::OnesTable;
+pub use table::{OnesTable, one_bit};
 pub use united::{unite, unite_known};
 
 // Whether two states share a bit.
@@ -35,7 +35,7 @@ pub fn meets(a: u32, b: u32) -> bool
 pub fn incompatible(p: UsageFlags, s: u32) -> bool
     ensures { result ≡ incompatible_of p s }
 {
-    meets(s, p.exclusive) && !OnesTable::new().one_bit(s)
+    meets(s, p.exclusive) && !one_bit(s)
 }
 
 // What a state adds to the union of those that meet EXCLUSIVE: where that union has at most one bit, each of them has one.

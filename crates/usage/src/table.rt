@@ -34,7 +34,7 @@ const ONES: [u8; 256] = [
 // A table with an entry for each byte, for whoever looks up more than once.
 #[derive(Clone, Copy)]
 pub struct OnesTable {
-    entries: [u8; 256],
+    pub entries: [u8; 256],
     ghost counts: { CountsOnes entries },
 }
 
@@ -56,4 +56,12 @@ impl OnesTable {
     {
         meets(s, p.exclusive) && !self.one_bit(s)
     }
+}
+
+// Whether exactly one of the sixteen bits is set, by a table that is made for it. Out of line: so no caller has the table on its stack.
+#[inline(never)]
+pub fn one_bit(s: u32) -> bool
+    ensures { result ≡ one_bit s }
+{
+    OnesTable::new().one_bit(s)
 }
