@@ -1,28 +1,27 @@
 // The calls on sets: what a call is lent, the call, and what it leaves.
 use crate::Replay;
 use model::{CallError, LogHead, Refusal};
-use replay_lines::logs::Log;
-use replay_lines::sets::{Half, Kind, LentLog, Set, SetId, Sets};
-use replay_lines::tell;
+use replay_lines::sets::{Half, Kind, LentLog, Rooms, SetId};
 use replay_lines::words::Words;
-use std::alloc::{AllocError, Global};
+use replay_lines::{tell, words};
+use std::alloc::AllocError;
 use std::io;
 use std::io::Write;
 
 impl Replay {
-    // The call of this name, which takes the rest of the line. A line of another name is not answered.
-    pub fn call(&mut self, name: &str, mut words: Words) -> io::Result<()> {
+    // The call of this name, which takes the rest of the line.
+    pub fn call(&mut self, name: u32, mut words: Words) -> io::Result<()> {
         match name {
-            "open_scope" => self.open_scope(&mut words)?,
-            "open_tracker" => self.open_tracker(&mut words)?,
-            "merge_single" => self.merge_single(&mut words)?,
-            "merge_usage_scope" => self.merge_usage_scope(&mut words)?,
-            "set_single" => self.set_single(&mut words)?,
-            "set_from_usage_scope" => self.set_from_usage_scope(&mut words)?,
-            "set_from_tracker" => self.set_from_tracker(&mut words)?,
-            "set_and_remove_from_usage_scope_sparse" => self.set_and_remove(words)?,
-            "empty_log" => self.empty_log(&mut words)?,
-            _ => {}
+            words::OPEN_SCOPE => self.open_scope(&mut words)?,
+            words::OPEN_TRACKER => self.open_tracker(&mut words)?,
+            words::MERGE_SINGLE => self.merge_single(&mut words)?,
+            words::MERGE_USAGE_SCOPE => self.merge_usage_scope(&mut words)?,
+            words::SET_SINGLE => self.set_single(&mut words)?,
+            words::SET_FROM_USAGE_SCOPE => self.set_from_usage_scope(&mut words)?,
+            words::SET_FROM_TRACKER => self.set_from_tracker(&mut words)?,
+            words::SPARSE => self.set_and_remove(words)?,
+            words::EMPTY_LOG => self.empty_log(&mut words)?,
+            _ => self.merge_unnamed(&mut words)?,
         }
         self.sets.log = None;
         Ok(())
@@ -35,15 +34,16 @@ impl Replay {
         let m = words.number();
         let w = words.number();
         let flags = words.flags();
-        let rooms = words.rooms();
-        let mut set = self
-            .sets
-            .get(id)
-            .lend_as(Some(Kind::Scope), rooms, self.alloc)?;
+        let rooms = Rooms {
+            starts: words.size(),
+            ends: 0,
+        };
+        let set = &mut self.lent;
+        self.sets.get(id).lend_as(Some(Kind::Scope), rooms, set)?;
         let outcome = track::open_scope(&mut set.table, &set.starts, n, m, w, flags).map_err(
             CallError::Refused,
         );
-        self.leave(outcome, id, &set)
+        self.leave(outcome, id, None)
     }
 
     // open_tracker SET N M W FLAGS MASK ROOM ROOM
@@ -55,10 +55,8 @@ impl Replay {
         let flags = words.flags();
         let mask = words.state();
         let rooms = words.rooms();
-        let mut set = self
-            .sets
-            .get(id)
-            .lend_as(Some(Kind::Tracker), rooms, self.alloc)?;
+        let set = &mut self.lent;
+        self.sets.get(id).lend_as(Some(Kind::Tracker), rooms, set)?;
         let outcome = track::open_tracker(
             &mut set.table,
             &set.starts,
@@ -69,7 +67,7 @@ impl Replay {
             flags,
             mask,
         ).map_err(CallError::Refused);
-        self.leave(outcome, id, &set)
+        self.leave(outcome, id, None)
     }
 
     // merge_single SCOPE TEXTURE STATE [SELECTOR]
@@ -79,7 +77,8 @@ impl Replay {
         let extent = words.extent();
         let state = words.state();
         let selection = words.selector();
-        let mut set = self.sets.get(id).lend(self.alloc)?;
+        let set = &mut self.lent;
+        self.sets.get(id).lend(set)?;
         let outcome = track::merge_single(
             &mut set.table,
             &mut set.starts,
@@ -88,14 +87,16 @@ impl Replay {
             selection,
             state,
         );
-        self.leave(outcome, id, &set)
+        self.leave(outcome, id, None)
     }
 
     // merge_usage_scope TO FROM
     fn merge_usage_scope(&mut self, words: &mut Words) -> io::Result<()> {
         let id = words.set();
-        let mut set = self.sets.get(id).lend(self.alloc)?;
-        let given = self.sets.get(words.set());
+        let from = words.set();
+        let set = &mut self.lent;
+        self.sets.get(id).lend(set)?;
+        let given = self.sets.get(from);
         let ranges = given.lent_ranges(Half::Start);
         let outcome = track::merge_usage_scope(
             &mut set.table,
@@ -103,31 +104,68 @@ impl Replay {
             &given.table,
             ranges,
         );
-        self.leave(outcome, id, &set)
+        self.leave(outcome, id, Some(from))
+    }
+
+    // A line of another name, or of none, is a merge of another set, of which no ranges are lent.
+    fn merge_unnamed(&mut self, words: &mut Words) -> io::Result<()> {
+        let id = words.set();
+        let set = &mut self.lent;
+        self.sets.get(id).lend(set)?;
+        let given = self.sets.get(id.other());
+        let outcome = track::merge_usage_scope(&mut set.table, &mut set.starts, &given.table, &[]);
+        self.leave(outcome, id, None)
+    }
+
+    // Saves what a call made of its copy of the set. Where the line names that set a second time, what it was lent then is what stays.
+    fn save(&mut self, id: SetId, from: Option<SetId>) {
+        if from != Some(id) {
+            self.sets.get_mut(id).save(&self.lent);
+        }
     }
 
     // What an opening or a merge leaves: nothing where it was refused, otherwise the set as it is now.
-    fn leave(&mut self, outcome: Result<(), CallError>, id: SetId, set: &Set) -> io::Result<()> {
+    fn leave(
+        &mut self,
+        outcome: Result<(), CallError>,
+        id: SetId,
+        from: Option<SetId>,
+    ) -> io::Result<()> {
         match outcome {
             Ok(()) => writeln!(self.out, "done")?,
             Err(CallError::Refused(r)) => {
-                return tell::refused(&mut self.out, r, self.sets.get(id).is_kept(set));
+                let kept = self.sets.get(id).is_kept(&self.lent);
+                return tell::refused(&mut self.out, r, kept);
             }
             Err(CallError::Conflict(c)) => tell::conflict(&mut self.out, c)?,
         }
-        self.sets.get_mut(id).save(set);
+        self.save(id, from);
         tell::all(&mut self.out, &self.sets)
+    }
+
+    // What a tracker's call is lent: a copy of the tracker, and a log. Where no line told the log, it is empty, with a free entry for every
+    // subresource. Returns the log's head.
+    fn lend_tracker(&mut self, id: SetId) -> Result<LogHead, AllocError> {
+        let set = self.sets.get(id);
+        set.lend(&mut self.lent)?;
+        let free = set.subresources() as usize;
+        let told = self.sets.log.unwrap_or(LentLog {
+            head: LogHead { written: 0, free },
+            room: 7 * free,
+        });
+        self.log.lend(told.head, told.room)?;
+        Ok(told.head)
     }
 
     // set_single TRACKER TEXTURE STATE [SELECTOR]
     fn set_single(&mut self, words: &mut Words) -> io::Result<()> {
-        let mut lent = Lent::new(words.set(), &self.sets, self.alloc)?;
+        let id = words.set();
         let index = words.index();
         let extent = words.extent();
         let state = words.state();
         let selector = words.selector().unwrap_or(extent.full());
-        let head = lent.log.head;
-        let set = &mut lent.set;
+        let head = self.lend_tracker(id)?;
+        let set = &mut self.lent;
         let answered = track::set_single(
             &mut set.table,
             &mut set.starts,
@@ -136,36 +174,38 @@ impl Replay {
             extent,
             selector,
             state,
-            &mut lent.log.numbers,
+            &mut self.log.numbers,
             head,
         );
-        self.leave_tracker(answered, &lent)
+        self.leave_tracker(answered, id, None)
     }
 
     // set_from_usage_scope TRACKER SCOPE
     fn set_from_usage_scope(&mut self, words: &mut Words) -> io::Result<()> {
-        let mut lent = Lent::new(words.set(), &self.sets, self.alloc)?;
-        let given = self.sets.get(words.set());
-        let head = lent.log.head;
-        let set = &mut lent.set;
+        let id = words.set();
+        let from = words.set();
+        let head = self.lend_tracker(id)?;
+        let given = self.sets.get(from);
+        let set = &mut self.lent;
         let answered = track::set_from_usage_scope(
             &mut set.table,
             &mut set.starts,
             &mut set.ends,
             &given.table,
             given.lent_ranges(Half::Start),
-            &mut lent.log.numbers,
+            &mut self.log.numbers,
             head,
         );
-        self.leave_tracker(answered, &lent)
+        self.leave_tracker(answered, id, Some(from))
     }
 
     // set_from_tracker TO FROM
     fn set_from_tracker(&mut self, words: &mut Words) -> io::Result<()> {
-        let mut lent = Lent::new(words.set(), &self.sets, self.alloc)?;
-        let given = self.sets.get(words.set());
-        let head = lent.log.head;
-        let set = &mut lent.set;
+        let id = words.set();
+        let from = words.set();
+        let head = self.lend_tracker(id)?;
+        let given = self.sets.get(from);
+        let set = &mut self.lent;
         let answered = track::set_from_tracker(
             &mut set.table,
             &mut set.starts,
@@ -173,56 +213,72 @@ impl Replay {
             &given.table,
             given.lent_ranges(Half::Start),
             given.lent_ranges(Half::End),
-            &mut lent.log.numbers,
+            &mut self.log.numbers,
             head,
         );
-        self.leave_tracker(answered, &lent)
+        self.leave_tracker(answered, id, Some(from))
     }
 
     // What a tracker's call leaves: nothing where it was refused, otherwise the tracker as it is now.
-    fn leave_tracker(&mut self, answered: Result<LogHead, Refusal>, lent: &Lent) -> io::Result<()> {
+    fn leave_tracker(
+        &mut self,
+        answered: Result<LogHead, Refusal>,
+        id: SetId,
+        from: Option<SetId>,
+    ) -> io::Result<()> {
         match answered {
-            Ok(after) => self.tell_done(lent, after),
-            Err(r) => tell::refused(&mut self.out, r, lent.is_kept(&self.sets)),
+            Ok(after) => {
+                self.save(id, from);
+                self.tell_done(after)
+            }
+            Err(r) => {
+                let kept = self.is_kept(id);
+                tell::refused(&mut self.out, r, kept)
+            }
         }
+    }
+
+    // Whether all that a tracker's call was lent is what it was.
+    fn is_kept(&self, id: SetId) -> bool {
+        self.log.is_kept() && self.sets.get(id).is_kept(&self.lent)
     }
 
     // set_and_remove_from_usage_scope_sparse TRACKER SCOPE INDEX*. The scope changes too.
     fn set_and_remove(&mut self, mut words: Words) -> io::Result<()> {
-        let mut lent = Lent::new(words.set(), &self.sets, self.alloc)?;
+        let id = words.set();
         let from = words.set();
-        let mut given = self.sets.get(from).lend(self.alloc)?;
-        let indices = words.all_numbers(self.alloc)?;
-        let head = lent.log.head;
-        let set = &mut lent.set;
+        let indices = words.all_numbers();
+        let head = self.lend_tracker(id)?;
+        self.sets.get(from).lend(&mut self.given)?;
+        let set = &mut self.lent;
         let answered = track::set_and_remove_from_usage_scope_sparse(
             &mut set.table,
             &mut set.starts,
             &mut set.ends,
-            &mut given.table,
-            &given.starts,
-            &indices,
-            &mut lent.log.numbers,
+            &mut self.given.table,
+            &self.given.starts,
+            indices,
+            &mut self.log.numbers,
             head,
         );
         match answered {
             Ok(after) => {
-                self.sets.get_mut(from).save(&given);
-                self.tell_done(&lent, after)
+                self.save(id, Some(from));
+                self.sets.get_mut(from).save(&self.given);
+                self.tell_done(after)
             }
             Err(r) => {
-                let kept = lent.is_kept(&self.sets) && self.sets.get(from).is_kept(&given);
+                let kept = self.is_kept(id) && self.sets.get(from).is_kept(&self.given);
                 tell::refused(&mut self.out, r, kept)
             }
         }
     }
 
     // A tracker's call that was made: its transitions, the head if a line told one, and the sets.
-    fn tell_done(&mut self, lent: &Lent, after: LogHead) -> io::Result<()> {
-        self.sets.get_mut(lent.id).save(&lent.set);
+    fn tell_done(&mut self, after: LogHead) -> io::Result<()> {
         let out = &mut self.out;
         writeln!(out, "done")?;
-        tell::transitions(out, &lent.log.numbers, lent.log.head, after)?;
+        tell::transitions(out, &self.log.numbers, self.log.head, after)?;
         if self.sets.log.is_some() {
             tell::head(out, "log", after)?;
         }
@@ -232,40 +288,10 @@ impl Replay {
     // empty_log WRITTEN FREE LENT
     fn empty_log(&mut self, words: &mut Words) -> io::Result<()> {
         let head = words.head();
-        let log = Log::lend(head, words.size(), self.alloc)?;
-        match track::empty_log(&log.numbers, head) {
+        self.log.lend(head, words.size())?;
+        match track::empty_log(&self.log.numbers, head) {
             Ok(after) => tell::head(&mut self.out, "emptied", after),
-            Err(r) => tell::refused(&mut self.out, r, log.is_kept()),
+            Err(r) => tell::refused(&mut self.out, r, self.log.is_kept()),
         }
-    }
-}
-
-// What a tracker's call is lent: a copy of the tracker, and a log.
-#[derive(Drop)]
-struct Lent {
-    id: SetId,
-    set: Set,
-    log: Log,
-}
-
-impl Lent {
-    // Where no line told the log, it is empty, with a free entry for every subresource.
-    fn new(id: SetId, sets: &Sets, alloc: Global) -> Result<Lent, AllocError> {
-        let set = sets.get(id);
-        let free = set.subresources() as usize;
-        let told = sets.log.unwrap_or(LentLog {
-            head: LogHead { written: 0, free },
-            room: 7 * free,
-        });
-        Ok(Lent {
-            id,
-            set: set.lend(alloc)?,
-            log: Log::lend(told.head, told.room, alloc)?,
-        })
-    }
-
-    // Whether all that was lent is what it was.
-    fn is_kept(&self, sets: &Sets) -> bool {
-        self.log.is_kept() && sets.get(self.id).is_kept(&self.set)
     }
 }

@@ -1,80 +1,87 @@
 // The lines that answer nothing: a texture put into a set, a number poked, the room and the log that are lent.
-ghost use Rattle.std.specs.Prelude.{◌<◌, ◌≤◌, IsSome};
+ghost use Rattle.std.specs.Prelude.{◌<◌, ◌≤◌, ◌+◌, length, IsSome};
 
-use crate::sets::{Half, Kind, LentLog, Place, Set, Sets};
+use crate::sets::{Half, Kind, LentLog, Place, SetId, Sets};
+use crate::words;
 use crate::words::Words;
 use set_storage::{COMPLEX, LAYERS, MIPS, OWNED};
 
 // put SET INDEX MIPS LAYERS HALF [HALF]
 pub fn put(words: &mut Words, sets: &mut Sets) {
-    let set = sets.get_mut(words.set());
+    let id = words.set();
+    let set = sets.get_mut(id);
     let index = words.size().min(63);
     let extent = words.extent();
     let mips = extent.mips.min(16) as usize;
     set.table[OWNED + index] = 1;
     set.table[MIPS + index] = extent.mips;
     set.table[LAYERS + index] = extent.layers;
-    put_half(words, set, Half::Start, index, mips);
-    if set.kind == Some(Kind::Tracker) {
-        put_half(words, set, Half::End, index, mips);
+    put_half(words, sets, id, Half::Start, index, mips);
+    if sets.get(id).kind == Some(Kind::Tracker) {
+        put_half(words, sets, id, Half::End, index, mips);
     }
 }
 
 // HALF = single STATE | many MIP*
-fn put_half(words: &mut Words, set: &mut Set, half: Half, index: usize, mips: usize)
+fn put_half(words: &mut Words, sets: &mut Sets, id: SetId, half: Half, index: usize, mips: usize)
     requires index_bound { index < 64 }
     requires mips_bound { mips ≤ 16 }
+    ensures { length words.old.rest.now ≤ length words.new.rest.now + 12305 }
 {
     let state_at = half.states() + index;
-    if words.word() == "single" {
-        set.table[state_at] = words.number();
+    let table = &mut sets.get_mut(id).table;
+    if words.number() == words::SINGLE {
+        table[state_at] = words.number();
         return;
     }
-    set.table[state_at] = set.table[COMPLEX];
+    table[state_at] = table[COMPLEX];
     for mip in 0..mips {
-        put_mip(words, set, half, Place { index, mip });
+        put_mip(words, sets, id, half, Place { index, mip });
     }
 }
 
-// MIP = COUNT RECORD*
-fn put_mip(words: &mut Words, set: &mut Set, half: Half, place: Place) {
+// MIP = COUNT RECORD*. What has no room goes on after the half, as the store does.
+fn put_mip(words: &mut Words, sets: &mut Sets, id: SetId, half: Half, place: Place)
+    ensures { length words.old.rest.now ≤ length words.new.rest.now + 769 }
+{
     let count = words.number();
-    set.table[place.count_at(half)] = count;
-    let from = place.ranges_at(&set.table);
-    let numbers = 3 * count.min(256) as usize;
-    let ranges = set.ranges_mut(half);
-    for number in ranges.iter_mut().skip(from).take(numbers) {
-        *number = words.number();
-    }
-}
-
-// Writes x at i, if there is room.
-fn write(run: &mut [u32], i: usize, x: u32) {
-    if let Some(number) = run.get_mut(i) {
-        *number = x;
+    let table = &mut sets.get_mut(id).table;
+    table[place.count_at(half)] = count;
+    let from = id.half_at(half) + place.ranges_at(table);
+    for i in 0..3 * count.min(256) as usize {
+        sets.write(from + i, words.number());
     }
 }
 
 // poke SET PART OFFSET VALUE
+#[inline(always)]
 pub fn poke(words: &mut Words, sets: &mut Sets) {
-    let set = sets.get_mut(words.set());
-    let part = words.word();
-    let offset = words.size();
-    let value = words.number();
+    let id = words.set();
+    let from = part_at(id, words.number());
+    let place = from + words.size().min(786432);
+    sets.write(place, words.number());
+}
+
+// Where PART begins in the store.
+fn part_at(id: SetId, part: u32) -> usize
+    ensures { result ≤ 95520 }
+{
     match part {
-        "table" => write(&mut *set.table, offset, value),
-        "start" => write(set.ranges_mut(Half::Start), offset, value),
-        _ => write(set.ranges_mut(Half::End), offset, value),
+        words::TABLE => id.table_at(),
+        words::START => id.half_at(Half::Start),
+        _ => id.half_at(Half::End),
     }
 }
 
 // room SET ROOM [ROOM]
+#[inline(always)]
 pub fn room(words: &mut Words, sets: &mut Sets) {
     let set = sets.get_mut(words.set());
     set.rooms = words.rooms();
 }
 
 // log WRITTEN FREE LENT
+#[inline(always)]
 pub fn log(words: &mut Words, sets: &mut Sets)
     ensures { IsSome sets.new.log }
 {

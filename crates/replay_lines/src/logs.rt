@@ -1,8 +1,8 @@
 // Logs: what their numbers are before a call, whether they stay, and the merge of two logs, made and told.
-ghost use Rattle.std.specs.Prelude.{◌≡◌, min, IfOk, vec_len};
+ghost use Rattle.std.specs.Prelude.{◌≡◌, min, OnOk, vec_len};
 
 use crate::tell;
-use crate::tell::{Numbers, Out};
+use crate::tell::{Out, run};
 use crate::words::Words;
 use log_merge::{Rest, merge_at, rest_of};
 use model::LogHead;
@@ -18,18 +18,6 @@ fn before(i: usize) -> u32 {
     90000usize.saturating_sub(i) as u32
 }
 
-// The numbers of a log, as they are lent.
-pub fn numbers(room: usize, alloc: Global) -> Result<Vec<u32>, AllocError>
-    ensures { IfOk result (λ v. vec_len v ≡ min room 28672) }
-{
-    (0..room.min(ROOM)).map(before).collect(alloc)
-}
-
-// Whether the numbers are what they were.
-pub fn are_kept(numbers: &[u32]) -> bool {
-    numbers.iter().enumerate().all(|(i, n)| *n == before(i))
-}
-
 // A log as a call is lent it, with its head before the call.
 #[derive(Drop)]
 pub struct Log {
@@ -38,35 +26,52 @@ pub struct Log {
 }
 
 impl Log {
-    pub fn lend(head: LogHead, room: usize, alloc: Global) -> Result<Log, AllocError>
-        ensures { IfOk result (λ l. l.head ≡ head) }
-    {
+    pub fn new(alloc: Global) -> Result<Log, AllocError> {
         Ok(Log {
-            numbers: numbers(room, alloc)?,
-            head,
+            numbers: vec![in alloc; 0; ROOM]?,
+            head: LogHead {
+                written: 0,
+                free: 0,
+            },
         })
+    }
+
+    // The log as the next call is lent it, with so many numbers.
+    pub fn lend(&mut self, head: LogHead, room: usize) -> Result<(), AllocError>
+        ensures numbers { OnOk result (vec_len self.new.numbers ≡ min room 28672) }
+        ensures head { OnOk result (self.new.head ≡ head) }
+    {
+        self.numbers.resize(room.min(ROOM), 0)?;
+        self.head = head;
+        for (i, n) in self.numbers.iter_mut().enumerate() {
+            *n = before(i);
+        }
+        Ok(())
     }
 
     // Whether the log is what it was; a call that is refused tells no other head.
     pub fn is_kept(&self) -> bool {
-        are_kept(&self.numbers)
+        self.numbers
+            .iter()
+            .enumerate()
+            .all(|(i, n)| *n == before(i))
     }
 }
 
 // merge_logs WRITTEN FREE LENT N M NUMBER*
-pub fn merge_logs(mut words: Words, out: &mut Out, alloc: Global) -> io::Result<()> {
+pub fn merge_logs(mut words: Words, out: &mut Out, third: &mut Log) -> io::Result<()> {
     let head = words.head();
-    let mut third = Log::lend(head, words.size(), alloc)?;
+    third.lend(head, words.size())?;
     let n = words.size();
     let m = words.size();
-    let both = words.all_numbers(alloc)?;
+    let both = words.all_numbers();
     let (first, after) = both.split_at(n.min(both.len()));
     let second = &after[..m.min(after.len())];
     match merge_at(first, second, &mut third.numbers, head) {
         Ok(x) => {
             let head = x.head;
-            let numbers = Numbers(&third.numbers);
-            writeln!(out, "merged {} {}{numbers}", head.written, head.free)?;
+            write!(out, "merged {} {}", head.written, head.free)?;
+            run(out, &third.numbers)?;
             rest(out, first, second, x.rest)
         }
         Err(u) => {
@@ -82,9 +87,6 @@ fn rest(out: &mut Out, first: &[u32], second: &[u32], rest: Rest) -> io::Result<
         Rest::First(from) => ("first", from),
         Rest::Second(from) => ("second", from),
     };
-    writeln!(
-        out,
-        "rest {log} {from}{}",
-        Numbers(rest_of(first, second, rest))
-    )
+    write!(out, "rest {log} {from}")?;
+    run(out, rest_of(first, second, rest))
 }

@@ -1,7 +1,8 @@
 // Plan files: read, written, and the uses of a list told, as the line says.
-use crate::tell::{Numbers, Out};
+use crate::logs::Log;
+use crate::tell;
+use crate::tell::{Out, run};
 use crate::words::Words;
-use crate::{logs, tell};
 use model::Refusal;
 use std::alloc::{AllocError, Global};
 use std::io;
@@ -55,17 +56,31 @@ fn tell_bytes(
     bytes: &[u8],
 ) -> io::Result<()> {
     match answer {
-        Ok(n) => writeln!(out, "{word} {n}{}", Numbers(bytes)),
+        Ok(n) => {
+            write!(out, "{word} {n}")?;
+            for b in bytes {
+                out.number(u32::from(*b))?;
+            }
+            writeln!(out)
+        }
         Err(r) => tell::refused(out, r, is_kept(bytes)),
     }
 }
 
 // plan_uses LENT N BYTE*. The list is lent as a log is.
-pub fn plan_uses(words: &mut Words, out: &mut Out, alloc: Global) -> io::Result<()> {
-    let mut list = logs::numbers(words.size(), alloc)?;
+pub fn plan_uses(
+    words: &mut Words,
+    out: &mut Out,
+    list: &mut Log,
+    alloc: Global,
+) -> io::Result<()> {
+    list.lend(list.head, words.size())?;
     let items = given(words, alloc)?;
-    match plan_file::uses(&items, &mut list) {
-        Ok(n) => writeln!(out, "listed {n}{}", Numbers(&list)),
-        Err(r) => tell::refused(out, r, logs::are_kept(&list)),
+    match plan_file::uses(&items, &mut list.numbers) {
+        Ok(n) => {
+            write!(out, "listed {n}")?;
+            run(out, &list.numbers)
+        }
+        Err(r) => tell::refused(out, r, list.is_kept()),
     }
 }

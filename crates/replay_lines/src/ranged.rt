@@ -2,7 +2,7 @@
 ghost use Rattle.std.specs.Prelude.{◌≤◌};
 
 use crate::tell;
-use crate::tell::{Numbers, Out};
+use crate::tell::{Out, run};
 use crate::words::Words;
 use std::alloc::{AllocError, Global};
 use std::io;
@@ -49,14 +49,8 @@ pub fn isolate(words: &mut Words, out: &mut Out, alloc: Global) -> io::Result<()
     match range_calls::isolate(&mut s, in_use, start, end, default) {
         Err(r) => tell::refused(out, r, true),
         Ok(i) => {
-            writeln!(
-                out,
-                "isolated {} {} {}{}",
-                i.position,
-                i.count,
-                i.told,
-                Numbers(&s)
-            )
+            write!(out, "isolated {} {} {}", i.position, i.count, i.told)?;
+            run(out, &s)
         }
     }
 }
@@ -68,7 +62,10 @@ pub fn coalesce(words: &mut Words, out: &mut Out, alloc: Global) -> io::Result<(
     let mut s = records(words, lent, in_use, alloc)?;
     match range_calls::coalesce(&mut s, in_use) {
         Err(r) => tell::refused(out, r, true),
-        Ok(n) => writeln!(out, "coalesced {n}{}", Numbers(&s)),
+        Ok(n) => {
+            write!(out, "coalesced {n}")?;
+            run(out, &s)
+        }
     }
 }
 
@@ -83,6 +80,9 @@ pub fn iter_filter(words: &mut Words, out: &mut Out, alloc: Global) -> io::Resul
     let mut found = records(words, room, 0, alloc)?;
     match range_calls::iter_filter(&s, in_use, start, end, &mut found) {
         Err(r) => tell::refused(out, r, true),
-        Ok(n) => writeln!(out, "filtered {n}{}", Numbers(&found)),
+        Ok(n) => {
+            write!(out, "filtered {n}")?;
+            run(out, &found)
+        }
     }
 }

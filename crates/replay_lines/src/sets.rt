@@ -1,7 +1,8 @@
 // The four sets between calls, and what of them is lent to a call.
 //
-// A call works on copies: they are lent before it, and saved after it, or compared where it was refused.
-ghost use Rattle.std.specs.Prelude.{◌≡◌, ◌<◌, ◌≤◌, min, IfOk, None};
+// A call works on copies: they are lent before it, and saved after it, or compared where it was refused. A line that puts or pokes numbers,
+// or tells ranges, sees the sets as one store, a part for each, one after the other: the table, then the ranges of the halves.
+ghost use Rattle.std.specs.Prelude.{◌≡◌, ◌<◌, ◌≤◌, min, OnOk, None};
 
 use model::LogHead;
 use set_storage::{COUNTS, END, LAYER_LIMIT, MIP_LIMIT, START, TABLE_LENGTH, TEXTURES, Table};
@@ -12,8 +13,11 @@ use std::fmt::Display;
 // Room for 4,096 ranges a half.
 const ROOM: usize = 12288;
 
+// How many numbers a set has.
+const PART: usize = 26952;
+
 // The number of a set.
-#[derive(Clone, Copy)]
+#[derive(Clone, Copy, PartialEq, Eq)]
 pub struct SetId {
     pub number: usize,
     ghost is_set: { number < 4 },
@@ -26,6 +30,31 @@ impl SetId {
     {
         SetId {
             number: number.min(3),
+        }
+    }
+
+    // Another set, the first that there is.
+    pub fn other(self) -> SetId {
+        SetId {
+            number: usize::from(self.number == 0),
+        }
+    }
+
+    // Where the table of the set begins in the store.
+    pub fn table_at(self) -> usize
+        ensures { result ≤ 80856 }
+    {
+        PART * self.number
+    }
+
+    // Where the ranges of a half begin in the store.
+    pub fn half_at(self, half: Half) -> usize
+        ensures { result ≤ 95520 }
+    {
+        let first = self.table_at() + TABLE_LENGTH;
+        match half {
+            Half::Start => first,
+            Half::End => first + ROOM,
         }
     }
 }
@@ -82,10 +111,13 @@ impl Place {
     }
 
     // Where its ranges begin in the ranges of a half: 3 W (index M + mip).
-    pub fn ranges_at(self, table: &Table) -> usize {
+    pub fn ranges_at(self, table: &Table) -> usize
+        ensures { result ≤ 785664 }
+    {
         let mips = table[MIP_LIMIT].min(16) as usize;
         let layers = table[LAYER_LIMIT].min(256) as usize;
-        3 * layers * (self.index * mips + self.mip)
+        let row = self.index * mips + self.mip;
+        3 * (layers * row)
     }
 }
 
@@ -107,7 +139,7 @@ pub struct Set {
 }
 
 impl Set {
-    fn new(alloc: Global) -> Result<Set, AllocError> {
+    pub fn new(alloc: Global) -> Result<Set, AllocError> {
         Ok(Set {
             kind: None,
             rooms: Rooms { starts: 0, ends: 0 },
@@ -117,12 +149,12 @@ impl Set {
         })
     }
 
-    // A copy, with as much of the ranges as is lent.
-    pub fn lend(&self, alloc: Global) -> Result<Set, AllocError>
-        ensures kind { IfOk result (λ s. s.kind ≡ self.now.kind) }
-        ensures rooms { IfOk result (λ s. s.rooms ≡ self.now.rooms) }
+    // Makes `copy` a copy, with as much of the ranges as is lent.
+    pub fn lend(&self, copy: &mut Set) -> Result<(), AllocError>
+        ensures kind { OnOk result (copy.new.kind ≡ self.now.kind) }
+        ensures rooms { OnOk result (copy.new.rooms ≡ self.now.rooms) }
     {
-        self.lend_as(self.kind, self.rooms, alloc)
+        self.lend_as(self.kind, self.rooms, copy)
     }
 
     // The copy that an opening is lent: what the set is from then on, with its rooms.
@@ -130,18 +162,16 @@ impl Set {
         &self,
         kind: Option<Kind>,
         rooms: Rooms,
-        alloc: Global,
-    ) -> Result<Set, AllocError>
-        ensures kind { IfOk result (λ s. s.kind ≡ kind) }
-        ensures rooms { IfOk result (λ s. s.rooms ≡ rooms) }
+        copy: &mut Set,
+    ) -> Result<(), AllocError>
+        ensures kind { OnOk result (copy.new.kind ≡ kind) }
+        ensures rooms { OnOk result (copy.new.rooms ≡ rooms) }
     {
-        Ok(Set {
-            kind,
-            rooms,
-            table: Box::new(alloc, *self.table)?,
-            starts: prefix(&self.starts, rooms.starts).to_vec(alloc)?,
-            ends: prefix(&self.ends, rooms.ends).to_vec(alloc)?,
-        })
+        copy.kind = kind;
+        copy.rooms = rooms;
+        *copy.table = *self.table;
+        refill(&mut copy.starts, prefix(&self.starts, rooms.starts))?;
+        refill(&mut copy.ends, prefix(&self.ends, rooms.ends))
     }
 
     // What a call that only reads the set is lent of its ranges.
@@ -160,10 +190,29 @@ impl Set {
         }
     }
 
-    pub fn ranges_mut(&mut self, half: Half) -> &mut [u32] {
-        match half {
-            Half::Start => &mut self.starts,
-            Half::End => &mut self.ends,
+    // The number at a place of the set's part, or 0.
+    fn number_at(&self, place: usize) -> u32 {
+        if place < TABLE_LENGTH {
+            return self.table[place];
+        }
+        let after = place - TABLE_LENGTH;
+        if after < ROOM {
+            return at(&self.starts, after);
+        }
+        at(&self.ends, after - ROOM)
+    }
+
+    // Writes x at a place of the set's part.
+    fn write(&mut self, place: usize, x: u32) {
+        if place < TABLE_LENGTH {
+            self.table[place] = x;
+            return;
+        }
+        let after = place - TABLE_LENGTH;
+        if after < ROOM {
+            put(&mut self.starts, after, x);
+        } else {
+            put(&mut self.ends, after - ROOM, x);
         }
     }
 
@@ -187,16 +236,36 @@ impl Set {
     }
 
     // How many subresources the set has.
-    pub fn subresources(&self) -> u32 {
+    pub fn subresources(&self) -> u32
+        ensures { result ≤ 262144 }
+    {
         let table = &self.table;
         let rows = table[TEXTURES].min(64) * table[MIP_LIMIT].min(16);
         rows * table[LAYER_LIMIT].min(256)
     }
 }
 
+// The number at i, or 0.
+fn at(run: &[u32], i: usize) -> u32 {
+    run.get(i).copied().unwrap_or(0)
+}
+
+// Writes x at i, if there is room.
+fn put(run: &mut [u32], i: usize, x: u32) {
+    if let Some(number) = run.get_mut(i) {
+        *number = x;
+    }
+}
+
 // The first n numbers, or all.
 fn prefix(s: &[u32], n: usize) -> &[u32] {
     s.get(..n).unwrap_or(s)
+}
+
+// Makes a run these numbers.
+fn refill(run: &mut Vec<u32>, numbers: &[u32]) -> Result<(), AllocError> {
+    run.clear();
+    run.extend_from_slice(numbers)
 }
 
 // Writes numbers over the first of a run.
@@ -237,6 +306,21 @@ impl Sets {
 
     pub fn get_mut(&mut self, id: SetId) -> &mut Set {
         &mut self.sets[id.number]
+    }
+
+    // The number at a place of the store, or 0.
+    pub fn number_at(&self, place: usize) -> u32 {
+        let Some(set) = self.sets.get(place / PART) else {
+            return 0;
+        };
+        set.number_at(place % PART)
+    }
+
+    // Writes x at a place of the store, if there is one.
+    pub fn write(&mut self, place: usize, x: u32) {
+        if let Some(set) = self.sets.get_mut(place / PART) {
+            set.write(place % PART, x);
+        }
     }
 
     // No set is opened, and no log is lent. The numbers stay.

@@ -1,39 +1,162 @@
-// The words of a line, read in turn. What a line lacks reads as 0.
-ghost use Rattle.std.specs.Prelude.{◌≡◌, IfOk, vec_len};
+// A line as its bytes come in, and its words, read in turn. What a line lacks reads as 0.
+//
+// Each word is kept as a number: a number as itself, any other by its first byte and its length, which tells the words of a line apart.
+ghost use Rattle.std.specs.Prelude.{◌≡◌, ◌+◌, ◌≤◌, length, IfOk, vec_len};
 
 use crate::sets::{Rooms, SetId};
 use model::{Extent, LogHead, Selector, TrackerIndex, UsageFlags};
 use std::alloc::{AllocError, Global};
-use std::str::SplitWhitespace;
 
-#[derive(Drop)]
-pub struct Words<'a> {
-    rest: SplitWhitespace<'a>,
+// The words of the language: 256 f + n, where f is the first byte and n the length.
+pub const CASE: u32 = 25348;
+
+pub const PUT: u32 = 28675;
+
+pub const POKE: u32 = 28676;
+
+pub const ROOM: u32 = 29188;
+
+pub const LOG: u32 = 27651;
+
+pub const ISOLATE: u32 = 26887;
+
+pub const COALESCE: u32 = 25352;
+
+pub const ITER_FILTER: u32 = 26891;
+
+pub const OPEN_SCOPE: u32 = 28426;
+
+pub const OPEN_TRACKER: u32 = 28428;
+
+pub const MERGE_SINGLE: u32 = 27916;
+
+pub const MERGE_USAGE_SCOPE: u32 = 27921;
+
+pub const SET_SINGLE: u32 = 29450;
+
+pub const SET_FROM_USAGE_SCOPE: u32 = 29460;
+
+pub const SET_FROM_TRACKER: u32 = 29456;
+
+pub const SPARSE: u32 = 29478;
+
+pub const EMPTY_LOG: u32 = 25865;
+
+pub const MERGE_LOGS: u32 = 27914;
+
+pub const READ_PLAN: u32 = 29193;
+
+pub const WRITE_PLAN: u32 = 30474;
+
+pub const PLAN_USES: u32 = 28681;
+
+pub const SINGLE: u32 = 29446;
+
+pub const TABLE: u32 = 29701;
+
+pub const START: u32 = 29445;
+
+// How many words of a line are kept; it may have more.
+const MOST: usize = 65536;
+
+// Room for the words of a line.
+pub fn room(alloc: Global) -> Result<Vec<u32>, AllocError> {
+    vec![in alloc; 0; MOST]
 }
 
-impl<'a> Words<'a> {
-    pub fn new(line: &'a str) -> Words<'a> {
-        Words {
-            rest: line.split_whitespace(),
+// What is known of a line so far: how many words are stored, the value of the one that is being read, and 1 if it has begun. (As a `bool`
+// this is slower.)
+#[derive(Clone, Copy)]
+pub struct Line {
+    count: usize,
+    value: u32,
+    begun: u32,
+}
+
+impl Line {
+    // A line of which nothing was read.
+    pub const NEW: Line = Line {
+        count: 0,
+        value: 0,
+        begun: 0,
+    };
+
+    // The line with one byte more: a digit of a number, modulo 2^32, since no number needs more; the end of a word, which is stored if
+    // there is room; or the first byte of a word, or a further one. Digits are met most.
+    #[inline(always)]
+    pub fn take(self, b: u8, words: &mut [u32]) -> Line {
+        let digit = b.wrapping_sub(b'0');
+        if digit < 10 {
+            return self.within(self.value.wrapping_mul(10).wrapping_add(u32::from(digit)));
+        }
+        if b == b' ' || b == b'\n' {
+            return self.ended(words);
+        }
+        if self.begun == 0 {
+            return self.within(u32::from(b) * 256 + 1);
+        }
+        self.within(if self.value < 65535 {
+            self.value + 1
+        } else {
+            self.value
+        })
+    }
+
+    // The line in a word of this value.
+    #[inline(always)]
+    fn within(self, value: u32) -> Line {
+        Line {
+            count: self.count,
+            value,
+            begun: 1,
         }
     }
 
-    // The next word, empty at the end of the line.
-    pub fn word(&mut self) -> &'a str {
-        self.rest.next().unwrap_or("")
+    // The line behind a word, if one had begun.
+    #[inline(always)]
+    fn ended(self, words: &mut [u32]) -> Line {
+        let mut count = self.count;
+        if self.begun != 0 && count < words.len() {
+            words[count] = self.value;
+            count += 1;
+        }
+        Line { count, ..Line::NEW }
     }
 
+    // The words that are stored.
+    #[inline(always)]
+    pub fn words(self, words: &[u32]) -> Words<'_> {
+        Words {
+            rest: words.get(..self.count).unwrap_or(words),
+        }
+    }
+}
+
+#[derive(Drop)]
+pub struct Words<'a> {
+    rest: &'a [u32],
+}
+
+impl<'a> Words<'a> {
     // The next number, if there is one.
-    fn next_number(&mut self) -> Option<u32> {
-        let word = self.rest.next()?;
-        Some(decimal(word))
+    #[inline(always)]
+    fn next_number(&mut self) -> Option<u32>
+        ensures { length self.old.rest.now ≤ length self.new.rest.now + 1 }
+    {
+        let (first, rest) = self.rest.split_first()?;
+        self.rest = rest;
+        Some(*first)
     }
 
-    pub fn number(&mut self) -> u32 {
+    #[inline(always)]
+    pub fn number(&mut self) -> u32
+        ensures { length self.old.rest.now ≤ length self.new.rest.now + 1 }
+    {
         self.next_number().unwrap_or(0)
     }
 
     // The next number as a count, a position or a size.
+    #[inline(always)]
     pub fn size(&mut self) -> usize {
         self.number() as usize
     }
@@ -53,16 +176,18 @@ impl<'a> Words<'a> {
     }
 
     // All numbers that follow.
-    pub fn all_numbers(self, alloc: Global) -> Result<Vec<u32>, AllocError> {
-        self.rest.map(decimal).collect(alloc)
+    pub fn all_numbers(self) -> &'a [u32] {
+        self.rest
     }
 
     // SET.
+    #[inline(always)]
     pub fn set(&mut self) -> SetId {
         SetId::nearest(self.size())
     }
 
     // ROOM [ROOM].
+    #[inline(always)]
     pub fn rooms(&mut self) -> Rooms {
         Rooms {
             starts: self.size(),
@@ -71,6 +196,7 @@ impl<'a> Words<'a> {
     }
 
     // WRITTEN FREE.
+    #[inline(always)]
     pub fn head(&mut self) -> LogHead {
         LogHead {
             written: self.size(),
@@ -89,6 +215,7 @@ impl<'a> Words<'a> {
     }
 
     // STATE, which has 16 bits.
+    #[inline(always)]
     pub fn state(&mut self) -> u16 {
         (self.number() & 0xffff) as u16
     }
@@ -114,12 +241,4 @@ impl<'a> Words<'a> {
         let layer_end = self.next_number()?;
         Some(Selector::new(mip_start, mip_end, layer_start, layer_end))
     }
-}
-
-// A decimal number, modulo 2^32: no number of a line needs more. The low half of a digit's code is its value.
-fn decimal(word: &str) -> u32 {
-    word.bytes().fold(
-        0u32,
-        |n, b| n.wrapping_mul(10).wrapping_add(u32::from(b & 15)),
-    )
 }
