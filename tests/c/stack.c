@@ -92,6 +92,13 @@ static struct call calls[] = {
 enum { KINDS = sizeof calls / sizeof *calls, TURNS = KINDS - 4 };
 
 /* ---- What they are given ---- */
+/* A scope whose textures are in one state each, of all of it: what it is merged into may have many ranges. */
+static void give_single(void)
+{
+    track_open_scope(given.table, given.ranges, RANGES, N, M, W, 20, 1, 4096, 8192);
+    for (uint32_t i = 0; i < N; i++) track_merge_single(given.table, given.ranges, RANGES, i, M, W, 0, 0, M, 0, W, 8);
+}
+
 static void prepare(void)
 {
     static const uint16_t states[] = {2, 4, 8, 10, 16, 32, 64};
@@ -108,6 +115,7 @@ static void prepare(void)
         second[7 * i] = 2 * i + below(3);
     }
     if (below(8) == 0) given = scope;
+    if (below(8) == 0) give_single();
     if (below(8) == 0) join = tracker;
     memcpy(run, three, sizeof three);
 }
