@@ -13,8 +13,8 @@
 #![tactic(auto)]
 
 mod half;
-mod unknowns;
-mod words;
+pub mod unknowns;
+pub mod words;
 
 ghost use Rattle.std.specs.Prelude.{◌≡◌, true, ◌*◌, ◌/◌, ◌≤◌, ◌<◌, leb, get_or};
 ghost use Rattle.model.specs.Sets.{outside as outside_of, numbers_fit};
