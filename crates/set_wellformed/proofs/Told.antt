@@ -2,14 +2,14 @@
 use Rattle.model.specs.Prelude.{refl, sym, ap, ◌∙◌, Bool, true, false}
 use Rattle.model.specs.BoolLaws.{and_both as both}
 use Rattle.std.specs.Prelude.{◌≡◌, ◌&&◌}
-use Rattle.set_wellformed.specs.{declared.words.Words.{Words, TheVariants.{Unfit, Plain, Ranged}}, Words.told}
+use Rattle.set_wellformed.specs.{declared.words.Finding.{Finding, TheVariants.{Unfit, Plain, Ranged}}, Words.told}
 
-fit_of : Words → Bool
+fit_of : Finding → Bool
 fit_of Unfit = false
 fit_of Plain = true
 fit_of Ranged = true
 
-plain_of : Words → Bool
+plain_of : Finding → Bool
 plain_of Unfit = false
 plain_of Plain = true
 plain_of Ranged = false
@@ -26,7 +26,7 @@ told_plain false b = refl
 told_plain true true = refl
 told_plain true false = refl
 
-module _ (a b : Bool) {x : Words} (e : x ≡ told a b) where
+module _ (a b : Bool) {x : Finding} (e : x ≡ told a b) where
   pub is_unfit : x ≡ Unfit → a ≡ false
   unfolding fit_of
   is_unfit z = told_fit a b ∙ ap fit_of (sym e ∙ z)

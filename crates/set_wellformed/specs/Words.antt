@@ -5,7 +5,7 @@ use Rattle.model.specs.{declared.UsageFlags.UsageFlags, Base.every, WellFormed.s
 use Rattle.std.specs.Prelude.{◌+◌, ◌≡◌, ◌&&◌, ◌||◌}
 use Rattle.set_storage.specs.Storage.{flags_of, start_half, end_half, list_from, layer_limit_at, layers_at, mip_limit_at, mips_at, owned_at}
 use Rattle.set_storage.specs.Storage.{textures_at}
-use Rattle.set_wellformed.specs.declared.words.Words.{Words, TheVariants.{Unfit, Plain, Ranged}}
+use Rattle.set_wellformed.specs.declared.words.{Words.Words, Finding.{Finding, TheVariants.{Unfit, Plain, Ranged}}}
 use Rattle.set_wellformed.specs.{Parts.extent_fits, Proper.{single_proper, compatible}, Unknowns.itself}
 
 -- the word of index i in a half
@@ -49,19 +49,30 @@ word_proper = word_by single_proper
 abbrev pub word_left : ℕ → List ℕ → ℕ → Bool
 word_left h t i = pair_compatible (flags_of t) (get_or t (owned_at i) 0) (half_word start_half t i) (half_word h t i)
 
--- ---- what the pass tells of all indices: whether each fits, and whether each is not owned or Single
-abbrev pub told : Bool → Bool → Words
+-- ---- what the pass tells of the first n indices: whether each fits, and whether each is not owned or Single
+pub record WordsAre (fits single : ℕ → Bool) (n : ℕ) (x : Words) : Type 0 where
+  pub fit : x.fit ≡ every fits (list_from itself 0 n)
+  pub plain : x.plain ≡ every single (list_from itself 0 n)
+
+-- and of all of a set's
+abbrev pub told : Bool → Bool → Finding
 told false plain = Unfit
 told true true = Plain
 told true false = Ranged
 
-abbrev pub WordsTell : ℕ → List ℕ → Words → Type 0
+abbrev pub WordsTell : ℕ → List ℕ → Finding → Type 0
 WordsTell h t x = x ≡ told (every (word_fits h t) (list_from itself 0 (get_or t textures_at 0)))
     (every (word_plain h t) (list_from itself 0 (get_or t textures_at 0)))
 
--- a scope's index, and a tracker's
+-- ---- a scope's indices, and a tracker's
 abbrev pub scope_word_fits : List ℕ → ℕ → Bool
 scope_word_fits = word_fits start_half
 
 abbrev pub tracker_word_fits : List ℕ → ℕ → Bool
 tracker_word_fits = word_fits end_half
+
+abbrev pub ScopeWords : List ℕ → ℕ → Words → Type 0
+ScopeWords t = WordsAre (scope_word_fits t) (word_plain start_half t)
+
+abbrev pub TrackerWords : List ℕ → ℕ → Words → Type 0
+TrackerWords t = WordsAre (tracker_word_fits t) (word_plain end_half t)

@@ -30,7 +30,7 @@ use model::UsageFlags;
 use set_storage::{LAYER_LIMIT, MIP_LIMIT, OWNED, START, TEXTURES, Table, flags_of};
 pub use unknowns::tracker_fits;
 use usage::{OnesTable, flags_fit_by, meets};
-use words::{Words, plain_pair, read_words};
+use words::{Finding, plain_pair, read_words};
 
 // "states nonzero, compatible, without COMPLEX", of 16 bits: all of it but "compatible", a proper state.
 fn state_proper(p: UsageFlags, s: u32) -> bool
@@ -116,9 +116,9 @@ impl Half<'_> {
         ensures { let t = self.now.table.now in result ≡ scope_slots_fit t self.now.ranges.now (get_or t textures_at 0) }
     {
         match read_words(self, START) {
-            Words::Unfit => false,
-            Words::Plain => true,
-            Words::Ranged => (0..self.table[TEXTURES] as usize).all(|i| self.slot_fits(i)),
+            Finding::Unfit => false,
+            Finding::Plain => true,
+            Finding::Ranged => (0..self.table[TEXTURES] as usize).all(|i| self.slot_fits(i)),
         }
     }
 }

@@ -15,7 +15,7 @@ ghost use Rattle.set_wellformed.specs.Words.{tracker_word_fits};
 ghost use Rattle.set_wellformed.specs.Whole.{TestsTracker};
 
 use crate::half::{Half, Ranges};
-use crate::words::{Words, plain_pair, read_words};
+use crate::words::{Finding, plain_pair, read_words};
 use crate::{head_fits, room_fits};
 use range_states::get;
 use set_storage::{END, LAYER_LIMIT, MIP_LIMIT, MIPS, OWNED, START, TEXTURES, Table};
@@ -162,9 +162,9 @@ fn all_fit<'a>(start: &Half<'a>, end: &Half<'a>) -> bool
         result ≡ tracker_slots_fit t start.now.ranges.now end.now.ranges.now (get_or t textures_at 0) }
 {
     match read_words(start, END) {
-        Words::Unfit => false,
-        Words::Plain => true,
-        Words::Ranged => Ends {
+        Finding::Unfit => false,
+        Finding::Plain => true,
+        Finding::Ranged => Ends {
             start: *start,
             end: *end,
         }

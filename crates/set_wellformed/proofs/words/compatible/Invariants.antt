@@ -7,4 +7,4 @@ use Rattle.set_wellformed.specs.{Unknowns.itself, Words.word_left}
 use Rattle.set_wellformed.proofs.words.compatible.Given as goal
 
 abbrev pub invariant-loop-i : goal.invariant-loop-i
-invariant-loop-i l = every (word_left l.end l.half.table.now) (list_from itself 0 l.i) ≡ true
+invariant-loop-i l = every (word_left l.end l.table) (list_from itself 0 l.i) ≡ true
