@@ -5,6 +5,7 @@ use Rattle.model.specs.Prelude.{[], eqb}
 use Rattle.model.specs.{declared.{Range.Range, Selector.Selector}, Base.{each}, Representation.select}
 use Rattle.model.specs.{RangedStates.iter_filter, StateRules.{Move, move_of, skip_barrier}, Texture.{Entry, entry, mip_entries}}
 use Rattle.range_states.specs.Filtering.{overlaps, clip}
+use Rattle.texture_barrier.specs.declared.mip.Change.{Change}
 
 -- ---- One transition
 abbrev pub is_made : Option Move → Bool
@@ -39,20 +40,35 @@ module _ (q : Selector) (unknown mask old new : ℕ) where
       go None h = refl
       go (Some m) h = cc
 
--- ---- What is added for a range of mip k
+-- ---- What is made of a range r
 -- it goes to one state
-abbrev pub to_state : ℕ → ℕ → ℕ → ℕ → Range → List Entry
-to_state new unknown mask k r = entry (select k (suc k) r.start r.end) (move_of unknown mask r.state new)
+abbrev pub to_change : ℕ → Range → Change
+to_change new r = record { made = true; start = r.start; end = r.end; old = r.state; new = new }
 
 -- it is given, and one state goes to its state
-abbrev pub from_state : ℕ → ℕ → ℕ → ℕ → Range → List Entry
-from_state cur unknown mask k r = entry (select k (suc k) r.start r.end) (move_of unknown mask cur r.state)
+abbrev pub from_change : ℕ → Range → Change
+from_change cur r = record { made = true; start = r.start; end = r.end; old = cur; new = r.state }
 
 -- what of it lies within g goes to the state of g
-abbrev pub within : Range → ℕ → ℕ → ℕ → Range → List Entry
-within g unknown mask k r =
+abbrev pub within_change : Range → Range → Change
+within_change g r =
     let c = clip g.start g.end r in
-    if overlaps g.start g.end r then entry (select k (suc k) c.start c.end) (move_of unknown mask c.state g.state) else []
+    record { made = overlaps g.start g.end r; start = c.start; end = c.end; old = c.state; new = g.state }
+
+-- ---- What is added for a range of mip k
+-- what is made of it
+abbrev pub change_entries : ℕ → ℕ → ℕ → Change → List Entry
+change_entries unknown mask k c =
+    if c.made then entry (select k (suc k) c.start c.end) (move_of unknown mask c.old c.new) else []
+
+abbrev pub to_state : ℕ → ℕ → ℕ → ℕ → Range → List Entry
+to_state new unknown mask k r = change_entries unknown mask k (to_change new r)
+
+abbrev pub from_state : ℕ → ℕ → ℕ → ℕ → Range → List Entry
+from_state cur unknown mask k r = change_entries unknown mask k (from_change cur r)
+
+abbrev pub within : Range → ℕ → ℕ → ℕ → Range → List Entry
+within g unknown mask k r = change_entries unknown mask k (within_change g r)
 
 -- each range that is held on the mip goes to it, what of that lies within
 abbrev pub against : (ℕ → List Range) → ℕ → ℕ → ℕ → Range → List Entry

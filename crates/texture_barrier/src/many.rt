@@ -5,7 +5,7 @@ ghost use Rattle.texture_barrier.specs.Entries.{entries_at};
 ghost use Rattle.texture_barrier.specs.Mips.{mips_entries};
 ghost use Rattle.texture_barrier.specs.Steps.{against, step_entries};
 
-use crate::mip::{Step, Within, log_each};
+use crate::mip::{Step, log_each};
 use crate::sink::Sink;
 use crate::transition::Task;
 use model::Range;
@@ -41,6 +41,6 @@ impl Step for Stored<'_> {
     ghost usable = { λ s m. ReadyUpTo s (suc m) };
 
     fn log<K: Sink>(&self, r: Range, mip: u32, t: Task, sink: &mut K) {
-        log_each(self.mip(mip), &Within(r), mip, t, sink)
+        self.mip(mip).log(r, mip, t, sink)
     }
 }

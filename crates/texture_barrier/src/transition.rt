@@ -32,7 +32,7 @@ impl Task {
     }
 
     // Whether `old` to `new` makes a transition: neither is UNKNOWN, and it is not skipped.
-    fn moves(self, old: u32, new: u32) -> bool
+    pub fn moves(self, old: u32, new: u32) -> bool
         ensures { result ≡ is_made (move_of self.unknown self.mask old new) }
     {
         if old == self.unknown || new == self.unknown {
