@@ -1,3 +1,4 @@
 pub mod Logs
 pub mod Setting
 pub mod Joined
+pub mod Few

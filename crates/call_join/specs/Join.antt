@@ -84,7 +84,10 @@ pub record LogsSet (t e : List ℕ) (from : ℕ) (g a : List ℕ) (n : ℕ) : Ty
 abbrev pub entries_to : UsageFlags → ℕ → List ℕ → List ℕ → ℕ → List ℕ → List ℕ → ℕ → List PendingTransition
 entries_to p mask t e from g a n = up_to (λ (i : ℕ). entries_at i (given_entries p mask t e from g a i)) n
 
--- those of a set as it is logged
+-- what is asked for of a set as it is logged, and its entries
+abbrev pub JoiningReady : Joining → Type 0
+JoiningReady j = LogsSet j.table.now j.ends.now j.given.from j.given.table.now j.given.first.now j.n
+
 abbrev pub joining_entries : Joining → List PendingTransition
 joining_entries j = entries_to j.p j.mask j.table.now j.ends.now j.given.from j.given.table.now j.given.first.now j.n
 

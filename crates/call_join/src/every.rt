@@ -1,7 +1,7 @@
 // Every texture that a given set owns: its transitions, and what it becomes.
-ghost use Rattle.std.specs.Prelude.{◌≡◌, get_or};
+ghost use Rattle.std.specs.Prelude.{◌≡◌, ◌≤◌, length, get_or};
 ghost use Rattle.set_storage.specs.Storage.{flags_of, textures_at};
-ghost use Rattle.call_join.specs.Join.{Joins, LogsSet, SetsAll, joining_entries};
+ghost use Rattle.call_join.specs.Join.{Joins, JoiningReady, SetsAll, joining_entries};
 
 use log_head::Transitions;
 use model::UsageFlags;
@@ -21,18 +21,26 @@ pub struct Joining<'a> {
     pub mask: u32,
 }
 
-// The transitions by ascending index.
+// The transitions by ascending index; a texture adds 1,048,576 at most.
+#[tactic(auto, using(crate::proofs::Few::joining_few))]
+pub fn log_set<K: Sink>(set: &Joining<'_>, sink: &mut K)
+    requires ready { JoiningReady set.now }
+    requires room { K.room sink.old (joining_entries set.now) }
+    ensures taken { K.takes sink.old (joining_entries set.now) sink.new }
+    ensures few { length (joining_entries set.now) ≤ 67108864 }
+{
+    for k in 0..set.n {
+        log_at(set.table, set.ends, k, set.p, set.mask, set.given, sink);
+    }
+}
+
 impl Transitions for Joining<'_> {
     ghost entries = { joining_entries };
 
-    ghost ready = { λ j. LogsSet j.table.now j.ends.now j.given.from j.given.table.now j.given.first.now j.n };
+    ghost ready = { JoiningReady };
 
     fn log<K: Sink>(&self, sink: &mut K) {
-        for k in 0..self.n {
-            log_at(
-                self.table, self.ends, k, self.p, self.mask, self.given, sink,
-            );
-        }
+        log_set(self, sink)
     }
 }
 
