@@ -1,13 +1,25 @@
 // `TextureUsageScope::merge_single`: one use of one texture.
+ghost use Rattle.std.specs.Prelude.{◌≡◌};
 ghost use Rattle.set_storage.specs.Lent.{LentScope};
+ghost use Rattle.call_merge.specs.Met.{told_of};
 ghost use Rattle.call_merge.specs.Contract.{MergeSingle};
 
 use crate::slot::merge_use_at;
-use model::{CallError, Conflict, Extent, Refusal, Selector, TrackerIndex};
+use model::{CallError, Conflict, Extent, InvalidUse, Refusal, Selector, TrackerIndex};
 use set_checks::check_single;
 use set_ready::part_named;
 use set_storage::{Table, flags_of, wide};
 use set_wellformed::scope_fits;
+
+// What a merge of one texture met, as the answer of a call.
+pub fn told(index: TrackerIndex, x: Result<(), InvalidUse>) -> Result<(), CallError>
+    ensures { result ≡ told_of index.0 x }
+{
+    match x {
+        Ok(()) => Ok(()),
+        Err(found) => Err(CallError::Conflict(Conflict { index, found })),
+    }
+}
 
 // Merges a use of one texture into a scope.
 pub fn merge_single(
@@ -29,8 +41,8 @@ pub fn merge_single(
     check_single(table, index, extent, selection, new)?;
     let part = part_named(extent, selection);
     let p = flags_of(table);
-    match merge_use_at(table, ranges, wide(index.0), extent, part, p, new) {
-        Ok(()) => Ok(()),
-        Err(found) => Err(CallError::Conflict(Conflict { index, found })),
-    }
+    told(
+        index,
+        merge_use_at(table, ranges, wide(index.0), extent, part, p, new),
+    )
 }

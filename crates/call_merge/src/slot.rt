@@ -7,6 +7,7 @@ ghost use Rattle.set_storage.specs.Stays.{Only, OnlyOwned};
 ghost use Rattle.set_storage.specs.Uses.{use_of};
 ghost use Rattle.set_ready.specs.Checked.{TakenUse};
 ghost use Rattle.set_ready.specs.Half.{HalfReady};
+ghost use Rattle.set_ready.specs.Given.{given_at, HalfGiven};
 ghost use Rattle.call_merge.specs.Slot.{OwnedReady, SlotMerged};
 
 use model::{Extent, InvalidUse, Selector, UsageFlags};
@@ -38,7 +39,39 @@ pub fn merge_use_at(
     merge_use(table, ranges, START, i, extent, part, p, new)
 }
 
-// What the given scope holds at the same index, if it owns it; otherwise the texture stays.
+// What the given scope holds at the same index.
+#[inline(always)]
+pub fn merge_given_at(
+    table: &mut Table,
+    ranges: &mut [u32],
+    i: usize,
+    extent: Extent,
+    given: &Table,
+    lent: &[u32],
+    p: UsageFlags,
+) -> Result<(), InvalidUse>
+    requires half_ready { HalfReady start_half table.old ranges.old i extent }
+    requires half_given { HalfGiven table.old i extent start_half given.now lent.now }
+    requires p_value { p ≡ flags_of table.old }
+    ensures { let t = table.old in let r = ranges.old in let g = given.now in let l = lent.now in
+        SlotMerged (Only i) t r i (merge_slot ranged p extent (given_at start_half g l i) i (scope_slot t r i)) result table.new
+        ranges.new }
+{
+    let texture = Stored {
+        table: given,
+        ranges: lent,
+        half: START,
+        i,
+    };
+    if table[OWNED + i] == 0 {
+        own(table, i, extent);
+        insert_given(table, ranges, START, extent, texture, p);
+        return Ok(());
+    }
+    merge_given(table, ranges, START, extent, texture, p)
+}
+
+// The same if the given scope owns the index; otherwise the texture stays.
 pub fn merge_owned_at(
     table: &mut Table,
     ranges: &mut [u32],
@@ -56,17 +89,5 @@ pub fn merge_owned_at(
     if given[OWNED + i] == 0 {
         return Ok(());
     }
-    let extent = extent_of(given, i);
-    let texture = Stored {
-        table: given,
-        ranges: lent,
-        half: START,
-        i,
-    };
-    if table[OWNED + i] == 0 {
-        own(table, i, extent);
-        insert_given(table, ranges, START, extent, texture, p);
-        return Ok(());
-    }
-    merge_given(table, ranges, START, extent, texture, p)
+    merge_given_at(table, ranges, i, extent_of(given, i), given, lent, p)
 }

@@ -21,17 +21,11 @@ merge_use_at-requires c =
     (scope_fit c.scope_fits.ensures (ap not c.if-not-scope_fits.false)) in
     rw c.wide.ensures.0 (record { half_ready = single_ready z k; taken_use = single_use z c.part_named-part.ensures c.flags_of-p.ensures })
 
-pub returns-in-Ok : goal.returns-in-Ok
-returns-in-Ok c =
+pub returns : goal.returns
+returns c =
     let fit = scope_fit c.scope_fits.ensures (ap not c.if-not-scope_fits.false) in
-    let m = (rw (c.wide.ensures.0, c.flags_of-p.ensures, c.part_named-part.ensures, ← part_use _ _ _) at c.in-Ok.ensures) in
-    single_done fit (scope_tested _ _ c.scope_fits.ensures.long fit) c.in_ok-check_single.ensures m
-
-pub returns-in-Err : goal.returns-in-Err
-returns-in-Err c =
-    let fit = scope_fit c.scope_fits.ensures (ap not c.if-not-scope_fits.false) in
-    let m = (rw (c.wide.ensures.0, c.flags_of-p.ensures, c.part_named-part.ensures, ← part_use _ _ _) at c.in-Err.ensures) in
-    single_done fit (scope_tested _ _ c.scope_fits.ensures.long fit) c.in_ok-check_single.ensures m
+    let m = (rw (c.wide.ensures.0, c.flags_of-p.ensures, c.part_named-part.ensures, ← part_use _ _ _) at c.merge_use_at.ensures) in
+    rw c.told.ensures (single_done fit (scope_tested _ _ c.scope_fits.ensures.long fit) c.in_ok-check_single.ensures m)
 
 pub returns-in_err-check_single : goal.returns-in_err-check_single
 returns-in_err-check_single c =
