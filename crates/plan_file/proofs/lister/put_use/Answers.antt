@@ -15,5 +15,5 @@ returns c =
     let e6 : n + 6 ≡ suc (suc (suc (suc (suc (suc n))))) = omega arith in
     let e7 : n + 7 ≡ suc (suc (suc (suc (suc (suc (suc n)))))) = omega arith in
     rw (e1, e2, e3, e4, e5, e6, e7) (ap (sets c.args.list.now n)
-    (eight_are c.args.item.now c.told-item (omega (arith, c.from_le_bytes.ensures)) c.from.ensures c.two.ensures c.from-2.ensures
-    c.from-3.ensures c.two-2.ensures c.two-3.ensures c.two-4.ensures))
+    (eight_are c.args.item.now c.told-item (omega (arith, c.from_le_bytes-index.ensures)) c.from-mips.ensures c.two-layers.ensures
+    c.from-mip_start.ensures c.from-mip_end.ensures c.two-layer_start.ensures c.two-layer_end.ensures c.two-state.ensures))
