@@ -1,7 +1,7 @@
 // Whether logs are in order, and how many entries a merge of two writes: known before anything is written.
 ghost use Rattle.std.specs.Prelude.{◌≡◌, ◌+◌, ◌*◌, ◌≤◌, length, get_or};
 ghost use Rattle.texture_barrier.specs.Entries.{entries_of, blank_entry};
-ghost use Rattle.log_merge.specs.Merge.{index_of};
+ghost use Rattle.log_merge.specs.Merge.{index_of, ascending};
 ghost use Rattle.log_merge.specs.Order.{Scans, Needs};
 
 // The index of the entry at n: its first number.
@@ -30,6 +30,13 @@ fn scan(log: &[u32], limit: u64) -> Option<usize>
     Some(below)
 }
 
+// Whether a log ascends.
+fn ascends(log: &[u32]) -> bool
+    ensures { result ≡ ascending (entries_of log.now) }
+{
+    scan(log, 0).is_some()
+}
+
 // How many entries a merge writes, by the closed form, or none where a log is not in order (31): the second is used up if its last index is
 // below the first's, otherwise the first.
 pub fn need_of(first: &[u32], second: &[u32]) -> Option<usize>
@@ -49,9 +56,13 @@ pub fn need_of(first: &[u32], second: &[u32]) -> Option<usize>
     let a = index_at(first, n - 1);
     let b = index_at(second, m - 1);
     if b < a {
-        scan(second, 0)?;
+        if !ascends(second) {
+            return None;
+        }
         return Some(m + scan(first, u64::from(b) + 1)?);
     }
-    scan(first, 0)?;
+    if !ascends(first) {
+        return None;
+    }
     Some(n + scan(second, u64::from(a))?)
 }
