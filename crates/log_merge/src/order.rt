@@ -30,7 +30,7 @@ fn scan(log: &[u32], limit: u64) -> Option<usize>
     Some(below)
 }
 
-// Whether a log ascends.
+// Whether a log ascends. Asked where a `scan` with `?`, whose count nobody wants, makes a longer loop.
 fn ascends(log: &[u32]) -> bool
     ensures { result ≡ ascending (entries_of log.now) }
 {

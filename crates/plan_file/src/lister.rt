@@ -37,8 +37,8 @@ fn count_of(items: &[[u8; 16]]) -> usize
 }
 
 // Writes the eight numbers of an item that is a use to the list from `at` on. All are read before the first is written, so that four of
-// them are written at once; one by one they take a quarter more time. An array of eight and `copy_from_slice` were tried, and take a quarter
-// more instructions.
+// them are written at once; one by one they take a quarter more time. An array of eight and `copy_from_slice` were tried, and take a
+// quarter more instructions.
 fn put_use(item: &[u8; 16], list: &mut [u32], at: usize)
     requires { at + 8 ≤ length list.old }
     ensures { list.new ≡ sets list.old at (numbers_of (use_bytes item.now)) }

@@ -149,7 +149,7 @@ impl Step for Within {
     }
 }
 
-// It is given to a mip with these ranges: each of them goes to it, what of that lies within.
+// It is given to a mip with these ranges: what of each of them lies within it goes to its state.
 impl Step for Run<'_> {
     ghost entries = { λ s t. against (λ _. decode s.len s.records.now) t.unknown t.mask };
 
