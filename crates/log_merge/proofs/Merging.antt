@@ -20,26 +20,35 @@ module _ (a b l : List ℕ) (h : LogHead) where
       let z : merging_logs a b (log_of l h) ≡ record { answer = calls.refused r; log = log_of l h; after = end_of b } = rw e in
       record { log = log_stays (end_of b) r z; rest = ap (λ (y : Logged Rest). y.after) (sym z); kept = λ _. refl }
 
-  pub away_short : head_within (length l / 7) h ≡ false → first_failing (merge_checks a b (log_of l h)) ≡ Some LogTooShort
+  pub short_fails : head_within (length l / 7) h ≡ false → first_failing (merge_checks a b (log_of l h)) ≡ Some LogTooShort
   unfolding first_failing
-  away_short e = let z : ltb (length (entries_of l)) (h.written + h.free) ≡ true = not-false _ (lent_is l h e) in rw z
+  short_fails e = let z : ltb (length (entries_of l)) (h.written + h.free) ≡ true = not-false _ (lent_is l h e) in rw z
+
+  pub away_short : head_within (length l / 7) h ≡ false → MergesLogs a b h l (refused_with LogTooShort h) (end_of b) l
+  away_short e = away LogTooShort (short_fails e)
 
   -- ---- Once the head fits
   module _ (fits : head_within (length l / 7) h ≡ true) where
     head_in_lem : ltb (length (entries_of l)) (h.written + h.free) ≡ false
     head_in_lem = not-true _ (lent_is l h fits)
 
-    pub away_disordered : (in_order a && in_order b) ≡ false → first_failing (merge_checks a b (log_of l h)) ≡ Some LogOutOfOrder
+    pub disordered_fails : (in_order a && in_order b) ≡ false → first_failing (merge_checks a b (log_of l h)) ≡ Some LogOutOfOrder
     unfolding first_failing
-    away_disordered e = rw (head_in_lem, e)
+    disordered_fails e = rw (head_in_lem, e)
+
+    pub away_disordered : (in_order a && in_order b) ≡ false → MergesLogs a b h l (refused_with LogOutOfOrder h) (end_of b) l
+    away_disordered e = away LogOutOfOrder (disordered_fails e)
 
     -- and both logs are in order, with n entries to merge
     module _ (n : ℕ) (needs : ((in_order a && in_order b) ≡ true) × (n ≡ length (merge_of a b).merged)) where
-      pub away_few : h.free < n → first_failing (merge_checks a b (log_of l h)) ≡ Some NoFreeEntry
+      pub few_fails : h.free < n → first_failing (merge_checks a b (log_of l h)) ≡ Some NoFreeEntry
       unfolding first_failing
-      away_few f =
+      few_fails f =
           let total = length (merge_of a b).merged in
           let z : ltb h.free total ≡ true = lt-ltb h.free total (omega (arith, needs.1)) in rw (head_in_lem, needs.0, z)
+
+      pub away_few : h.free < n → MergesLogs a b h l (refused_with NoFreeEntry h) (end_of b) l
+      away_few f = away NoFreeEntry (few_fails f)
 
       pub room_is : n ≤ h.free → Room a b h l n
       room_is f = record { fits = fits; ordered = needs.0; needs = needs.1; free = f }

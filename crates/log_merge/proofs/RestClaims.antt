@@ -1,18 +1,20 @@
 -- WHAT HOLDS of the rest that a merge tells: where the call is done both logs are in order, and the rest, read as entries, is what the
--- definition leaves.
+-- definition leaves; where it is refused, it is the empty end of the second log.
 use Rattle.std.specs.Prelude.{◌-◌, ◌*◌, ◌≤◌, ◌≡◌, ◌&&◌, ◌∷◌, ◌++◌, ◌⊎◌, if◌then◌else◌}
 use Rattle.model.specs.Prelude.{ℕ, suc, arith, refl, sym, ap, ◌∙◌, Bool, true, false, true≢false, false≢true, not}
-use Rattle.model.specs.Prelude.{Option, None, Some, List, [], append-nil, inl, inr, length, drop}
+use Rattle.model.specs.Prelude.{Option, None, Some, Err, List, [], append-nil, inl, inr, length, drop}
 use Rattle.model.specs.Prelude.{length-drop}
 use Rattle.model.specs.declared.Refusal.TheVariants.{LogOutOfOrder}
-use Rattle.model.specs.{declared.{InvalidUse.InvalidUse, PendingTransition.PendingTransition, Refusal.Refusal}}
+use Rattle.model.specs.declared.CallError.TheVariants.{Refused}
+use Rattle.model.specs.declared.{InvalidUse.InvalidUse, LogHead.LogHead, PendingTransition.PendingTransition, Refusal.Refusal}
 use Rattle.model.specs.{BoolLaws.and_both, Refusals.{Check, check, first_failing, accepted}, Calls.{Answer, done}}
 use Rattle.model.specs.Log.{Log, Logged, head_check, free_check, unless_logged, is_refused, outcome_of}
 use Rattle.texture_barrier.specs.Entries.{entries_of, entries_drop}
+use Rattle.log_head.specs.Log.{log_of}
 use Rattle.log_merge.specs.{declared.Rest.Rest, Merge.{merge_of, rest_of, first_count, second_count}}
 use Rattle.log_merge.specs.{Claims.one_used_up, Rest.in_order_lem}
 use Rattle.log_merge.proofs.ClosedForm.{left_is, first_few, second_few}
-use Rattle.log_merge.specs.Calls.{in_order, merge_checks, end_of, rest_from, merging_logs, which_of, begins_at}
+use Rattle.log_merge.specs.Calls.{in_order, merge_checks, end_of, rest_from, merging_logs, MergesLogs, which_of, begins_at}
 
 -- ---- It is the definition's
 not_refused : (f : Option Refusal) (third : Log) (was : Rest) (o : Logged Rest) → (unless_logged f third was o).answer ≡ done → f ≡ None
@@ -66,3 +68,15 @@ rest_is a b third e =
     go (c ∷ s) [] x y u = x ∙ sym (append-nil (c ∷ s))
     go (c ∷ s) (d ∷ t) x y (inl z) = absurd (let n : suc (length s) ≡ 0 = ap length z in omega arith)
     go (c ∷ s) (d ∷ t) x y (inr z) = absurd (let n : suc (length t) ≡ 0 = ap length z in omega arith)
+
+-- ---- Turned away
+pub refused_rest : {a b l : List ℕ} {h h' : LogHead} {y : Rest} {l' : List ℕ} {r : Refusal}
+    → MergesLogs a b h l (record { outcome = Err (Refused r); head = h' }) y l' → y ≡ end_of b
+unfolding merging_logs
+refused_rest {a} {b} {l} {h} {r = r} w = w.rest ∙ go (first_failing (merge_checks a b (log_of l h))) _ refl w.log.answer
+  where
+    go : (f : Option Refusal) (o : Logged Rest) → o.answer ≡ done
+        → Err (Refused r) ≡ outcome_of (unless_logged f (log_of l h) (end_of b) o).answer
+        → (unless_logged f (log_of l h) (end_of b) o).after ≡ end_of b
+    go None o d e = absurd (true≢false (ap is_refused (rw d at e)))
+    go (Some s) o d e = refl
