@@ -6,7 +6,7 @@ use Rattle.model.specs.{declared.{Range.Range, Selector.Selector, InvalidUse.Inv
 use Rattle.model.specs.{Sets.Numbers, Representation.{mip_start, mip_end, layer_start, layer_end}, RangedStates.Tiles}
 use Rattle.std.specs.Prelude.{◌+◌, ◌≤◌, ◌<◌, ◌≡◌}
 use Rattle.range_states.specs.View.{decode}
-use Rattle.texture_mips.specs.{declared.uniting.Merged.Merged, Merge.{Walked, conflict_of}}
+use Rattle.texture_mips.specs.{declared.uniting.Merged.Merged, Paint.Leaves, Merge.{Walked, conflict_of}}
 use Rattle.set_storage.specs.{declared.Located.Located, Locate.LocatedAt, Stored.lent_part}
 use Rattle.set_storage.specs.Storage.{numbers_of, mips_in, mip_of, mips_of, layers_at, count_at}
 use Rattle.set_storage.specs.Frames.{Measured, MipsBecome, MipReady, mips_long, mips_top}
@@ -140,6 +140,14 @@ module _ {q : Selector} {h i : ℕ} {t₀ r₀ : List ℕ} (p : ManyReady (numbe
         → MipsBecome (numbers_of t) h i (set (mips_of (numbers_of t) h t r i) m (g (mip_of (numbers_of t) h t r i m))) t r t' r'
         → SelectorLap q (λ k x. fine (g x)) h i t₀ r₀ (m + 1) t' r'
     edit_turn b k = selector_turn w b (record { conflict = refl; into = k }) refl
+
+    -- what is left in the part that was lent is the mip, once the count is written
+    pub edit_lap : {x : Located} {n : ℕ} {l : List ℕ} → m < mip_end q → LocatedAt t h i m (length r) x
+        → Leaves (lent_part x r) n (g (decode x.len (lent_part x r))) l
+        → SelectorLap q (λ k x. fine (g x)) h i t₀ r₀ (m + 1) (set t (count_at h i m) n) (put_back x r l)
+    edit_lap {x} {n} {l} b k u =
+        let y = (selector_piece w b).tiled in
+        edit_turn b (mip_left y.ready k n l (g (mip_of (numbers_of t) h t r i m)) u.long u.fits (rw (lent_is y k) at u.seen))
 
     pub edit_end : mip_end q ≤ m → MipsBecome (numbers_of t₀) h i (on_mips q g 0 (mips_of (numbers_of t₀) h t₀ r₀ i)) t₀ r₀ t r
     edit_end b =
