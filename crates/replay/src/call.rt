@@ -2,7 +2,7 @@
 use crate::Replay;
 use model::{CallError, LogHead, Refusal};
 use replay_lines::sets::{Half, Kind, LentLog, Rooms, SetId};
-use replay_lines::words::Words;
+use replay_lines::words::Kept;
 use replay_lines::{tell, words};
 use std::alloc::AllocError;
 use std::io;
@@ -10,7 +10,7 @@ use std::io::Write;
 
 impl Replay {
     // The call of this name, which takes the rest of the line.
-    pub fn call(&mut self, name: u32, mut words: Words) -> io::Result<()> {
+    pub fn call(&mut self, name: u32, mut words: Kept<'_>) -> io::Result<()> {
         match name {
             words::OPEN_SCOPE => self.open_scope(&mut words)?,
             words::OPEN_TRACKER => self.open_tracker(&mut words)?,
@@ -28,7 +28,7 @@ impl Replay {
     }
 
     // open_scope SET N M W FLAGS ROOM
-    fn open_scope(&mut self, words: &mut Words) -> io::Result<()> {
+    fn open_scope(&mut self, words: &mut Kept<'_>) -> io::Result<()> {
         let id = words.set();
         let n = words.number();
         let m = words.number();
@@ -47,7 +47,7 @@ impl Replay {
     }
 
     // open_tracker SET N M W FLAGS MASK ROOM ROOM
-    fn open_tracker(&mut self, words: &mut Words) -> io::Result<()> {
+    fn open_tracker(&mut self, words: &mut Kept<'_>) -> io::Result<()> {
         let id = words.set();
         let n = words.number();
         let m = words.number();
@@ -71,7 +71,7 @@ impl Replay {
     }
 
     // merge_single SCOPE TEXTURE STATE [SELECTOR]
-    fn merge_single(&mut self, words: &mut Words) -> io::Result<()> {
+    fn merge_single(&mut self, words: &mut Kept<'_>) -> io::Result<()> {
         let id = words.set();
         let index = words.index();
         let extent = words.extent();
@@ -91,7 +91,7 @@ impl Replay {
     }
 
     // merge_usage_scope TO FROM
-    fn merge_usage_scope(&mut self, words: &mut Words) -> io::Result<()> {
+    fn merge_usage_scope(&mut self, words: &mut Kept<'_>) -> io::Result<()> {
         let id = words.set();
         let from = words.set();
         let set = &mut self.lent;
@@ -108,7 +108,7 @@ impl Replay {
     }
 
     // A line of another name, or of none, is a merge of another set, of which no ranges are lent.
-    fn merge_unnamed(&mut self, words: &mut Words) -> io::Result<()> {
+    fn merge_unnamed(&mut self, words: &mut Kept<'_>) -> io::Result<()> {
         let id = words.set();
         let set = &mut self.lent;
         self.sets.get(id).lend(set)?;
@@ -158,7 +158,7 @@ impl Replay {
     }
 
     // set_single TRACKER TEXTURE STATE [SELECTOR]
-    fn set_single(&mut self, words: &mut Words) -> io::Result<()> {
+    fn set_single(&mut self, words: &mut Kept<'_>) -> io::Result<()> {
         let id = words.set();
         let index = words.index();
         let extent = words.extent();
@@ -181,7 +181,7 @@ impl Replay {
     }
 
     // set_from_usage_scope TRACKER SCOPE
-    fn set_from_usage_scope(&mut self, words: &mut Words) -> io::Result<()> {
+    fn set_from_usage_scope(&mut self, words: &mut Kept<'_>) -> io::Result<()> {
         let id = words.set();
         let from = words.set();
         let head = self.lend_tracker(id)?;
@@ -200,7 +200,7 @@ impl Replay {
     }
 
     // set_from_tracker TO FROM
-    fn set_from_tracker(&mut self, words: &mut Words) -> io::Result<()> {
+    fn set_from_tracker(&mut self, words: &mut Kept<'_>) -> io::Result<()> {
         let id = words.set();
         let from = words.set();
         let head = self.lend_tracker(id)?;
@@ -244,10 +244,10 @@ impl Replay {
     }
 
     // set_and_remove_from_usage_scope_sparse TRACKER SCOPE INDEX*. The scope changes too.
-    fn set_and_remove(&mut self, mut words: Words) -> io::Result<()> {
+    fn set_and_remove(&mut self, mut words: Kept<'_>) -> io::Result<()> {
         let id = words.set();
         let from = words.set();
-        let indices = words.all_numbers();
+        let indices = words.all_kept();
         let head = self.lend_tracker(id)?;
         self.sets.get(from).lend(&mut self.given)?;
         let set = &mut self.lent;
@@ -286,7 +286,7 @@ impl Replay {
     }
 
     // empty_log WRITTEN FREE LENT
-    fn empty_log(&mut self, words: &mut Words) -> io::Result<()> {
+    fn empty_log(&mut self, words: &mut Kept<'_>) -> io::Result<()> {
         let head = words.head();
         self.log.lend(head, words.size())?;
         match track::empty_log(&self.log.numbers, head) {

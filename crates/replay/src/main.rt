@@ -14,7 +14,7 @@ ghost use Rattle.std.specs.Prelude.{◌≤◌, length, IfOk};
 use replay_lines::logs::Log;
 use replay_lines::sets::{Set, Sets};
 use replay_lines::tell::Out;
-use replay_lines::words::{Line, Words};
+use replay_lines::words::{Kept, Line};
 use replay_lines::{changes, logs, plans, ranged, words};
 use std::alloc::Global;
 use std::io;
@@ -110,7 +110,7 @@ impl Replay {
 
     // A line that answers nothing, or one that is answered, unless something ended the answers.
     #[inline(always)]
-    fn make(&mut self, mut words: Words) {
+    fn make(&mut self, mut words: Kept<'_>) {
         if self.answered.is_err() {
             return;
         }
@@ -128,7 +128,7 @@ impl Replay {
     }
 
     // The begin of a case, a call on ranged states, a merge of logs, a call on plan files, or a call on sets.
-    fn answer(&mut self, name: u32, mut words: Words) -> io::Result<()> {
+    fn answer(&mut self, name: u32, mut words: Kept<'_>) -> io::Result<()> {
         let alloc = self.alloc;
         match name {
             words::CASE => {

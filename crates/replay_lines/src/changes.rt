@@ -1,13 +1,13 @@
 // The lines that answer nothing: a texture put into a set, a number poked, the room and the log that are lent.
-ghost use Rattle.std.specs.Prelude.{◌<◌, ◌≤◌, ◌+◌, length, IsSome};
+ghost use Rattle.std.specs.Prelude.{◌<◌, ◌≤◌, ◌+◌, IsSome};
 
 use crate::sets::{Half, Kind, LentLog, Place, SetId, Sets};
 use crate::words;
-use crate::words::Words;
+use crate::words::{Source, Words};
 use set_storage::{COMPLEX, LAYERS, MIPS, OWNED};
 
 // put SET INDEX MIPS LAYERS HALF [HALF]
-pub fn put(words: &mut Words, sets: &mut Sets) {
+pub fn put<S: Source>(words: &mut Words<'_, S>, sets: &mut Sets) {
     let id = words.set();
     let set = sets.get_mut(id);
     let index = words.size().min(63);
@@ -23,10 +23,17 @@ pub fn put(words: &mut Words, sets: &mut Sets) {
 }
 
 // HALF = single STATE | many MIP*
-fn put_half(words: &mut Words, sets: &mut Sets, id: SetId, half: Half, index: usize, mips: usize)
+fn put_half<S: Source>(
+    words: &mut Words<'_, S>,
+    sets: &mut Sets,
+    id: SetId,
+    half: Half,
+    index: usize,
+    mips: usize,
+)
     requires index_bound { index < 64 }
     requires mips_bound { mips ≤ 16 }
-    ensures { length words.old.rest.now ≤ length words.new.rest.now + 12305 }
+    ensures { S.left words.old.rest ≤ S.left words.new.rest + 12305 }
 {
     let state_at = half.states() + index;
     let table = &mut sets.get_mut(id).table;
@@ -41,8 +48,14 @@ fn put_half(words: &mut Words, sets: &mut Sets, id: SetId, half: Half, index: us
 }
 
 // MIP = COUNT RECORD*. What has no room goes on after the half, as the store does.
-fn put_mip(words: &mut Words, sets: &mut Sets, id: SetId, half: Half, place: Place)
-    ensures { length words.old.rest.now ≤ length words.new.rest.now + 769 }
+fn put_mip<S: Source>(
+    words: &mut Words<'_, S>,
+    sets: &mut Sets,
+    id: SetId,
+    half: Half,
+    place: Place,
+)
+    ensures { S.left words.old.rest ≤ S.left words.new.rest + 769 }
 {
     let count = words.number();
     let table = &mut sets.get_mut(id).table;
@@ -55,7 +68,7 @@ fn put_mip(words: &mut Words, sets: &mut Sets, id: SetId, half: Half, place: Pla
 
 // poke SET PART OFFSET VALUE
 #[inline(always)]
-pub fn poke(words: &mut Words, sets: &mut Sets) {
+pub fn poke<S: Source>(words: &mut Words<'_, S>, sets: &mut Sets) {
     let id = words.set();
     let from = part_at(id, words.number());
     let place = from + words.size().min(786432);
@@ -75,14 +88,14 @@ fn part_at(id: SetId, part: u32) -> usize
 
 // room SET ROOM [ROOM]
 #[inline(always)]
-pub fn room(words: &mut Words, sets: &mut Sets) {
+pub fn room<S: Source>(words: &mut Words<'_, S>, sets: &mut Sets) {
     let set = sets.get_mut(words.set());
     set.rooms = words.rooms();
 }
 
 // log WRITTEN FREE LENT
 #[inline(always)]
-pub fn log(words: &mut Words, sets: &mut Sets)
+pub fn log<S: Source>(words: &mut Words<'_, S>, sets: &mut Sets)
     ensures { IsSome sets.new.log }
 {
     sets.log = Some(LentLog {

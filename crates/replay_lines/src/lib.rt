@@ -3,7 +3,7 @@
 // Place in the picture: under the program `replay`, which adds the public calls; a crate of its own, so that it is proved while the calls
 // are. Lines, answers and storage: oracle/README.md.
 //
-//     words     the bytes of a line, one by one, to its words, and these read in turn
+//     words     the bytes of a line, one by one, to its words, and these read in turn, or those of a text
 //     sets      the four sets between calls, and what of them is lent to a call
 //     changes   the lines that answer nothing: put, poke, room, log
 //     tell      answers
@@ -20,4 +20,6 @@ pub mod plans;
 pub mod ranged;
 pub mod sets;
 pub mod tell;
+#[cfg(test)]
+mod tests;
 pub mod words;

@@ -2,8 +2,8 @@
 ghost use Rattle.std.specs.Prelude.{◌≡◌, min, OnOk, vec_len};
 
 use crate::tell;
-use crate::tell::{Out, run};
-use crate::words::Words;
+use crate::tell::{Answers, run};
+use crate::words::Kept;
 use log_merge::{Rest, merge_at, rest_of};
 use model::LogHead;
 use std::alloc::{AllocError, Global};
@@ -16,6 +16,11 @@ const ROOM: usize = 28672;
 // What number i of a lent log is before a call: so the entries that stand there already descend.
 fn before(i: usize) -> u32 {
     90000usize.saturating_sub(i) as u32
+}
+
+// Whether the numbers are what they were.
+pub fn are_kept(numbers: &[u32]) -> bool {
+    numbers.iter().enumerate().all(|(i, n)| *n == before(i))
 }
 
 // A log as a call is lent it, with its head before the call.
@@ -51,20 +56,17 @@ impl Log {
 
     // Whether the log is what it was; a call that is refused tells no other head.
     pub fn is_kept(&self) -> bool {
-        self.numbers
-            .iter()
-            .enumerate()
-            .all(|(i, n)| *n == before(i))
+        are_kept(&self.numbers)
     }
 }
 
 // merge_logs WRITTEN FREE LENT N M NUMBER*
-pub fn merge_logs(mut words: Words, out: &mut Out, third: &mut Log) -> io::Result<()> {
+pub fn merge_logs<W: Answers>(mut words: Kept<'_>, out: &mut W, third: &mut Log) -> io::Result<()> {
     let head = words.head();
     third.lend(head, words.size())?;
     let n = words.size();
     let m = words.size();
-    let both = words.all_numbers();
+    let both = words.all_kept();
     let (first, after) = both.split_at(n.min(both.len()));
     let second = &after[..m.min(after.len())];
     match merge_at(first, second, &mut third.numbers, head) {
@@ -82,7 +84,7 @@ pub fn merge_logs(mut words: Words, out: &mut Out, third: &mut Log) -> io::Resul
 }
 
 // Which log the rest is of, from which of its numbers on, and its numbers.
-fn rest(out: &mut Out, first: &[u32], second: &[u32], rest: Rest) -> io::Result<()> {
+fn rest<W: Answers>(out: &mut W, first: &[u32], second: &[u32], rest: Rest) -> io::Result<()> {
     let (log, from) = match rest {
         Rest::First(from) => ("first", from),
         Rest::Second(from) => ("second", from),

@@ -1,8 +1,8 @@
 // Plan files: read, written, and the uses of a list told, as the line says.
 use crate::logs::Log;
 use crate::tell;
-use crate::tell::{Out, run};
-use crate::words::Words;
+use crate::tell::{Answers, run};
+use crate::words::{Source, Words};
 use model::Refusal;
 use std::alloc::{AllocError, Global};
 use std::io;
@@ -27,13 +27,17 @@ fn is_kept(memory: &[u8]) -> bool {
 }
 
 // N BYTE*
-fn given(words: &mut Words, alloc: Global) -> Result<Vec<u8>, AllocError> {
+fn given<S: Source>(words: &mut Words<'_, S>, alloc: Global) -> Result<Vec<u8>, AllocError> {
     let n = words.size();
     words.bytes(n.min(ROOM), alloc)
 }
 
 // read_plan LENT N BYTE*
-pub fn read_plan(words: &mut Words, out: &mut Out, alloc: Global) -> io::Result<()> {
+pub fn read_plan<S: Source, W: Answers>(
+    words: &mut Words<'_, S>,
+    out: &mut W,
+    alloc: Global,
+) -> io::Result<()> {
     let mut items = lend(words.size(), alloc)?;
     let file = given(words, alloc)?;
     let answer = plan_file::read(&file, &mut items);
@@ -41,7 +45,11 @@ pub fn read_plan(words: &mut Words, out: &mut Out, alloc: Global) -> io::Result<
 }
 
 // write_plan LENT N BYTE*
-pub fn write_plan(words: &mut Words, out: &mut Out, alloc: Global) -> io::Result<()> {
+pub fn write_plan<S: Source, W: Answers>(
+    words: &mut Words<'_, S>,
+    out: &mut W,
+    alloc: Global,
+) -> io::Result<()> {
     let mut file = lend(words.size(), alloc)?;
     let items = given(words, alloc)?;
     let answer = plan_file::write(&items, &mut file);
@@ -49,8 +57,8 @@ pub fn write_plan(words: &mut Words, out: &mut Out, alloc: Global) -> io::Result
 }
 
 // The refusal, or the word, how many were written, and all bytes that were borrowed.
-fn tell_bytes(
-    out: &mut Out,
+fn tell_bytes<W: Answers>(
+    out: &mut W,
     word: &str,
     answer: Result<usize, Refusal>,
     bytes: &[u8],
@@ -68,9 +76,9 @@ fn tell_bytes(
 }
 
 // plan_uses LENT N BYTE*. The list is lent as a log is.
-pub fn plan_uses(
-    words: &mut Words,
-    out: &mut Out,
+pub fn plan_uses<S: Source, W: Answers>(
+    words: &mut Words<'_, S>,
+    out: &mut W,
     list: &mut Log,
     alloc: Global,
 ) -> io::Result<()> {

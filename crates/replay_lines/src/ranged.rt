@@ -2,8 +2,8 @@
 ghost use Rattle.std.specs.Prelude.{◌≤◌};
 
 use crate::tell;
-use crate::tell::{Out, run};
-use crate::words::Words;
+use crate::tell::{Answers, run};
+use crate::words::{Source, Words};
 use std::alloc::{AllocError, Global};
 use std::io;
 use std::io::Write;
@@ -12,15 +12,15 @@ use std::io::Write;
 const MOST: usize = 341;
 
 // LENT.
-fn lent(words: &mut Words) -> usize
+fn lent<S: Source>(words: &mut Words<'_, S>) -> usize
     ensures { result ≤ 341 }
 {
     words.size().min(MOST)
 }
 
 // As many records as are lent: those in use as the line has them, then such as tell their places.
-fn records(
-    words: &mut Words,
+fn records<S: Source>(
+    words: &mut Words<'_, S>,
     lent: usize,
     in_use: usize,
     alloc: Global,
@@ -39,7 +39,11 @@ fn records(
 // isolate START END DEFAULT LENGTH LENT RECORD*
 //
 // Here as below, what is refused is kept: the contracts of `range_calls`.
-pub fn isolate(words: &mut Words, out: &mut Out, alloc: Global) -> io::Result<()> {
+pub fn isolate<S: Source, W: Answers>(
+    words: &mut Words<'_, S>,
+    out: &mut W,
+    alloc: Global,
+) -> io::Result<()> {
     let start = words.number();
     let end = words.number();
     let default = words.number();
@@ -56,7 +60,11 @@ pub fn isolate(words: &mut Words, out: &mut Out, alloc: Global) -> io::Result<()
 }
 
 // coalesce LENGTH LENT RECORD*
-pub fn coalesce(words: &mut Words, out: &mut Out, alloc: Global) -> io::Result<()> {
+pub fn coalesce<S: Source, W: Answers>(
+    words: &mut Words<'_, S>,
+    out: &mut W,
+    alloc: Global,
+) -> io::Result<()> {
     let in_use = words.size();
     let lent = lent(words);
     let mut s = records(words, lent, in_use, alloc)?;
@@ -70,7 +78,11 @@ pub fn coalesce(words: &mut Words, out: &mut Out, alloc: Global) -> io::Result<(
 }
 
 // iter_filter START END LENGTH LENT LENTOUT RECORD*
-pub fn iter_filter(words: &mut Words, out: &mut Out, alloc: Global) -> io::Result<()> {
+pub fn iter_filter<S: Source, W: Answers>(
+    words: &mut Words<'_, S>,
+    out: &mut W,
+    alloc: Global,
+) -> io::Result<()> {
     let start = words.number();
     let end = words.number();
     let in_use = words.size();

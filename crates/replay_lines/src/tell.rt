@@ -5,8 +5,9 @@ use crate::sets::{Half, Kind, Place, SetId, Sets};
 use model::{Conflict, LogHead, Refusal};
 use set_storage::{COMPLEX, LAYERS, MIPS, OWNED, TEXTURES};
 use std::alloc::{AllocError, Global};
-use std::io;
-use std::io::{StdoutLock, Write};
+use std::fmt::Display;
+use std::io::{BufWriter, StdoutLock, Write};
+use std::{fmt, io};
 
 // How many bytes go out at once, and room for as many and a number after them.
 const ROOM: usize = 65536;
@@ -33,21 +34,13 @@ impl Out {
 
     // Numbers, each after a space.
     pub fn numbers(&mut self, numbers: &[u32]) -> io::Result<()> {
-        for n in numbers {
-            self.number(*n)?;
-        }
-        Ok(())
+        Answers::numbers(self, numbers)
     }
 
     // A number after a space.
     #[inline(always)]
     pub fn number(&mut self, n: u32) -> io::Result<()> {
-        let used = put(&mut self.bytes, self.used, n);
-        if used < ROOM {
-            self.used = used;
-            return Ok(());
-        }
-        self.send(used)
+        Answers::number(self, n)
     }
 
     // Of the bytes that wait those that go out at once; the others come to the front.
@@ -132,13 +125,62 @@ impl Write for Out {
     }
 }
 
+// Numbers, each after a space, for whatever takes text; `Out` takes them faster by itself.
+#[derive(Drop)]
+pub struct Numbers<'a, T>(pub &'a [T]);
+
+impl<T: Display + Drop> Display for Numbers<'_, T> {
+    fn fmt<W: fmt::Write>(&self, f: &mut fmt::Formatter<W>) -> fmt::Result {
+        for n in self.0 {
+            write!(f, " {n}")?;
+        }
+        Ok(())
+    }
+}
+
+// What answers are told to. It takes text, and numbers, each after a space.
+pub trait Answers: Write {
+    fn number(&mut self, n: u32) -> io::Result<()>;
+
+    fn numbers(&mut self, numbers: &[u32]) -> io::Result<()>;
+}
+
+impl Answers for Out {
+    #[inline(always)]
+    fn number(&mut self, n: u32) -> io::Result<()> {
+        let used = put(&mut self.bytes, self.used, n);
+        if used < ROOM {
+            self.used = used;
+            return Ok(());
+        }
+        self.send(used)
+    }
+
+    fn numbers(&mut self, numbers: &[u32]) -> io::Result<()> {
+        for n in numbers {
+            Answers::number(self, *n)?;
+        }
+        Ok(())
+    }
+}
+
+impl Answers for BufWriter<StdoutLock<'static>> {
+    fn number(&mut self, n: u32) -> io::Result<()> {
+        write!(self, " {n}")
+    }
+
+    fn numbers(&mut self, numbers: &[u32]) -> io::Result<()> {
+        write!(self, "{}", Numbers(numbers))
+    }
+}
+
 // All numbers of a run, and the end of the line.
-pub fn run(out: &mut Out, numbers: &[u32]) -> io::Result<()> {
+pub fn run<W: Answers>(out: &mut W, numbers: &[u32]) -> io::Result<()> {
     out.numbers(numbers)?;
     writeln!(out)
 }
 
-pub fn refused(out: &mut Out, r: Refusal, kept: bool) -> io::Result<()> {
+pub fn refused<W: Write>(out: &mut W, r: Refusal, kept: bool) -> io::Result<()> {
     let number = r.number();
     let place = r.place();
     let then = if kept { "kept" } else { "changed" };
@@ -146,11 +188,11 @@ pub fn refused(out: &mut Out, r: Refusal, kept: bool) -> io::Result<()> {
 }
 
 // `word` and a head.
-pub fn head(out: &mut Out, word: &str, head: LogHead) -> io::Result<()> {
+pub fn head<W: Write>(out: &mut W, word: &str, head: LogHead) -> io::Result<()> {
     writeln!(out, "{word} {} {}", head.written, head.free)
 }
 
-pub fn conflict(out: &mut Out, c: Conflict) -> io::Result<()> {
+pub fn conflict<W: Write>(out: &mut W, c: Conflict) -> io::Result<()> {
     let index = c.index.0;
     let found = c.found;
     let mips = found.selector.mips;
@@ -163,7 +205,12 @@ pub fn conflict(out: &mut Out, c: Conflict) -> io::Result<()> {
 }
 
 // The entries that a call wrote to a log.
-pub fn transitions(out: &mut Out, log: &[u32], before: LogHead, after: LogHead) -> io::Result<()> {
+pub fn transitions<W: Answers>(
+    out: &mut W,
+    log: &[u32],
+    before: LogHead,
+    after: LogHead,
+) -> io::Result<()> {
     let count = after.written.saturating_sub(before.written);
     for entry in log.chunks(7).skip(before.written).take(count) {
         write!(out, "transition")?;
@@ -173,7 +220,7 @@ pub fn transitions(out: &mut Out, log: &[u32], before: LogHead, after: LogHead) 
 }
 
 // Every opened set.
-pub fn all(out: &mut Out, sets: &Sets) -> io::Result<()> {
+pub fn all<W: Answers>(out: &mut W, sets: &Sets) -> io::Result<()> {
     for number in 0..4 {
         let id = SetId { number };
         if let Some(kind) = sets.get(id).kind {
@@ -185,7 +232,7 @@ pub fn all(out: &mut Out, sets: &Sets) -> io::Result<()> {
 }
 
 // What the set owns.
-fn textures(out: &mut Out, sets: &Sets, id: SetId, kind: Kind) -> io::Result<()> {
+fn textures<W: Answers>(out: &mut W, sets: &Sets, id: SetId, kind: Kind) -> io::Result<()> {
     let table = &sets.get(id).table;
     for index in 0..table[TEXTURES].min(64) as usize {
         if table[OWNED + index] != 0 {
@@ -206,7 +253,7 @@ fn textures(out: &mut Out, sets: &Sets, id: SetId, kind: Kind) -> io::Result<()>
 }
 
 // single STATE | many MIP*
-fn half(out: &mut Out, sets: &Sets, id: SetId, half: Half, index: usize) -> io::Result<()>
+fn half<W: Answers>(out: &mut W, sets: &Sets, id: SetId, half: Half, index: usize) -> io::Result<()>
     requires { index < 64 }
 {
     let table = &sets.get(id).table;
@@ -222,7 +269,13 @@ fn half(out: &mut Out, sets: &Sets, id: SetId, half: Half, index: usize) -> io::
 }
 
 // MIP = COUNT RECORD*. What a half has no room for is told as it stands in the store after it.
-fn mip_ranges(out: &mut Out, sets: &Sets, id: SetId, half: Half, place: Place) -> io::Result<()> {
+fn mip_ranges<W: Answers>(
+    out: &mut W,
+    sets: &Sets,
+    id: SetId,
+    half: Half,
+    place: Place,
+) -> io::Result<()> {
     let table = &sets.get(id).table;
     let count = table[place.count_at(half)].min(256) as usize;
     let first = place.ranges_at(table);

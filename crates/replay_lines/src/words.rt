@@ -1,11 +1,13 @@
 // A line as its bytes come in, and its words, read in turn. What a line lacks reads as 0.
 //
 // Each word is kept as a number: a number as itself, any other by its first byte and its length, which tells the words of a line apart.
-ghost use Rattle.std.specs.Prelude.{◌≡◌, ◌+◌, ◌≤◌, length, IfOk, vec_len};
+ghost use Rattle.std.specs.Prelude.{ℕ, ◌≡◌, ◌+◌, ◌≤◌, length, IfOk, vec_len};
 
 use crate::sets::{Rooms, SetId};
 use model::{Extent, LogHead, Selector, TrackerIndex, UsageFlags};
 use std::alloc::{AllocError, Global};
+use std::marker::PhantomData;
+use std::str::SplitWhitespace;
 
 // The words of the language: 256 f + n, where f is the first byte and n the length.
 pub const CASE: u32 = 25348;
@@ -125,32 +127,102 @@ impl Line {
 
     // The words that are stored.
     #[inline(always)]
-    pub fn words(self, words: &[u32]) -> Words<'_> {
+    pub fn words(self, words: &[u32]) -> Kept<'_> {
         Words {
             rest: words.get(..self.count).unwrap_or(words),
+            line: PhantomData,
         }
     }
 }
 
-#[derive(Drop)]
-pub struct Words<'a> {
-    rest: &'a [u32],
+// What words are read from.
+pub trait Source {
+    // how many are left, as far as that is counted: a text's are not, and its is 0
+    ghost left: { Self → ℕ };
+
+    // The next word as a number, if there is one.
+    fn next_number(&mut self) -> Option<u32>
+        ensures { left self.old ≤ left self.new + 1 };
 }
 
+// Words as they are kept.
+impl Source for &[u32] {
+    ghost left = { λ s. length s.now };
+
+    #[inline(always)]
+    fn next_number(&mut self) -> Option<u32> {
+        let (first, rest) = self.split_first()?;
+        *self = rest;
+        Some(*first)
+    }
+}
+
+// A text. Each of its words is the number as which it would be kept.
+impl Source for SplitWhitespace<'_> {
+    ghost left = { λ _. 0 };
+
+    fn next_number(&mut self) -> Option<u32> {
+        let word = self.next()?;
+        Some(value(word))
+    }
+}
+
+// The number as which a word would be kept.
+fn value(word: &str) -> u32 {
+    word.bytes()
+        .fold(Line::NEW, |line, b| line.take(b, &mut []))
+        .value
+}
+
+// The words of a line, read in turn: those of a text, where no source is named. `line` says that they are borrowed; a source need not.
+#[derive(Drop)]
+pub struct Words<'a, S = SplitWhitespace<'a>> {
+    rest: S,
+    line: PhantomData<&'a ()>,
+}
+
+// The words of a line as `Line` keeps them.
+pub type Kept<'a> = Words<'a, &'a [u32]>;
+
 impl<'a> Words<'a> {
+    // The words of a text.
+    pub fn new(line: &'a str) -> Words<'a> {
+        Words {
+            rest: line.split_whitespace(),
+            line: PhantomData,
+        }
+    }
+
+    // The next word, empty at the end of the line.
+    pub fn word(&mut self) -> &'a str {
+        self.rest.next().unwrap_or("")
+    }
+
+    // All numbers that follow.
+    pub fn all_numbers(self, alloc: Global) -> Result<Vec<u32>, AllocError> {
+        self.rest.map(value).collect(alloc)
+    }
+}
+
+impl<'a> Words<'a, &'a [u32]> {
+    // All numbers that follow.
+    pub fn all_kept(self) -> &'a [u32] {
+        self.rest
+    }
+}
+
+impl<'a, S: Source> Words<'a, S> {
     // The next number, if there is one.
     #[inline(always)]
     fn next_number(&mut self) -> Option<u32>
-        ensures { length self.old.rest.now ≤ length self.new.rest.now + 1 }
+        ensures { S.left self.old.rest ≤ S.left self.new.rest + 1 }
     {
-        let (first, rest) = self.rest.split_first()?;
-        self.rest = rest;
-        Some(*first)
+        self.rest.next_number()
     }
 
     #[inline(always)]
     pub fn number(&mut self) -> u32
-        ensures { length self.old.rest.now ≤ length self.new.rest.now + 1 }
+        ensures { S.left self.old.rest ≤ S.left self.new.rest + 1 }
     {
         self.next_number().unwrap_or(0)
     }
@@ -173,11 +245,6 @@ impl<'a> Words<'a> {
         ensures { IfOk result (λ v. vec_len v ≡ n) }
     {
         (0..n).map(|_| (self.number() & 0xff) as u8).collect(alloc)
-    }
-
-    // All numbers that follow.
-    pub fn all_numbers(self) -> &'a [u32] {
-        self.rest
     }
 
     // SET.
